@@ -1,0 +1,41 @@
+-- `document::row_len` meets its contract: two lengths and two pipes.
+-- Assumes nothing.
+use native.Mathlib.Omega.{arith}
+use mathlib.Core.Path.{ap}
+use lib.ListN.{length}
+use denote.Ref.{now}
+use Rattle.document.proofs.RowLaws.{row-long}
+use borrow.Author.Needs.{needs}
+use Rattle.document.proofs.writer.row_len.Statement.{statement}
+use Rattle.document.proofs.writer.row_len.Tie as tie
+use Rattle.document.proofs.writer.row_len.Reads as reads
+use Rattle.document.proofs.writer.row_len.Lts as lts
+use Rattle.document.proofs.writer.shown.Reads as shown-reads
+use Rattle.output.proofs.sat_add.Reads as sat-add-reads
+
+-- src/writer.rt:82:13
+shown-requires : tie.Need-shown-requires
+shown-requires c κs = search needs
+
+-- src/writer.rt:83:13
+shown-requires-2 : tie.Need-shown-requires-2
+shown-requires-2 c κs = search needs
+
+-- src/writer.rt:84:13
+sat-add-requires : tie.Need-sat-add-requires
+sat-add-requires c κs = search needs
+
+-- src/writer.rt:84:5
+sat-add-requires-2 : tie.Need-sat-add-requires-2
+sat-add-requires-2 c κs = search needs
+
+-- src/writer.rt:79:1
+returns : tie.Need-returns
+returns c =
+    let a = c .before .before .before .before .before .args in
+    omega (arith, row-long (now (a .text)) (a .row), ap length (c .before .before .before .shown .ensures), ap length (c .before .before .shown2 .ensures), c .before .sat-add .ensures, c .sat-add2 .ensures)
+
+pub row-len-spec : {M : Type 1} → statement M
+row-len-spec =
+    tie.close
+    (tie.spec shown-requires shown-requires-2 sat-add-requires sat-add-requires-2 returns)

@@ -1,0 +1,15 @@
+// LIN as its `command|value|` tokens: a cursor over a text, and a document written from spans. (01: Tokens; upstream's document.rs)
+mod tokens;
+mod writer;
+
+pub use tokens::Cursor;
+pub use tokens::Opened;
+pub use tokens::Part;
+pub use tokens::Position;
+pub use tokens::Step;
+pub use tokens::Token;
+pub use tokens::command;
+pub use tokens::open;
+pub use tokens::trailing;
+pub use tokens::value;
+pub use writer::write_document;

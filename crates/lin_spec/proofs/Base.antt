@@ -1,0 +1,103 @@
+-- Laws of the small tools that the definitions share: tests that are joined, a choice, a test of all small numbers by computation, lists
+-- that are the same, a list that begins with another.
+-- Assumes nothing.
+use Prim.Native.Nat.{ℕ, zero, suc, _<_, _≤_}
+use native.Mathlib.Nat.{not-suc-le-zero}
+use native.Mathlib.Omega.{arith}
+use mathlib.Core.Path.{_≡_, refl, ap, sym, _∙_}
+use mathlib.Core.Bool.{Bool, true, false, _&&_, _||_, false≢true, and-false}
+use mathlib.Core.List.{List, [], _∷_, _++_}
+use lib.ListN.{length, drop, length-append}
+use lib.Dec.{eqb, ltb}
+use borrow.Author.Tests.{eq-eqb, eqb-true, eqb-false, ltb-true, ltb-false}
+use Rattle.lin_spec.specs.Base.{pick, eqList, starts}
+
+-- of two tests that both hold, the first does
+pub and-left : (a b : Bool) → (a && b) ≡ true → a ≡ true
+and-left true b h = refl
+and-left false b h = h
+
+-- of two tests that both hold, the second does
+pub and-right : (a b : Bool) → (a && b) ≡ true → b ≡ true
+and-right true b h = h
+and-right false b h = absurd (false≢true h)
+
+-- of two tests neither of which holds, each does not
+pub or-none : (t u : Bool) → (t || u) ≡ false → (t ≡ false) × (u ≡ false)
+or-none true u h = absurd (false≢true (sym h))
+or-none false u h = (refl, h)
+
+-- what holds of either choice, given the outcome of the test, holds of the one picked
+pub picked : {A : Type 0} (P : A → Type 0) (t : Bool) {a b : A} → (t ≡ true → P a) → (t ≡ false → P b) → P (pick t a b)
+picked P true f g = f refl
+picked P false f g = g refl
+
+-- a number is below another, or it is not
+pub split : {P : Type 0} (a b : ℕ) → (a < b → P) → (b ≤ a → P) → P
+split {P} a b f g = go (ltb a b) refl
+  where
+    go : (t : Bool) → ltb a b ≡ t → P
+    go true e = f (ltb-true a b e)
+    go false e = g (ltb-false a b e)
+
+-- the test holds of every number below n
+unfoldable pub allBelow : (ℕ → Bool) → ℕ → Bool
+allBelow f zero = true
+allBelow f (suc n) = f n && allBelow f n
+
+-- a test that computes to true for every number below n holds of each
+pub below : (f : ℕ → Bool) (n : ℕ) → allBelow f n ≡ true → (i : ℕ) → i < n → f i ≡ true
+unfolding allBelow
+below f zero h i k = absurd (not-suc-le-zero k)
+below f (suc n) h i k = go (eqb i n) refl (below f n (and-right (f n) (allBelow f n) h) i)
+  where
+    go : (t : Bool) → eqb i n ≡ t → (i < n → f i ≡ true) → f i ≡ true
+    go true e ih = rw (eqb-true i n e) (and-left (f n) (allBelow f n) h)
+    go false e ih = let d : i ≡ n → ⊥ = eqb-false i n e in ih (omega arith)
+
+-- two functions that compute to the same number at every number below n
+pub same-below : (f g : ℕ → ℕ) (n : ℕ) → allBelow (λ (i : ℕ). eqb (f i) (g i)) n ≡ true → (i : ℕ) → i < n → f i ≡ g i
+same-below f g n h i k = eqb-true (f i) (g i) (below (λ (j : ℕ). eqb (f j) (g j)) n h i k)
+
+-- lists that are the same, by the test
+pub list-eq : (x : List ℕ) → eqList x x ≡ true
+unfolding eqList
+list-eq [] = refl
+list-eq (a ∷ x) = simp (eq-eqb a a refl, list-eq x)
+
+pub eq-list : (x y : List ℕ) → eqList x y ≡ true → x ≡ y
+unfolding eqList
+eq-list [] [] h = refl
+eq-list [] (b ∷ y) h = absurd (false≢true h)
+eq-list (a ∷ x) [] h = absurd (false≢true h)
+eq-list (a ∷ x) (b ∷ y) h = go (eqb a b) refl h (eq-list x y)
+  where
+    go : (t : Bool) → eqb a b ≡ t → (t && eqList x y) ≡ true → (eqList x y ≡ true → x ≡ y) → a ∷ x ≡ b ∷ y
+    go true e h ih = let p = eqb-true a b e in let q = ih h in cc
+    go false e h ih = absurd (false≢true h)
+
+pub eq-length : (x y : List ℕ) → (length x ≡ length y → ⊥) → eqList x y ≡ false
+unfolding eqList
+eq-length [] [] h = absurd (h refl)
+eq-length [] (b ∷ y) h = refl
+eq-length (a ∷ x) [] h = refl
+eq-length (a ∷ x) (b ∷ y) h = simp (eq-length x y (λ e. h (omega arith)), and-false)
+
+-- a list that begins with another
+pub starts-self : (x s : List ℕ) → starts x (x ++ s) ≡ true
+unfolding starts
+starts-self [] s = refl
+starts-self (b ∷ x) s = simp (eq-eqb b b refl, starts-self x s)
+
+pub starts-split : (w s : List ℕ) → starts w s ≡ true → s ≡ w ++ drop (length w) s
+unfolding starts
+starts-split [] s h = refl
+starts-split (x ∷ w) [] h = absurd (false≢true h)
+starts-split (x ∷ w) (b ∷ s) h = go (eqb b x) refl h (starts-split w s)
+  where
+    go : (t : Bool) → eqb b x ≡ t → (t && starts w s) ≡ true → (starts w s ≡ true → s ≡ w ++ drop (length w) s) → b ∷ s ≡ x ∷ (w ++ drop (length w) s)
+    go true e h ih = let p = eqb-true b x e in let q = ih h in cc
+    go false e h ih = absurd (false≢true h)
+
+pub starts-most : (w s : List ℕ) → starts w s ≡ true → length w ≤ length s
+starts-most w s h = omega (arith, ap length (starts-split w s h) ∙ length-append w (drop (length w) s))

@@ -1,0 +1,9 @@
+pub mod Base
+pub mod Records
+pub mod Utf8
+pub mod White
+pub mod Tokens
+pub mod Cursor
+pub mod Refusals
+pub mod Output
+pub mod Document

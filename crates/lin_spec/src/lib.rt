@@ -1,0 +1,103 @@
+// The types that the entries share: spans, refusals and what a writer answers. (01: Records, Eight refusals)
+ghost use mathlib.Core.Path.{_≡_};
+ghost use Prim.Native.Nat.{min};
+ghost use Rattle.lin_spec.specs.Records.{limit};
+ghost use Rattle.lin_spec.specs.Refusals.{numberOf, kindOf, carriedOf};
+
+// The bytes of the longest text, and the most of an output that is ever filled.
+pub const LIMIT: usize = 1_048_576;
+
+// A start and a length in bytes, into a text lent beside the record.
+pub struct Span {
+    pub start: u32,
+    pub len: u32,
+}
+
+pub enum MaybeSpan {
+    Absent,
+    Present(Span),
+}
+
+// The rows that refusal 3 speaks of.
+pub enum RowKind {
+    Calls,
+    Cards,
+}
+
+// The eight refusals, with what each carries.
+pub enum Refusal {
+    TextTooLong,
+    NotUtf8(u64),
+    TooFewRows(RowKind, u64),
+    NoBoard(u64),
+    SpanPastEnd,
+    SpanNotUtf8,
+    OutputTooSmall(u64),
+    OutOfRange,
+}
+
+impl Refusal {
+    // The number that 01 gives it.
+    pub fn number(self) -> u32
+        ensures { λ r. ⌜ r ≡ numberOf self ⌝ }
+    {
+        match self {
+            Refusal::TextTooLong => 1,
+            Refusal::NotUtf8(_) => 2,
+            Refusal::TooFewRows(_, _) => 3,
+            Refusal::NoBoard(_) => 4,
+            Refusal::SpanPastEnd => 5,
+            Refusal::SpanNotUtf8 => 6,
+            Refusal::OutputTooSmall(_) => 7,
+            Refusal::OutOfRange => 8,
+        }
+    }
+
+    // The kind of rows that refusal 3 carries: 0 for calls, 1 for cards; 0 for the others.
+    pub fn kind(self) -> u32
+        ensures { λ r. ⌜ r ≡ kindOf self ⌝ }
+    {
+        match self {
+            Refusal::TooFewRows(k, _) => match k {
+                RowKind::Calls => 0,
+                RowKind::Cards => 1,
+            },
+            Refusal::TextTooLong => 0,
+            Refusal::NotUtf8(_) => 0,
+            Refusal::NoBoard(_) => 0,
+            Refusal::SpanPastEnd => 0,
+            Refusal::SpanNotUtf8 => 0,
+            Refusal::OutputTooSmall(_) => 0,
+            Refusal::OutOfRange => 0,
+        }
+    }
+
+    // The length or count that it carries, 0 where it carries none.
+    pub fn carried(self) -> u64
+        ensures { λ r. ⌜ r ≡ carriedOf self ⌝ }
+    {
+        match self {
+            Refusal::NotUtf8(n) => n,
+            Refusal::TooFewRows(_, n) => n,
+            Refusal::NoBoard(n) => n,
+            Refusal::OutputTooSmall(n) => n,
+            Refusal::TextTooLong => 0,
+            Refusal::SpanPastEnd => 0,
+            Refusal::SpanNotUtf8 => 0,
+            Refusal::OutOfRange => 0,
+        }
+    }
+}
+
+// What a writer answers: how many bytes it wrote, or why it wrote none.
+pub enum Written {
+    Length(usize),
+    Refused(Refusal),
+}
+
+// The most of an output of this length that is ever filled.
+pub fn room(len: usize) -> usize
+    ensures { λ r. ⌜ r ≡ min len limit ⌝ }
+{
+    if len < LIMIT { len } else { LIMIT }
+}

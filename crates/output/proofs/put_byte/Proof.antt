@@ -1,0 +1,20 @@
+-- `output::put_byte` meets its contract: one store is a text of one. Assumes nothing.
+use borrow.Author.Needs.{needs}
+use Rattle.output.proofs.Laws.{set-overlay}
+use Rattle.output.proofs.put_byte.Statement.{statement}
+use Rattle.output.proofs.put_byte.Tie as tie
+
+slice-write-out : tie.Need-slice-write-out
+slice-write-out c = search needs
+
+add-result : tie.Need-add-result
+add-result c = search needs
+
+same-length : tie.Need-same-length
+same-length c = search needs
+
+returns : tie.Need-returns
+returns c = record { next = search needs; text = set-overlay _ _ _ (search needs) }
+
+pub put-byte-spec : {M : Type 1} → statement M
+put-byte-spec = tie.close (tie.spec slice-write-out add-result same-length returns)

@@ -1,0 +1,102 @@
+// One text written again from the rows that the cursor finds in it, and its trailing span. (01: Tokens, "A document to write ..")
+use crate::Case;
+use check::same;
+use document::Cursor;
+use document::Step;
+use document::Token;
+use document::trailing;
+use document::write_document;
+use lin_spec::Span;
+use lin_spec::Written;
+use text::part;
+use vectors::filled;
+use vectors::words;
+
+// What the output holds before.
+const MARK: u8 = 0xA5;
+
+// The words of the most rows, and the bytes of the output.
+const WORDS: usize = 8192;
+
+const ROOM: usize = 32_768;
+
+// The words that the rows of a text take, and the cursor after its last token.
+struct Taken {
+    used: usize,
+    cursor: Cursor,
+}
+
+// A number as a word of a row, the greatest word where it is more.
+fn word(n: usize) -> u32 {
+    if n < 4_294_967_295 {
+        return n as u32;
+    }
+    4_294_967_295
+}
+
+// Puts a word, if there is room.
+fn put(rows: &mut [u32], i: usize, w: u32) {
+    if i < rows.len() {
+        rows[i] = w;
+    }
+}
+
+// Puts the four words of a token's row, if there is room, and gives the place after them.
+fn put_row(rows: &mut [u32], at: usize, token: Token) -> usize {
+    if rows.len() < 4 {
+        return at;
+    }
+    if rows.len() - 4 < at {
+        return at;
+    }
+    let c = token.command;
+    let v = token.value;
+    put(rows, at, word(c.start));
+    put(rows, at + 1, word(c.len));
+    put(rows, at + 2, word(v.start));
+    put(rows, at + 3, word(v.len));
+    at + 4
+}
+
+// Puts a row for each of the first `count` tokens, and gives the number of words and the cursor after them.
+fn put_rows(rows: &mut [u32], text: &[u8], count: usize) -> Taken {
+    let mut cursor = Cursor { at: 0 };
+    let mut used = 0;
+    let mut left = count;
+    while 0 < left {
+        left -= 1;
+        let Step::Found(token, next) = cursor.next(text) else {
+            return Taken { used, cursor };
+        };
+        used = put_row(rows, used, token);
+        cursor = next;
+    }
+    Taken { used, cursor }
+}
+
+// Whether the output begins with the text and is unchanged after it.
+fn holds_text(out: &[u8], text: &[u8]) -> bool {
+    same(part(out, 0, text.len()), text) & filled(out, text.len(), MARK)
+}
+
+// Whether the tokens of a text, as rows, and its trailing span give the text, in an output of marks.
+fn given_back(text: &[u8], count: usize, rows: &mut [u32; WORDS], out: &mut [u8; ROOM]) -> bool {
+    let taken = put_rows(rows, text, count);
+    let cursor = taken.cursor;
+    let rest = Span {
+        start: word(cursor.at),
+        len: word(trailing(text, cursor).len()),
+    };
+    let Written::Length(n) = write_document(text, words(rows, taken.used), rest, out) else {
+        return false;
+    };
+    (n == text.len()) & holds_text(out, text)
+}
+
+// Whether the text of the case is given back.
+pub fn agrees(file: &[u8], case: Case) -> bool {
+    let f = case.text;
+    let mut rows = [0u32; WORDS];
+    let mut out = [MARK; ROOM];
+    given_back(part(file, f.start, f.len), case.count, &mut rows, &mut out)
+}

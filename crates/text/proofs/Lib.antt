@@ -1,0 +1,3 @@
+pub mod PartLaws
+pub mod Utf8Laws
+pub mod WhiteLaws

@@ -1,0 +1,3 @@
+pub mod Fault
+pub mod Utf8
+pub mod White

@@ -1,0 +1,41 @@
+-- UTF-8: what the steps of the check hand on. (01: Eight refusals, 2 and 6)
+use Prim.Native.Nat.{ℕ, _+_, _≤_}
+use mathlib.Core.Path.{_≡_}
+use mathlib.Core.List.{List}
+use lib.ListN.{length, drop}
+use Rattle.lin_spec.specs.Utf8.{Utf, longest}
+use Rattle.lin_spec.specs.Utf8.Utf.{whole, needs, ill}
+
+-- how many bytes a character has whose first byte brings the machine there, 0 where there is none
+abbrev pub bytesOf : Utf → ℕ
+bytesOf whole = 1
+bytesOf (needs n lo hi) = 2 + n
+bytesOf ill = 0
+
+-- the least that its second byte may be
+abbrev pub lowOf : Utf → ℕ
+lowOf whole = 0x80
+lowOf (needs n lo hi) = lo
+lowOf ill = 0x80
+
+-- the most that it may be
+abbrev pub highOf : Utf → ℕ
+highOf whole = 0xBF
+highOf (needs n lo hi) = hi
+highOf ill = 0xBF
+
+-- the first n bytes of t are whole characters, so that its longest well-formed start goes on after them; n is 0 only where t starts with none
+pub record Front (t : List ℕ) (n : ℕ) : Type 0 where
+  pub within : n ≤ length t
+  pub after : longest t ≡ n + longest (drop n t)
+  pub none : n ≡ 0 → longest t ≡ 0
+
+-- the bytes of s from the place a to the place b are whole characters: the longest well-formed starts from a and from b have the same end
+pub record Past (s : List ℕ) (a b : ℕ) : Type 0 where
+  pub order : a ≤ b
+  pub after : a + longest (drop a s) ≡ b + longest (drop b s)
+
+-- s has eight bytes from the place i on, all of them whole characters
+pub record Eight (s : List ℕ) (i : ℕ) : Type 0 where
+  pub within : i + 8 ≤ length s
+  pub past : Past s i (i + 8)

@@ -1,0 +1,14 @@
+// Texts of bytes: UTF-8, white space and case, parts and spans, the next place of a byte. (01: Records, Tokens)
+mod parts;
+mod utf8;
+mod white;
+
+pub use parts::Fault;
+pub use parts::faulty;
+pub use parts::find_byte;
+pub use parts::part;
+pub use utf8::is_utf8;
+pub use utf8::well_formed_len;
+pub use white::is_command;
+pub use white::same_word;
+pub use white::trim;

@@ -1,0 +1,151 @@
+// UTF-8 by RFC 3629: how much of a text is well formed, in one pass. (01: Eight refusals, 2 and 6)
+ghost use mathlib.Core.Path.{_≡_};
+ghost use mathlib.Core.Bool.{true, _&&_};
+ghost use lib.Dec.{leb};
+ghost use Rattle.lin_spec.specs.Utf8.{first, utf8, longest};
+ghost use Rattle.text.specs.Utf8.{bytesOf, lowOf, highOf, Front, Past, Eight};
+
+// How many bytes a character has that begins with `a`, 0 where none does. RFC 3629, 4: UTF8-1 to UTF8-4
+fn width(a: u8) -> usize
+    ensures { λ r. ⌜ r ≡ bytesOf (first a) ⌝ }
+{
+    if a <= 0x7F {
+        return 1;
+    }
+    if (a < 0xC2) | (0xF4 < a) {
+        return 0;
+    }
+    if a <= 0xDF {
+        return 2;
+    }
+    if a <= 0xEF {
+        return 3;
+    }
+    4
+}
+
+// The least second byte after `a`. RFC 3629, 4: %xE0 %xA0-BF, %xF0 %x90-BF
+fn lowest(a: u8) -> u8
+    ensures { λ r. ⌜ r ≡ lowOf (first a) ⌝ }
+{
+    if a == 0xE0 {
+        return 0xA0;
+    }
+    if a == 0xF0 {
+        return 0x90;
+    }
+    0x80
+}
+
+// The greatest second byte after `a`. RFC 3629, 4: %xED %x80-9F, %xF4 %x80-8F
+fn highest(a: u8) -> u8
+    ensures { λ r. ⌜ r ≡ highOf (first a) ⌝ }
+{
+    if a == 0xED {
+        return 0x9F;
+    }
+    if a == 0xF4 {
+        return 0x8F;
+    }
+    0xBF
+}
+
+// Whether `b` is from `low` to `high`.
+fn in_range(b: u8, low: u8, high: u8) -> bool
+    ensures { λ r. ⌜ r ≡ (leb low b && leb b high) ⌝ }
+{
+    (low <= b) & (b <= high)
+}
+
+// The length of the character at the front of `t`, 0 where none is well formed there.
+fn char_len(t: &[u8]) -> usize
+    ensures { λ r. ⌜ Front (now (t .entry)) r ⌝ }
+{
+    if t.len() == 0 {
+        return 0;
+    }
+    let a = t[0];
+    let n = width(a);
+    if t.len() < n {
+        return 0;
+    }
+    let mut low = lowest(a);
+    let mut high = highest(a);
+    let mut k = 1;
+    while k < n {
+        if !in_range(t[k], low, high) {
+            return 0;
+        }
+        low = 0x80;
+        high = 0xBF;
+        k += 1;
+    }
+    n
+}
+
+// Whether there are eight bytes from `i` on, all of them ASCII.
+fn ascii_eight(s: &[u8], i: usize) -> bool
+    ensures { λ r. ⌜ (r ≡ true → Eight (now (s .entry)) i) ⌝ }
+{
+    if s.len() < 8 {
+        return false;
+    }
+    if s.len() - 8 < i {
+        return false;
+    }
+    (s[i] <= 0x7F)
+        & (s[i + 1] <= 0x7F)
+        & (s[i + 2] <= 0x7F)
+        & (s[i + 3] <= 0x7F)
+        & (s[i + 4] <= 0x7F)
+        & (s[i + 5] <= 0x7F)
+        & (s[i + 6] <= 0x7F)
+        & (s[i + 7] <= 0x7F)
+}
+
+// Passes bytes of ASCII from `from` on, by eights, and gives the place after them.
+fn eights_end(s: &[u8], from: usize) -> usize
+    ensures { λ r. ⌜ Past (now (s .entry)) from r ⌝ }
+{
+    let mut i = from;
+    while ascii_eight(s, i) {
+        i += 8;
+    }
+    i
+}
+
+// Passes the bytes of ASCII from `from` on, and gives the place after them.
+fn ascii_end(s: &[u8], from: usize) -> usize
+    ensures { λ r. ⌜ Past (now (s .entry)) from r ⌝ }
+{
+    let mut i = eights_end(s, from);
+    while i < s.len() {
+        if 0x7F < s[i] {
+            return i;
+        }
+        i += 1;
+    }
+    i
+}
+
+// The length of the longest well-formed start of `s`.
+pub fn well_formed_len(s: &[u8]) -> usize
+    ensures { λ r. ⌜ r ≡ longest (now (s .entry)) ⌝ }
+{
+    let mut i = ascii_end(s, 0);
+    while i < s.len() {
+        let n = char_len(&s[i..]);
+        if n == 0 {
+            return i;
+        }
+        i = ascii_end(s, i + n);
+    }
+    i
+}
+
+// Whether all of `s` is UTF-8.
+pub fn is_utf8(s: &[u8]) -> bool
+    ensures { λ r. ⌜ r ≡ utf8 (now (s .entry)) ⌝ }
+{
+    well_formed_len(s) == s.len()
+}

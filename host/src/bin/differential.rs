@@ -1,0 +1,192 @@
+//! Compares the exports with the oracle and the model on fresh texts, for as
+//! many seconds as it is told: `differential SECONDS [SEED]`.
+
+use lin_host_rust::{
+    compare::{self, Same},
+    tokens::Span,
+    LIMIT,
+};
+use oracle::{random::Rng, records, texts};
+use std::{
+    env,
+    process::ExitCode,
+    time::{Duration, Instant},
+};
+
+#[derive(Default)]
+struct Counts {
+    texts: u64,
+    bytes: u64,
+    places: u64,
+    documents: u64,
+}
+
+fn main() -> ExitCode {
+    let args: Vec<u64> = env::args().skip(1).map_while(|a| a.parse().ok()).collect();
+    let (seconds, seed) = match args.as_slice() {
+        [seconds] => (*seconds, 1),
+        [seconds, seed] => (*seconds, *seed),
+        _ => {
+            eprintln!("usage: differential SECONDS [SEED]");
+            return ExitCode::from(2);
+        }
+    };
+    let mut rng = Rng::new(seed);
+    let mut counts = Counts::default();
+    let start = Instant::now();
+    while start.elapsed() < Duration::from_secs(seconds) {
+        let (subject, outcome) = round(&mut rng, &mut counts);
+        if let Err(difference) = outcome {
+            eprintln!("seed {seed}: {difference}\n{subject}");
+            return ExitCode::FAILURE;
+        }
+    }
+    println!(
+        "seed {seed}: {} texts, {} runs of bytes, {} places, {} documents: all the same",
+        counts.texts, counts.bytes, counts.places, counts.documents
+    );
+    ExitCode::SUCCESS
+}
+
+/// One comparison, with what was compared.
+fn round(rng: &mut Rng, counts: &mut Counts) -> (String, Same) {
+    if rng.once_in(2_000) {
+        counts.documents += 1;
+        return long(rng);
+    }
+    match rng.below(8) {
+        0..=2 => {
+            let text = any_text(rng);
+            counts.texts += 1;
+            let outcome = compare::text(&text);
+            (format!("text {text:?}"), outcome)
+        }
+        3..=5 => {
+            let bytes = any_bytes(rng);
+            counts.bytes += 1;
+            let outcome = compare::open(&bytes).and_then(|()| steps(rng, counts, &bytes));
+            (format!("bytes {bytes:?}"), outcome)
+        }
+        _ => {
+            counts.documents += 1;
+            document(rng)
+        }
+    }
+}
+
+fn any_text(rng: &mut Rng) -> String {
+    match rng.below(16) {
+        0 => {
+            let boards = rng.below(5);
+            records::file(rng, boards)
+        }
+        1 => {
+            let boards = rng.below(5);
+            records::lines(rng, boards)
+        }
+        2 => {
+            let pages = rng.below(20);
+            records::movie(rng, pages)
+        }
+        3 => texts::mixture(rng, 300),
+        _ => texts::mixture(rng, 16),
+    }
+}
+
+fn any_bytes(rng: &mut Rng) -> Vec<u8> {
+    if rng.once_in(2) {
+        return texts::bytes(rng, 40);
+    }
+    let text = any_text(rng);
+    texts::damaged(rng, text.as_bytes(), 4)
+}
+
+fn steps(rng: &mut Rng, counts: &mut Counts, bytes: &[u8]) -> Same {
+    if bytes.len() <= 60 {
+        counts.places += bytes.len() as u64 + 9;
+        return compare::steps(bytes);
+    }
+    for _ in 0..40 {
+        let at = rng.below(bytes.len() + 4);
+        counts.places += 1;
+        compare::step(bytes, at as u64)?;
+    }
+    Ok(())
+}
+
+/// A document of few rows: spans at the bounds of characters for the most
+/// part, so that some documents are accepted, and an output that nearly fits.
+fn document(rng: &mut Rng) -> (String, Same) {
+    let text = match rng.below(3) {
+        0 => any_bytes(rng),
+        1 => texts::letters(rng, 20).into_bytes(),
+        _ => any_text(rng).into_bytes(),
+    };
+    let wild = rng.once_in(6);
+    let mut words: Vec<u32> = Vec::new();
+    for _ in 0..rng.below(6) {
+        for _ in 0..2 {
+            let span = span(rng, &text, wild);
+            words.extend([span.start, span.len]);
+        }
+    }
+    let trailing = span(rng, &text, wild);
+    let used: u64 = words
+        .chunks(4)
+        .map(|r| 2 + u64::from(r[1]) + u64::from(r[3]))
+        .sum();
+    let needed = used + u64::from(trailing.len);
+    let near = (needed.min(100_000) + rng.below(8) as u64).saturating_sub(3);
+    if rng.once_in(8) {
+        // a rest that is no row
+        words.extend([u32::MAX, 1, 7].iter().take(1 + rng.below(3)));
+    }
+    let outcome = compare::document(&text, &words, trailing, near as usize);
+    let shown = format!("bytes {text:?}\nrows {words:?}, trailing {trailing:?}, output of {near}");
+    (shown, outcome)
+}
+
+/// A text, a document and an output about the limit, at times with a fault.
+fn long(rng: &mut Rng) -> (String, Same) {
+    let near = |rng: &mut Rng| LIMIT - 2 + rng.below(5);
+    let (n, len, out) = (near(rng), near(rng), near(rng));
+    let mut text = vec![b'x'; n];
+    if rng.once_in(2) {
+        let at = rng.below(n);
+        text[at] = rng.byte();
+    }
+    let rows = [0, 0, 0, 1];
+    let rows = if rng.once_in(2) { &rows[..] } else { &[] };
+    let trailing = Span::new(0, len as u32);
+    let outcome = compare::open(&text).and_then(|()| compare::document(&text, rows, trailing, out));
+    let shown = format!("a text of {n}, rows {rows:?}, trailing {len}, output of {out}");
+    (shown, outcome)
+}
+
+fn span(rng: &mut Rng, text: &[u8], wild: bool) -> Span {
+    if wild && rng.once_in(8) {
+        let edge = [
+            0,
+            1,
+            text.len() as u32,
+            text.len() as u32 + 1,
+            u32::MAX - 1,
+            u32::MAX,
+        ];
+        return Span::new(*rng.pick(&edge), *rng.pick(&edge));
+    }
+    let mut ends = [rng.below(text.len() + 1), rng.below(text.len() + 1)];
+    ends.sort();
+    if !(wild && rng.once_in(4)) {
+        ends = ends.map(|end| bound(text, end));
+    }
+    Span::new(ends[0] as u32, (ends[1] - ends[0]) as u32)
+}
+
+/// The nearest place at or before this one where no character is cut.
+fn bound(text: &[u8], mut place: usize) -> usize {
+    while text.get(place).is_some_and(|b| (0x80..0xC0).contains(b)) && place > 0 {
+        place -= 1;
+    }
+    place
+}

@@ -1,0 +1,118 @@
+//! Comparisons of the exports with the oracle and with the model. Each gives
+//! what differs.
+
+use crate::{
+    model,
+    tokens::{self, Cursor, Span},
+    Refusal,
+};
+use std::fmt::Debug;
+
+pub type Same = Result<(), String>;
+
+fn same<T: PartialEq + Debug>(what: &str, got: T, want: T) -> Same {
+    if got == want {
+        return Ok(());
+    }
+    Err(format!("{what}: {got:?}, not {want:?}"))
+}
+
+/// Tokens and trailing text as upstream's; written back, the text again, in an
+/// output that just fits, and in none that is smaller.
+pub fn text(text: &str) -> Same {
+    let bytes = text.as_bytes();
+    let (got, trailing) = tokens::tokens(bytes).map_err(|r| format!("refused: {r:?}"))?;
+    let (want, rest) = oracle::tokens(text);
+    same("tokens", got.len(), want.len())?;
+    for (k, (token, (command, value))) in got.iter().zip(&want).enumerate() {
+        let what = format!("token {k}");
+        same(&what, token.command.of(bytes), command.as_bytes())?;
+        same(&what, token.value.of(bytes), value.as_bytes())?;
+    }
+    same("trailing", trailing.of(bytes), rest.as_bytes())?;
+    same(
+        "upstream's text",
+        oracle::write(&want, &rest).as_str(),
+        text,
+    )?;
+
+    let rows = tokens::rows(&got).ok_or("a place passes 32 bits")?;
+    let span = Span::try_from(trailing).map_err(|e| e.to_string())?;
+    let len = bytes.len() as u64;
+    let mut out = vec![0xA5; bytes.len()];
+    same(
+        "length",
+        tokens::write_document(bytes, &rows, span, &mut out),
+        Ok(len),
+    )?;
+    same("written", out.as_slice(), bytes)?;
+    if let Some(less) = bytes.len().checked_sub(1) {
+        let mut out = vec![0xA5; less];
+        let small = Err(Refusal::OutputTooSmall(len));
+        same(
+            "a byte less",
+            tokens::write_document(bytes, &rows, span, &mut out),
+            small,
+        )?;
+        same("a byte less", out, vec![0xA5; less])?;
+    }
+    Ok(())
+}
+
+/// Opening as the model has it.
+pub fn open(bytes: &[u8]) -> Same {
+    let got = Cursor::open(bytes).map(Cursor::place);
+    same("open", got, model::open(bytes))?;
+    match got {
+        Err(Refusal::NotUtf8(n)) => same("start", n, oracle::well_formed(bytes) as u64),
+        _ => Ok(()),
+    }
+}
+
+/// The step and the remainder from one place, as the model has them.
+pub fn step(bytes: &[u8], at: u64) -> Same {
+    let cursor = Cursor::from_place(at);
+    let got = cursor.step(bytes);
+    same(&format!("step from {at}"), got, model::step(bytes, at))?;
+    same(
+        &format!("remainder from {at}"),
+        cursor.trailing(bytes),
+        model::trailing(bytes, at),
+    )
+}
+
+/// Steps from every place of these bytes, and from places beyond them.
+pub fn steps(bytes: &[u8]) -> Same {
+    let n = bytes.len() as u64;
+    let beyond = [1 << 32, (1 << 32) + 1, 1 << 63, u64::MAX - 1, u64::MAX];
+    (0..=n + 3).chain(beyond).try_for_each(|at| step(bytes, at))
+}
+
+/// A document of any rows into an output of `len` bytes: answer and output as
+/// the model has them, and what is accepted as upstream writes it.
+pub fn document(text: &[u8], rows: &[u32], trailing: Span, len: usize) -> Same {
+    let before: Vec<u8> = (0..len).map(|i| (i * 7 + 3) as u8).collect();
+    let (mut got, mut want) = (before.clone(), before);
+    let answer = tokens::write_document(text, rows, trailing, &mut got);
+    same(
+        "answer",
+        answer,
+        model::write_document(text, rows, trailing, &mut want),
+    )?;
+    if got != want {
+        return Err("the output differs".to_string());
+    }
+    if let Ok(n) = answer {
+        let string = |start, len| {
+            let bytes = Span::new(start, len).of(text).to_vec();
+            String::from_utf8(bytes).map_err(|e| e.to_string())
+        };
+        let mut pairs = Vec::new();
+        for row in rows.chunks_exact(4) {
+            pairs.push((string(row[0], row[1])?, string(row[2], row[3])?));
+        }
+        let written = oracle::write(&pairs, &string(trailing.start, trailing.len)?);
+        same("written", got.get(..n as usize), Some(written.as_bytes()))?;
+    }
+    Ok(())
+}

@@ -1,0 +1,87 @@
+//! Document 01 in plain Rust, for the inputs that upstream can't take: bytes
+//! that are no text, any place, any span, any output.
+
+use crate::{
+    tokens::{Part, Span, Step},
+    Refusal, LIMIT,
+};
+
+pub fn open(text: &[u8]) -> Result<u64, Refusal> {
+    if text.len() > LIMIT {
+        return Err(Refusal::TextTooLong);
+    }
+    match std::str::from_utf8(text) {
+        Ok(_) => Ok(0),
+        Err(fault) => Err(Refusal::NotUtf8(fault.valid_up_to() as u64)),
+    }
+}
+
+fn rest(text: &[u8], at: u64) -> &[u8] {
+    let at = usize::try_from(at).unwrap_or(usize::MAX);
+    text.get(at..).unwrap_or_default()
+}
+
+pub fn step(text: &[u8], at: u64) -> Step {
+    let rest = rest(text, at);
+    let mut pipes = (0..).zip(rest).filter(|(_, b)| **b == b'|');
+    let (Some((first, _)), Some((second, _))) = (pipes.next(), pipes.next()) else {
+        return Step {
+            found: 0,
+            command_start: 0,
+            command_len: 0,
+            value_start: 0,
+            value_len: 0,
+            next: at,
+        };
+    };
+    Step {
+        found: 1,
+        command_start: at,
+        command_len: first,
+        value_start: at + first + 1,
+        value_len: second - first - 1,
+        next: at + second + 1,
+    }
+}
+
+pub fn trailing(text: &[u8], at: u64) -> Part {
+    Part {
+        start: at,
+        len: rest(text, at).len() as u64,
+    }
+}
+
+pub fn write_document(
+    text: &[u8],
+    rows: &[u32],
+    trailing: Span,
+    out: &mut [u8],
+) -> Result<u64, Refusal> {
+    let spans = |row: &[u32]| [Span::new(row[0], row[1]), Span::new(row[2], row[3])];
+    let rows: Vec<[Span; 2]> = rows.chunks_exact(4).map(spans).collect();
+    let all = || rows.iter().flatten().chain([&trailing]);
+
+    if text.len() > LIMIT {
+        return Err(Refusal::TextTooLong);
+    }
+    if all().any(|s| u64::from(s.start) + u64::from(s.len) > text.len() as u64) {
+        return Err(Refusal::SpanPastEnd);
+    }
+    if all().any(|s| std::str::from_utf8(s.of(text)).is_err()) {
+        return Err(Refusal::SpanNotUtf8);
+    }
+    let needed = all().map(|s| u128::from(s.len)).sum::<u128>() + 2 * rows.len() as u128;
+    if needed > out.len().min(LIMIT) as u128 {
+        let told = u64::try_from(needed).unwrap_or(u64::MAX);
+        return Err(Refusal::OutputTooSmall(told));
+    }
+
+    let mut written = Vec::new();
+    for span in rows.iter().flatten() {
+        written.extend(span.of(text));
+        written.push(b'|');
+    }
+    written.extend(trailing.of(text));
+    out[..written.len()].copy_from_slice(&written);
+    Ok(written.len() as u64)
+}

@@ -1,0 +1,66 @@
+//! The files of stored answers: a sequence of fields, each a length of four
+//! bytes, little-endian, and that many bytes.
+
+use std::{fs, io, path::Path};
+
+#[derive(Default)]
+pub struct Vectors {
+    bytes: Vec<u8>,
+    cases: usize,
+}
+
+impl Vectors {
+    pub fn new() -> Vectors {
+        Vectors::default()
+    }
+
+    /// Begins a case. It leaves no mark in the file.
+    pub fn case(&mut self) {
+        self.cases += 1;
+    }
+
+    pub fn field(&mut self, bytes: &[u8]) {
+        self.bytes.extend(word(bytes.len()));
+        self.bytes.extend(bytes);
+    }
+
+    /// A field of four bytes, a number little-endian.
+    pub fn number(&mut self, n: usize) {
+        self.field(&word(n));
+    }
+
+    pub fn cases(&self) -> usize {
+        self.cases
+    }
+
+    pub fn bytes(&self) -> &[u8] {
+        &self.bytes
+    }
+
+    pub fn save(&self, file: &Path) -> io::Result<()> {
+        fs::write(file, &self.bytes)
+    }
+}
+
+fn word(n: usize) -> [u8; 4] {
+    u32::try_from(n)
+        .expect("a field's number fits 32 bits")
+        .to_le_bytes()
+}
+
+/// The fields of a file; nothing if its last field is not whole.
+pub fn fields(mut bytes: &[u8]) -> Option<Vec<&[u8]>> {
+    let mut all = Vec::new();
+    while !bytes.is_empty() {
+        let (len, rest) = bytes.split_first_chunk::<4>()?;
+        let (field, rest) = rest.split_at_checked(u32::from_le_bytes(*len) as usize)?;
+        all.push(field);
+        bytes = rest;
+    }
+    Some(all)
+}
+
+/// The number in a field of four bytes.
+pub fn number(field: &[u8]) -> Option<usize> {
+    Some(u32::from_le_bytes(field.try_into().ok()?) as usize)
+}
