@@ -1,23 +1,51 @@
--- The reference cases that are shown so far, C1 to C3, proved of the definitions. (01: Reference cases)
+-- The reference cases that are shown so far, C1 to C10, proved of the definitions as a group. (01: Reference cases)
 -- Assumes nothing.
-use mathlib.Core.Path.{refl}
-use mathlib.Core.List.{[], _∷_}
-use Rattle.lin_spec.specs.Base.{ascii}
+use Prim.Native.Nat.{ℕ, _+_, _*_}
+use mathlib.Core.Path.{_≡_, refl}
+use mathlib.Core.Bool.{true, false}
+use mathlib.Core.List.{List, [], _∷_}
+use mathlib.Core.Option.{none, some}
+use lib.ListN.{replicate, set}
+use Rattle.lin_spec.specs.Base.{ascii, any, starts, eqList}
+use Rattle.lin_spec.specs.Records.{part}
+use Rattle.lin_spec.specs.Utf8.{encode}
+use Rattle.lin_spec.specs.White.{whiteSpace, front, whiteAt, skipWhite, trimStart, blank, trimEnd, trim, lower, sameWord, isCommand}
 use Rattle.lin_spec.specs.Tokens.{cut, paired, left, tokens, trailing}
-use Rattle.lin_spec.specs.Tokens.Token.{token}
+use Rattle.lin_spec.specs.Tokens.TokenOf.{token}
+use Rattle.lin_spec.specs.Cards.{indexOf, suitOf, rankOf, readCard, sum, handFrom, readHand, field, remainder, eastOf, dealOf}
+use Rattle.lin_spec.specs.Board.{BoardOf, named, dealerOf, readMd, readSv, endsIn, only, withoutEnd, annotated, allDigits, valueFrom, numberIn, over, undealt, boardFrom}
+use Rattle.lin_spec.specs.Reading.{parseLin}
+use Rattle.lin_spec.specs.declared.Seat.the-variants.{South, West, North, East}
+use Rattle.lin_spec.specs.declared.Vulnerability.the-variants.{None, NorthSouth, EastWest, Both}
 use Rattle.lin_spec.proofs.Tokens.{ReadsBack}
 
--- C1 empty: no token. C2 `a|b`: no token, trailing `a|b`. C3 `a|b|c|`: one, trailing `c|`.
+-- C1 empty: no token. C2 `a|b`: no token, trailing `a|b`. C3 `a|b|c|`: one, trailing `c|`. C4 `md|1|`: South deals, hands empty.
+-- C5 `md|3SA|md|0SK|`: North, South holds SA. C6 `mc|9|mc|x|`: no claim. C7 `mc|+009|`: 9. C8 `pc|SA|pc|S|pc|!SA|`: one card.
+-- C9 `sv|b|sv|x|`: none. C10 `mb|1C!!|`: 1C, alerted.
 pub record Cases : Type 0 where
   pub C1 : ReadsBack [] (ascii "") (ascii "")
   pub C2 : ReadsBack [] (ascii "a|b") (ascii "a|b")
   pub C3 : ReadsBack (token (ascii "a") (ascii "b") ∷ []) (ascii "c|") (ascii "a|b|c|")
+  pub C4 : parseLin (ascii "md|1|") .dealt ≡ record { dealer = South; deal = replicate 208 0 }
+  pub C5 : parseLin (ascii "md|3SA|md|0SK|") .dealt ≡ record { dealer = North; deal = set (replicate 208 0) 12 1 }
+  pub C6 : parseLin (ascii "mc|9|mc|x|") .claim ≡ none
+  pub C7 : parseLin (ascii "mc|+009|") .claim ≡ some 9
+  pub C8 : parseLin (ascii "pc|SA|pc|S|pc|!SA|") .play ≡ 12 ∷ []
+  pub C9 : parseLin (ascii "sv|b|sv|x|") .vulnerability ≡ None
+  pub C10 : parseLin (ascii "mb|1C!!|") .calls ≡ record { bid = ascii "1C"; alerted = true; annotation = none } ∷ []
 
 pub cases : Cases
-unfolding tokens trailing cut paired left
+unfolding tokens trailing cut paired left parseLin boardFrom over undealt isCommand sameWord lower trim trimEnd trimStart skipWhite blank whiteAt front whiteSpace encode starts eqList any readMd dealerOf dealOf eastOf field readHand handFrom suitOf rankOf indexOf sum remainder readSv numberIn allDigits valueFrom readCard withoutEnd only endsIn part
 cases =
     record {
       C1 = record { toks = refl; rest = refl };
       C2 = record { toks = refl; rest = refl };
       C3 = record { toks = refl; rest = refl };
+      C4 = refl;
+      C5 = refl;
+      C6 = refl;
+      C7 = refl;
+      C8 = refl;
+      C9 = refl;
+      C10 = refl;
     }

@@ -15,7 +15,7 @@ use Rattle.lin_spec.specs.Base.{pick}
 use Rattle.lin_spec.specs.Records.{part}
 use Rattle.lin_spec.specs.Tokens.{Pieces, Token, cut, paired, left, tokens, trailing, write, pipe}
 use Rattle.lin_spec.specs.Tokens.Pieces.{end, piece}
-use Rattle.lin_spec.specs.Tokens.Token.{token}
+use Rattle.lin_spec.specs.Tokens.TokenOf.{token}
 use Rattle.lin_spec.specs.Cursor.{Place, place, Step, stepBy, stepAt, findFrom}
 use Rattle.lin_spec.specs.Cursor.Step.{found, ended}
 use Rattle.lin_spec.proofs.Records.{part-length}
@@ -171,7 +171,7 @@ unfolding write
 no-tokens s e = rw e at (written-back s)
 
 -- what stands after a piece and its pipe
-after-piece : (s : List ℕ) (a : ℕ) (x t : List ℕ) → drop a s ≡ x ++ pipe ∷ t → drop (a + (length x + 1)) s ≡ t
+pub after-piece : (s : List ℕ) (a : ℕ) (x t : List ℕ) → drop a s ≡ x ++ pipe ∷ t → drop (a + (length x + 1)) s ≡ t
 after-piece s a x t e = sym (drop-drop (length x + 1) a s) ∙ ap (drop (length x + 1)) e ∙ drop-append-add x (pipe ∷ t) 1
 
 took : (s : List ℕ) (at : ℕ) (x y : List ℕ) (r : Pieces) → drop at s ≡ x ++ pipe ∷ (y ++ pipe ∷ joined pipe r)

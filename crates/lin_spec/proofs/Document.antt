@@ -14,7 +14,7 @@ use Rattle.lin_spec.specs.Base.{pick, All, any}
 use Rattle.lin_spec.specs.Records.{limit, span, endOf, part, bytesAt}
 use Rattle.lin_spec.specs.Utf8.{utf8}
 use Rattle.lin_spec.specs.Tokens.{Token, tokens, trailing, write, pipe}
-use Rattle.lin_spec.specs.Tokens.Token.{token}
+use Rattle.lin_spec.specs.Tokens.TokenOf.{token}
 use Rattle.lin_spec.specs.Cursor.{Place, Step, stepAt, Steps}
 use Rattle.lin_spec.specs.Cursor.Step.{found, ended}
 use Rattle.lin_spec.specs.Cursor.Steps.{stop, more}

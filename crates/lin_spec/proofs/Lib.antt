@@ -6,4 +6,6 @@ pub mod Tokens
 pub mod Cursor
 pub mod Checks
 pub mod Document
+pub mod Cards
+pub mod Reading
 pub mod Cases

@@ -12,7 +12,7 @@ use borrow.Author.Tests.{eq-eqb, ne-eqb, eqb-true}
 use Rattle.lin_spec.specs.Base.{pick}
 use Rattle.lin_spec.specs.Tokens.{Pieces, Token, cut, push, count, paired, left, tokens, trailing, write, NoPipes, pipe}
 use Rattle.lin_spec.specs.Tokens.Pieces.{end, piece}
-use Rattle.lin_spec.specs.Tokens.Token.{token}
+use Rattle.lin_spec.specs.Tokens.TokenOf.{token}
 
 -- Cutting
 

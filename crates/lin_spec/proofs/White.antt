@@ -316,3 +316,27 @@ pub trim-visible : (s : List ℕ) → All Visible s → trim s ≡ s
 unfolding trim trimStart skipWhite trimEnd
 trim-visible [] h = refl
 trim-visible (b ∷ s) h = simp (skip-visible b s (h .0)) (end-visible (b ∷ s) h)
+
+-- Texts of white space alone
+
+-- what has lost the white space at its front has none left there
+skip-twice : (n : ℕ) (s : List ℕ) → skipWhite 0 (skipWhite n s) ≡ skipWhite n s
+unfolding skipWhite
+skip-twice n [] = refl
+skip-twice zero (b ∷ s) = go (eqb (whiteAt (b ∷ s)) 0) refl (skip-twice (whiteAt (b ∷ s) - 1) s)
+  where
+    go : (t : Bool) → eqb (whiteAt (b ∷ s)) 0 ≡ t
+        → skipWhite 0 (skipWhite (whiteAt (b ∷ s) - 1) s) ≡ skipWhite (whiteAt (b ∷ s) - 1) s
+        → skipWhite 0 (skipWhite 0 (b ∷ s)) ≡ skipWhite 0 (b ∷ s)
+    go true e ih = simp e
+    go false e ih = simp e ih
+skip-twice (suc n) (b ∷ s) = skip-twice n s
+
+-- a text that trims to nothing is white space alone, and no other is
+pub trim-blank : (s : List ℕ) → null (trim s) ≡ blank s
+unfolding trim trimEnd blank trimStart
+trim-blank s = go (skipWhite 0 s) (skip-twice 0 s)
+  where
+    go : (x : List ℕ) → skipWhite 0 x ≡ x → null (trimEnd x) ≡ null x
+    go [] e = refl
+    go (b ∷ x) e = simp e

@@ -5,7 +5,7 @@ use mathlib.Core.Option.{Option}
 use lib.ListN.{length}
 use Rattle.lin_spec.specs.Records.{span, bytesAt}
 use Rattle.lin_spec.specs.Tokens.{Token, write}
-use Rattle.lin_spec.specs.Tokens.Token.{token}
+use Rattle.lin_spec.specs.Tokens.TokenOf.{token}
 use Rattle.lin_spec.specs.Refusals.{Answer, unless, tooLong, notUtf8, pastEnd, spanNotUtf8, tooSmall}
 use Rattle.lin_spec.specs.Output.{Outcome, room, fill}
 use Rattle.lin_spec.specs.declared.Span.{Span}

@@ -7,3 +7,7 @@ pub mod Cursor
 pub mod Refusals
 pub mod Output
 pub mod Document
+pub mod Cards
+pub mod Board
+pub mod Reading
+pub mod Fresh

@@ -29,7 +29,7 @@ pub record Outcome : Type 0 where
   pub output : List ℕ
 
 -- the output after an answer to write s from the first byte on: a refusal leaves it
-abbrev pub outputAfter : Answer ℕ → (o s : List ℕ) → List ℕ
+abbrev pub outputAfter : {A : Type 0} → Answer A → (o s : List ℕ) → List ℕ
 outputAfter (refused r) o s = o
 outputAfter (accepted n) o s = overlay o 0 s
 

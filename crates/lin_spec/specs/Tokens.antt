@@ -29,8 +29,12 @@ unfoldable pub count : (c : ℕ) → List ℕ → ℕ
 count c [] = 0
 count c (b ∷ s) = pick (eqb b c) (suc (count c s)) (count c s)
 
-pub data Token : Type 0 where
-  token : (command value : List ℕ) → Token
+-- a command with its value; A is the type of the value: the bytes, or a span of them
+pub data TokenOf (A : Type 0) : Type 0 where
+  token : (command : List ℕ) (value : A) → TokenOf A
+
+abbrev pub Token : Type 0
+Token = TokenOf (List ℕ)
 
 -- "Token k is the piece before pipe 2k+1 and the piece before pipe 2k+2, verbatim"
 unfoldable pub paired : Pieces → List Token

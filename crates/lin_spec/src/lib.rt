@@ -1,5 +1,6 @@
-// The types that the entries share: spans, refusals and what a writer answers. (01: Records, Eight refusals)
+// The types that the entries share: spans, boards, refusals and what a writer answers. (01: Records, Eight refusals)
 ghost use mathlib.Core.Path.{_≡_};
+ghost use Rattle.lin_spec.specs.Fresh.{freshDeal, freshBoard};
 ghost use Prim.Native.Nat.{min};
 ghost use Rattle.lin_spec.specs.Records.{limit};
 ghost use Rattle.lin_spec.specs.Refusals.{numberOf, kindOf, carriedOf};
@@ -100,4 +101,76 @@ pub fn room(len: usize) -> usize
     ensures { λ r. ⌜ r ≡ min len limit ⌝ }
 {
     if len < LIMIT { len } else { LIMIT }
+}
+
+pub enum Seat {
+    South,
+    West,
+    North,
+    East,
+}
+
+pub enum Vulnerability {
+    None,
+    NorthSouth,
+    EastWest,
+    Both,
+}
+
+// The tricks claimed.
+pub enum MaybeClaim {
+    Absent,
+    Claimed(u8),
+}
+
+// Four hands of 52 counts each, in the order of the seats: the count of a card is at seat times 52 plus card.
+pub struct Deal {
+    pub counts: [u32; 208],
+}
+
+impl Deal {
+    // How many cards there are.
+    pub const CARDS: usize = 52;
+
+    // No card in any hand.
+    pub fn new() -> Self
+        ensures { λ r. ⌜ r ≡ freshDeal ⌝ }
+    {
+        Deal { counts: [0; 208] }
+    }
+}
+
+// A board. Its calls and its play stand in lists lent beside it.
+pub struct Board {
+    pub names: [Span; 4],
+    pub dealer: Seat,
+    pub deal: Deal,
+    pub vulnerability: Vulnerability,
+    pub title: MaybeSpan,
+    pub room_board: MaybeSpan,
+    pub board_header: MaybeSpan,
+    pub claim: MaybeClaim,
+}
+
+impl Board {
+    // The seats in the order of LIN: South, West, North, East.
+    pub const SEATS: [Seat; 4] = [Seat::South, Seat::West, Seat::North, Seat::East];
+
+    // A board before its first token.
+    pub fn new() -> Self
+        ensures { λ r. ⌜ r ≡ freshBoard ⌝ }
+    {
+        let none = Span { start: 0, len: 0 };
+        let deal = Deal::new();
+        Board {
+            names: [none, none, none, none],
+            dealer: Seat::North,
+            deal,
+            vulnerability: Vulnerability::None,
+            title: MaybeSpan::Absent,
+            room_board: MaybeSpan::Absent,
+            board_header: MaybeSpan::Absent,
+            claim: MaybeClaim::Absent,
+        }
+    }
 }

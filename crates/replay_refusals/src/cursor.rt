@@ -1,4 +1,4 @@
-// A cursor at places that no text gives, and on bytes that no text has. (01: Tokens, "works on all bytes from any byte place")
+// A cursor at places that no step gives, and on bytes that no text has. (01: Tokens, "works on all bytes from any byte place")
 use check::same;
 use document::Cursor;
 use document::Step;
@@ -8,55 +8,79 @@ use document::value;
 use vectors::Score;
 use vectors::counted;
 
-// Whether the cursor at a place finds no token, stays there, and shows these bytes as trailing.
-fn ends(text: &[u8], at: usize, rest: &[u8]) -> bool {
-    let Step::Ended(cursor) = (Cursor { at }).next(text) else {
+// Whether a step found no token, stayed at a place, and shows these bytes as trailing.
+fn ended(step: Step, text: &[u8], at: usize, rest: &[u8]) -> bool {
+    let Step::Ended(cursor) = step else {
         return false;
     };
-    let place = cursor.position();
-    (place.at == at) & same(trailing(text, cursor), rest)
+    (cursor.at == at) & same(trailing(text, cursor), rest)
 }
 
-// Whether the cursor at a place finds this token, and stands at that place after it.
-fn finds(text: &[u8], at: usize, name: &[u8], shown: &[u8], after: usize) -> bool {
-    let Step::Found(token, cursor) = (Cursor { at }).next(text) else {
+// Whether a step found this token, and stands at that place after it.
+fn found(step: Step, text: &[u8], name: &[u8], shown: &[u8], after: usize) -> bool {
+    let Step::Found(token, cursor) = step else {
         return false;
     };
-    let place = cursor.position();
-    same(command(text, token), name) & same(value(text, token), shown) & (place.at == after)
+    same(command(text, token), name) & same(value(text, token), shown) & (cursor.at == after)
 }
 
-// At the end and beyond it.
-fn beyond(score: Score) -> Score {
-    let mut s = score;
-    s = counted(s, ends(b"", 0, b""));
-    s = counted(s, ends(b"a|b|", 4, b""));
-    s = counted(s, ends(b"a|b|", 5, b""));
-    s = counted(s, ends(b"a|b|", usize::MAX, b""));
-    s
+// The cursor at a place finds no token, stays there, and shows these bytes.
+fn ends(score: Score, text: &[u8], at: usize, rest: &[u8]) -> Score {
+    let cursor = Cursor { at };
+    counted(score, ended(cursor.next(text), text, at, rest))
 }
 
-// In the middle of a token: on its pipe, and after it.
-fn within(score: Score) -> Score {
-    let mut s = score;
-    s = counted(s, finds(b"ab|c|d", 1, b"b", b"c", 5));
-    s = counted(s, finds(b"ab|c|d", 2, b"", b"c", 5));
-    s = counted(s, ends(b"ab|c|d", 3, b"c|d"));
-    s = counted(s, ends(b"ab|c|d", 5, b"d"));
-    s = counted(s, ends(b"a|b", 0, b"a|b"));
-    s
+// The cursor at a place finds this token.
+fn finds(score: Score, text: &[u8], at: usize, name: &[u8], shown: &[u8], after: usize) -> Score {
+    let cursor = Cursor { at };
+    counted(score, found(cursor.next(text), text, name, shown, after))
 }
 
-// In the middle of a character, and on bytes that are not UTF-8.
-fn odd_bytes(score: Score) -> Score {
-    let mut s = score;
-    s = counted(s, finds(b"\xC3\xA9|b|c", 1, b"\xA9", b"b", 5));
-    s = counted(s, ends(b"\xC3\xA9|b", 1, b"\xA9|b"));
-    s = counted(s, finds(b"\xFF|\xFE|\x80", 0, b"\xFF", b"\xFE", 4));
-    s = counted(s, ends(b"\xFF|\xFE|\x80", 4, b"\x80"));
-    s
+// At the end of `a|b|`, and beyond it.
+fn beyond(score: Score, text: &[u8], none: &[u8]) -> Score {
+    let mut s = ends(score, none, 0, none);
+    s = ends(s, text, 4, none);
+    s = ends(s, text, 5, none);
+    ends(s, text, usize::MAX, none)
+}
+
+// In `ab|c|d`: in the command, and on its pipe.
+fn before(score: Score, text: &[u8]) -> Score {
+    let s = finds(score, text, 1, b"b", b"c", 5);
+    finds(s, text, 2, b"", b"c", 5)
+}
+
+// In the value, and after the token.
+fn after(score: Score, text: &[u8]) -> Score {
+    let s = ends(score, text, 3, b"c|d");
+    ends(s, text, 5, b"d")
+}
+
+// In the middle of the first character of `é|b|c`, before two pipes and before one.
+fn cut(score: Score, text: &[u8]) -> Score {
+    let s = finds(score, text, 1, b"\xA9", b"b", 5);
+    ends(s, text, 3, b"b|c")
+}
+
+// On bytes that are not UTF-8.
+fn odd(score: Score, text: &[u8]) -> Score {
+    let s = finds(score, text, 0, b"\xFF", b"\xFE", 4);
+    ends(s, text, 4, b"\x80|\xBF")
+}
+
+// The places in a text of ASCII.
+fn places(score: Score) -> Score {
+    let s = beyond(score, b"a|b|", b"");
+    let t = before(s, b"ab|c|d");
+    after(t, b"ab|c|d")
+}
+
+// The other bytes.
+fn bytes(score: Score) -> Score {
+    let s = cut(score, b"\xC3\xA9|b|c");
+    odd(s, b"\xFF|\xFE|\x80|\xBF")
 }
 
 pub fn cases(score: Score) -> Score {
-    odd_bytes(within(beyond(score)))
+    bytes(places(score))
 }

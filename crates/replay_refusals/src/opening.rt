@@ -2,16 +2,20 @@
 use crate::tried::closed;
 use crate::tried::opens;
 use vectors::Score;
-use vectors::counted;
+
+fn good(score: Score) -> Score {
+    let s = opens(score, b"");
+    opens(s, b"md|1|\xC3\xA9")
+}
+
+fn bad(score: Score) -> Score {
+    let mut s = closed(score, b"\xFF", 2, 0);
+    s = closed(s, b"md|1|\xFF", 2, 5);
+    s = closed(s, b"\xC3\xA9\xFF|", 2, 2);
+    // The first two bytes of a character of three.
+    closed(s, b"md|\xE2\x99", 2, 3)
+}
 
 pub fn cases(score: Score) -> Score {
-    let mut s = score;
-    s = counted(s, opens(b""));
-    s = counted(s, opens(b"md|1|\xC3\xA9"));
-    s = counted(s, closed(b"\xFF", 2, 0));
-    s = counted(s, closed(b"md|1|\xFF", 2, 5));
-    s = counted(s, closed(b"\xC3\xA9\xFF|", 2, 2));
-    // The first two bytes of a character of three.
-    s = counted(s, closed(b"md|\xE2\x99", 2, 3));
-    s
+    bad(good(score))
 }

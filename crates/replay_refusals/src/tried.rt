@@ -1,4 +1,4 @@
-// One call each, and whether it answers as it should. (01: Eight refusals)
+// One call each, counted as a case that agrees or differs. (01: Eight refusals)
 use check::same;
 use document::Opened;
 use document::open;
@@ -7,32 +7,29 @@ use lin_spec::Refusal;
 use lin_spec::Span;
 use lin_spec::Written;
 use text::part;
+use vectors::Score;
+use vectors::counted;
 use vectors::filled;
 
 // What an output holds before a call.
 pub const MARK: u8 = 0xA5;
 
-pub fn span(start: u32, len: u32) -> Span {
-    Span { start, len }
-}
-
 // Whether a refusal has this number and carries this length, 0 where it carries none.
-pub fn is(refusal: Refusal, number: u32, carried: u64) -> bool {
+fn is(refusal: Refusal, number: u32, carried: u64) -> bool {
     (refusal.number() == number) & (refusal.carried() == carried) & (refusal.kind() == 0)
 }
 
 // Whether a text is opened, at its first byte.
-pub fn opens(text: &[u8]) -> bool {
-    let Opened::At(cursor) = open(text) else {
+fn at_first(opened: Opened) -> bool {
+    let Opened::At(cursor) = opened else {
         return false;
     };
-    let first = cursor.position();
-    first.at == 0
+    cursor.at == 0
 }
 
 // Whether a text is refused so.
-pub fn closed(text: &[u8], number: u32, carried: u64) -> bool {
-    let Opened::Refused(refusal) = open(text) else {
+fn closed_by(opened: Opened, number: u32, carried: u64) -> bool {
+    let Opened::Refused(refusal) = opened else {
         return false;
     };
     is(refusal, number, carried)
@@ -62,24 +59,49 @@ fn write_in(text: &[u8], rows: &[u32], trailing: Span, out: &mut [u8], room: usi
     write_document(text, rows, trailing, &mut out[..room])
 }
 
-// Whether an output of so many bytes, 64 at most, is refused so for a document, and stays as it was.
+// A text is opened, at its first byte.
+pub fn opens(score: Score, text: &[u8]) -> Score {
+    counted(score, at_first(open(text)))
+}
+
+// A text is refused so.
+pub fn closed(score: Score, text: &[u8], number: u32, carried: u64) -> Score {
+    counted(score, closed_by(open(text), number, carried))
+}
+
+// An output of so many bytes, 64 at most, is refused so for a document, and stays as it was.
 pub fn stays(
+    score: Score,
     text: &[u8],
     rows: &[u32],
     trailing: Span,
     room: usize,
     number: u32,
     carried: u64,
-) -> bool {
+) -> Score {
     let mut out = [MARK; 64];
     let written = write_in(text, rows, trailing, &mut out, room);
-    refused(written, number, carried) & filled(&out, 0, MARK)
+    counted(
+        score,
+        refused(written, number, carried) & filled(&out, 0, MARK),
+    )
 }
 
-// Whether an output of so many bytes, 64 at most, takes a document, begins with these bytes then, and is as it was after them.
-pub fn takes(text: &[u8], rows: &[u32], trailing: Span, room: usize, bytes: &[u8]) -> bool {
+// An output of so many bytes, 64 at most, takes a document, begins with these bytes then, and is as it was after them.
+pub fn takes(
+    score: Score,
+    text: &[u8],
+    rows: &[u32],
+    trailing: Span,
+    room: usize,
+    bytes: &[u8],
+) -> Score {
     let mut out = [MARK; 64];
     let written = write_in(text, rows, trailing, &mut out, room);
     let len = bytes.len();
-    wrote(written, len) & same(part(&out, 0, len), bytes) & filled(&out, len, MARK)
+    let begins = same(part(&out, 0, len), bytes);
+    counted(
+        score,
+        wrote(written, len) & begins & filled(&out, len, MARK),
+    )
 }

@@ -1,7 +1,7 @@
 // One text written again from the rows that the cursor finds in it, and its trailing span. (01: Tokens, "A document to write ..")
-use crate::Case;
 use check::same;
 use document::Cursor;
+use document::Part;
 use document::Step;
 use document::Token;
 use document::trailing;
@@ -34,28 +34,25 @@ fn word(n: usize) -> u32 {
     4_294_967_295
 }
 
-// Puts a word, if there is room.
-fn put(rows: &mut [u32], i: usize, w: u32) {
-    if i < rows.len() {
-        rows[i] = w;
+// Puts a word, if there is room, and gives the place after it.
+fn put(rows: &mut [u32], at: usize, w: u32) -> usize {
+    if at < rows.len() {
+        rows[at] = w;
+        return at + 1;
     }
+    at
 }
 
-// Puts the four words of a token's row, if there is room, and gives the place after them.
+// Puts the two words of a part.
+fn put_part(rows: &mut [u32], at: usize, p: Part) -> usize {
+    let next = put(rows, at, word(p.start));
+    put(rows, next, word(p.len))
+}
+
+// Puts the four words of a token's row.
 fn put_row(rows: &mut [u32], at: usize, token: Token) -> usize {
-    if rows.len() < 4 {
-        return at;
-    }
-    if rows.len() - 4 < at {
-        return at;
-    }
-    let c = token.command;
-    let v = token.value;
-    put(rows, at, word(c.start));
-    put(rows, at + 1, word(c.len));
-    put(rows, at + 2, word(v.start));
-    put(rows, at + 3, word(v.len));
-    at + 4
+    let next = put_part(rows, at, token.command);
+    put_part(rows, next, token.value)
 }
 
 // Puts a row for each of the first `count` tokens, and gives the number of words and the cursor after them.
@@ -79,24 +76,32 @@ fn holds_text(out: &[u8], text: &[u8]) -> bool {
     same(part(out, 0, text.len()), text) & filled(out, text.len(), MARK)
 }
 
-// Whether the tokens of a text, as rows, and its trailing span give the text, in an output of marks.
-fn given_back(text: &[u8], count: usize, rows: &mut [u32; WORDS], out: &mut [u8; ROOM]) -> bool {
-    let taken = put_rows(rows, text, count);
-    let cursor = taken.cursor;
-    let rest = Span {
+// What is left of the text at the cursor, as a span.
+fn rest(text: &[u8], cursor: Cursor) -> Span {
+    Span {
         start: word(cursor.at),
         len: word(trailing(text, cursor).len()),
-    };
-    let Written::Length(n) = write_document(text, words(rows, taken.used), rest, out) else {
+    }
+}
+
+// Whether the rows and the trailing span give the text, in an output of marks.
+fn given_back(text: &[u8], rows: &[u32], trailing: Span, out: &mut [u8]) -> bool {
+    let Written::Length(n) = write_document(text, rows, trailing, out) else {
         return false;
     };
     (n == text.len()) & holds_text(out, text)
 }
 
+// Whether the first `count` tokens of a text, with what is left, give the text.
+fn again(text: &[u8], count: usize, rows: &mut [u32; WORDS], out: &mut [u8; ROOM]) -> bool {
+    let taken = put_rows(rows, text, count);
+    let trailing = rest(text, taken.cursor);
+    given_back(text, words(rows, taken.used), trailing, out)
+}
+
 // Whether the text of the case is given back.
-pub fn agrees(file: &[u8], case: Case) -> bool {
-    let f = case.text;
+pub fn agrees(text: &[u8], count: usize) -> bool {
     let mut rows = [0u32; WORDS];
     let mut out = [MARK; ROOM];
-    given_back(part(file, f.start, f.len), case.count, &mut rows, &mut out)
+    again(text, count, &mut rows, &mut out)
 }

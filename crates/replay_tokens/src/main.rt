@@ -15,11 +15,11 @@ use vectors::say;
 const SPACE: usize = 262_144;
 
 // One case: its text, the number of its tokens, where the first of them stands in the file, and its trailing text.
-pub struct Case {
-    pub text: Field,
-    pub count: usize,
-    pub tokens: usize,
-    pub trailing: Field,
+struct Case {
+    text: Field,
+    count: usize,
+    tokens: usize,
+    trailing: Field,
 }
 
 // What is asked of each case.
@@ -61,9 +61,11 @@ fn case_at(file: &[u8], at: usize) -> Case {
 
 // Whether the case agrees in this group.
 fn agrees(file: &[u8], case: Case, group: Group) -> bool {
+    let f = case.text;
+    let text = part(file, f.start, f.len);
     match group {
-        Group::Tokens => steps::agrees(file, case),
-        Group::Written => again::agrees(file, case),
+        Group::Tokens => steps::agrees(file, text, case.tokens, case.count, case.trailing),
+        Group::Written => again::agrees(text, case.count),
     }
 }
 

@@ -1,6 +1,5 @@
 // The cursor over one text, held to the oracle's tokens: each command and value, each place, the end and the trailing text.
 // (01: Tokens, "A cursor is stepped over the text ..")
-use crate::Case;
 use document::Cursor;
 use document::Opened;
 use document::Step;
@@ -10,7 +9,6 @@ use document::open;
 use document::trailing;
 use document::value;
 use std::num::wrapping_add_usize;
-use text::part;
 use vectors::Field;
 use vectors::field_at;
 use vectors::holds;
@@ -55,28 +53,22 @@ fn walk(file: &[u8], text: &[u8], tokens: usize, count: usize, from: Cursor) -> 
     Walked { cursor, ok: true }
 }
 
-// Whether the cursor finds no token more, stays, and leaves the trailing text of the case.
-fn ends(file: &[u8], text: &[u8], cursor: Cursor, case: Case) -> bool {
+// Whether the cursor finds no token more, stays, and leaves this trailing text.
+fn ends(file: &[u8], text: &[u8], cursor: Cursor, rest: Field) -> bool {
     let Step::Ended(last) = cursor.next(text) else {
         return false;
     };
     let here = cursor.position();
     let there = last.position();
-    (there.at == here.at) & holds(file, case.trailing, trailing(text, last))
+    (there.at == here.at) & holds(file, rest, trailing(text, last))
 }
 
 // Whether the text opens at its first byte, has the tokens of the case and no other, and its trailing text.
-pub fn agrees(file: &[u8], case: Case) -> bool {
-    let f = case.text;
-    let text = part(file, f.start, f.len);
+pub fn agrees(file: &[u8], text: &[u8], tokens: usize, count: usize, rest: Field) -> bool {
     let Opened::At(cursor) = open(text) else {
         return false;
     };
     let first = cursor.position();
-    if first.at != 0 {
-        return false;
-    }
-    let walked = walk(file, text, case.tokens, case.count, first.cursor);
-    let end = walked.cursor;
-    walked.ok & ends(file, text, end, case)
+    let walked = walk(file, text, tokens, count, first.cursor);
+    (first.at == 0) & walked.ok & ends(file, text, walked.cursor, rest)
 }

@@ -1,3 +1,4 @@
+pub mod DigitLaws
 pub mod PartLaws
 pub mod Utf8Laws
 pub mod WhiteLaws

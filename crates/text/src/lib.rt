@@ -1,8 +1,11 @@
 // Texts of bytes: UTF-8, white space and case, parts and spans, the next place of a byte. (01: Records, Tokens)
+mod digits;
 mod parts;
 mod utf8;
 mod white;
 
+pub use digits::MaybeNumber;
+pub use digits::read_number;
 pub use parts::Fault;
 pub use parts::faulty;
 pub use parts::find_byte;

@@ -123,11 +123,11 @@ pub fn counted(score: Score, agrees: bool) -> Score {
     }
 }
 
-// Prints a group's name, the number of its cases, and `ok`; or where it differs.
+// Prints a group's name, the number of its cases, and `ok`; or where it differs, which is at 0 where it has no cases.
 pub fn say(group: &[u8], score: Score) {
     io::write_all(STDOUT_FILENO, group);
     io::write_all(STDOUT_FILENO, b" ");
-    if score.ok {
+    if score.ok & (0 < score.cases) {
         io::print_decimal(STDOUT_FILENO, score.cases);
         io::write_all(STDOUT_FILENO, b" ok\n");
     } else {

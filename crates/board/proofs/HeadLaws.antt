@@ -1,0 +1,115 @@
+-- Laws of a heading while it is read: what a token leaves of it. (01: Board)
+-- Assumes nothing.
+use Prim.Native.Nat.{ℕ, zero, suc, _+_, _≤_, _<_}
+use native.Mathlib.Omega.{arith}
+use mathlib.Core.Path.{_≡_, refl, ap, sym, _∙_}
+use mathlib.Core.Bool.{Bool, true, false}
+use mathlib.Core.List.{List, [], _∷_}
+use mathlib.Core.Option.{Option, none, some}
+use lib.ListN.{length, getD}
+use lib.Dec.{eqb}
+use borrow.Author.Tests.{eq-eqb, ne-eqb}
+use Rattle.lin_spec.specs.Base.{pick, null, ascii}
+use Rattle.lin_spec.specs.Records.{span, optionOf, endOf, part, bytesAt}
+use Rattle.lin_spec.specs.White.{trim, isCommand}
+use Rattle.lin_spec.specs.Tokens.{TokenOf}
+use Rattle.lin_spec.specs.Tokens.TokenOf.{token}
+use Rattle.lin_spec.specs.Board.{over, on, onNames, onVulnerability, onTitle, onRoom, onHeader, onClaim}
+use Rattle.lin_spec.specs.Cards.{readCard}
+use Rattle.lin_spec.specs.Cursor.{Place, Step, stepAt}
+use Rattle.lin_spec.specs.Cursor.Step.{found, ended}
+use Rattle.lin_spec.specs.Reading.{spanText, stream}
+use Rattle.lin_spec.specs.declared.Span.{Span}
+use Rattle.lin_spec.proofs.Base.{picked}
+use Rattle.lin_spec.proofs.Records.{part-length}
+use Rattle.lin_spec.proofs.Cursor.{Took, means}
+use Rattle.lin_spec.proofs.Reading.{streams}
+use Rattle.board.specs.Commands.{words, commandOf}
+use Rattle.board.specs.Fields.{claimOf, more}
+use Rattle.board.specs.Head.{freshHead, Stepped, onLast, onCount, onCard, Leaves}
+use Rattle.board.specs.declared.heading.Head.{Head}
+use Rattle.board.proofs.CommandLaws.{code-is}
+
+-- a value within the text is empty exactly where its length is 0
+pub empty-is : (s : List ℕ) (v : Span) → endOf v ≤ length s → null (bytesAt s v) ≡ eqb (v .len) 0
+empty-is s v h = go (bytesAt s v) (part-length s (v .start) (v .len) h)
+  where
+    go : (x : List ℕ) → length x ≡ v .len → null x ≡ eqb (v .len) 0
+    go [] e = sym (eq-eqb (v .len) 0 (sym e))
+    go (b ∷ x) e = sym (ne-eqb (v .len) 0 (λ k. omega arith))
+
+-- one field: what the token leaves of it, with the test of the command's number in place of the command's own
+field : {A : Type 0} (f : List ℕ → Span → A → A) (ts us : List (TokenOf Span)) (c : List ℕ) (v : Span) (b b₀ b′ : A)
+    → over f b (token c v ∷ us) ≡ over f b₀ ts → b′ ≡ f c v b → over f b′ us ≡ over f b₀ ts
+unfolding over
+field f ts us c v b b₀ b′ h e = rw e h
+
+by-code : {A : Type 0} (c : List ℕ) (i : ℕ) → i < 10 → (k : ℕ) → k ≡ commandOf c → (x b : A) {b′ : A} → b′ ≡ pick (eqb k i) x b → b′ ≡ on c (getD words i []) x b
+by-code c i h k e x b q = q ∙ ap (λ (t : Bool). pick t x b) (ap (λ (n : ℕ). eqb n i) e ∙ sym (code-is c i h))
+
+module _ (s : List ℕ) (ts us : List (TokenOf Span)) (h h₀ : Head) (c : List ℕ) (v : Span) (w : endOf v ≤ length s) (k : ℕ) (ek : k ≡ commandOf c) (r : Head) (p : Stepped s h k v r) where
+  pub head-turn : Leaves s ts h h₀ (token c v ∷ us) → Leaves s ts r h₀ us
+  head-turn l =
+      record {
+        names = field (onNames (spanText s)) ts us c v _ _ _ (l .names) (by-code c 4 (omega arith) k ek _ _ (p .names));
+        md = field (onLast s) ts us c v _ _ _ (l .md) (by-code c 3 (omega arith) k ek _ _ (p .md));
+        vulnerability = field (onVulnerability (spanText s)) ts us c v _ _ _ (l .vulnerability) (by-code c 7 (omega arith) k ek _ _ (p .vulnerability));
+        title = field (onTitle (spanText s)) ts us c v _ _ _ (l .title) (by-code c 6 (omega arith) k ek _ _ (rw (empty-is s v w) (p .title)));
+        room = field (onRoom (spanText s)) ts us c v _ _ _ (l .room) (by-code c 5 (omega arith) k ek _ _ (rw (empty-is s v w) (p .room)));
+        header = field (onHeader (spanText s)) ts us c v _ _ _ (l .header) (by-code c 8 (omega arith) k ek _ _ (p .header));
+        claim = field (onClaim (spanText s)) ts us c v _ _ _ (l .claim) (by-code c 9 (omega arith) k ek _ _ (p .claim));
+        calls = field onCount ts us c v _ _ _ (l .calls) (by-code c 1 (omega arith) k ek _ _ (p .calls));
+        cards = field (onCard s) ts us c v _ _ _ (l .cards) (by-code c 0 (omega arith) k ek _ _ (p .cards));
+      }
+
+  pub calls-most : r .calls ≤ h .calls + 1
+  calls-most = rw (p .calls) (picked (λ (n : ℕ). n ≤ h .calls + 1) (eqb k 1) (λ _. omega arith) (λ _. omega arith))
+
+  pub cards-most : r .cards ≤ h .cards + 1
+  cards-most = rw (p .cards) (picked (λ (n : ℕ). n ≤ h .cards + 1) (eqb k 0) (λ _. one (readCard (trim (bytesAt s v)))) (λ _. omega arith))
+    where
+      one : (o : Option ℕ) → more o (h .cards) ≤ h .cards + 1
+      one none = omega arith
+      one (some c) = omega arith
+
+-- The loop: the cursor at a place, and what the tokens from there on leave
+
+pub record Reads (s : List ℕ) (at₀ : ℕ) (h : Head) (at : ℕ) : Type 0 where
+  pub within : at ≤ length s
+  pub calls : h .calls ≤ at
+  pub cards : h .cards ≤ at
+  pub leaves : Leaves s (stream s at₀) h freshHead (stream s at)
+
+pub begins : (s : List ℕ) (at : ℕ) → at ≤ length s → Reads s at freshHead at
+begins s at h =
+    record {
+      within = h;
+      calls = omega arith;
+      cards = omega arith;
+      leaves = record { names = refl; md = refl; vulnerability = refl; title = refl; room = refl; header = refl; claim = refl; calls = refl; cards = refl };
+    }
+
+pub ends : (s : List ℕ) (at₀ : ℕ) (h : Head) (at n : ℕ) → Reads s at₀ h at → stepAt s at ≡ ended n → Leaves s (stream s at₀) h freshHead []
+ends s at₀ h at n r e = rw (streams s at (ended n) e) at (r .leaves)
+
+module _ (s : List ℕ) (at₀ : ℕ) (h : Head) (at : ℕ) (i : Reads s at₀ h at) (c v : Place) (n : ℕ) (e : stepAt s at ≡ found c v n) where
+  m : Took s at c v n
+  m = means s at (found c v n) e
+
+  pub value-within : v .start + v .len ≤ length s
+  value-within = let a = m .after in let w = m .within in omega arith
+
+  pub next-more : (at < n) × (n ≤ length s)
+  next-more = let a = m .after in let b = m .split in (omega arith, m .within)
+
+  pub turn : (k : ℕ) → k ≡ commandOf (part s (c .start) (c .len)) → (r : Head) → Stepped s h k (span (v .start) (v .len)) r → Reads s at₀ r n
+  turn k ek r p =
+      let x = part s (c .start) (c .len) in
+      let y = span (v .start) (v .len) in
+      let l : Leaves s (stream s at₀) h freshHead (token x y ∷ stream s n) = rw (streams s at (found c v n) e) at (i .leaves) in
+      let a = calls-most s (stream s at₀) (stream s n) h freshHead x y value-within k ek r p in
+      let b = cards-most s (stream s at₀) (stream s n) h freshHead x y value-within k ek r p in
+      let q = next-more .0 in
+      let w = i .calls in
+      let z = i .cards in
+      record { within = m .within; calls = omega arith; cards = omega arith; leaves = head-turn s (stream s at₀) (stream s n) h freshHead x y value-within k ek r p l }

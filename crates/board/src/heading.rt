@@ -1,0 +1,124 @@
+// The heading of a board from a run of tokens, in one pass that keeps spans and small numbers only. (01: Board, `from_tokens`)
+use crate::commands::AH;
+use crate::commands::MB;
+use crate::commands::MC;
+use crate::commands::MD;
+use crate::commands::MN;
+use crate::commands::PC;
+use crate::commands::PN;
+use crate::commands::QX;
+use crate::commands::SV;
+use crate::commands::command_of;
+use crate::fields::on_card;
+use crate::fields::on_claim;
+use crate::fields::on_count;
+use crate::fields::on_header;
+use crate::fields::on_md;
+use crate::fields::on_names;
+use crate::fields::on_sv;
+use crate::fields::on_value;
+use document::Cursor;
+use document::Step;
+use document::command;
+use lin_spec::MaybeClaim;
+use lin_spec::MaybeSpan;
+use lin_spec::Span;
+use lin_spec::Vulnerability;
+ghost use Prim.Native.Nat.{_<_, _≤_, _^_};
+ghost use lib.ListN.{length};
+ghost use Rattle.lin_spec.specs.Records.{endOf};
+ghost use mathlib.Core.Path.{_≡_};
+ghost use mathlib.Core.List.{[]};
+ghost use Rattle.lin_spec.specs.Reading.{stream};
+ghost use Rattle.board.specs.Head.{Stepped, Leaves, freshHead};
+
+// A heading while it is read. The value of the last md that was accepted stands for dealer and deal.
+pub(crate) struct Head {
+    pub(crate) names: [Span; 4],
+    pub(crate) md: MaybeSpan,
+    pub(crate) vulnerability: Vulnerability,
+    pub(crate) title: MaybeSpan,
+    pub(crate) room: MaybeSpan,
+    pub(crate) header: MaybeSpan,
+    pub(crate) claim: MaybeClaim,
+    pub(crate) calls: usize,
+    pub(crate) cards: usize,
+}
+
+// The heading after one token more, whose command has the number k.
+fn step(text: &[u8], h: Head, k: u8, v: Span) -> Head
+    requires { ⌜ (endOf v ≤ length (now text)) × (length (now text) < 2 ^ 32) × (h .calls < 2 ^ 32) × (h .cards < 2 ^ 32) ⌝ }
+    ensures { λ r. ⌜ Stepped (now (text .entry)) h k v r ⌝ }
+{
+    let old = h.names;
+    let old_md = h.md;
+    let old_vulnerability = h.vulnerability;
+    let old_title = h.title;
+    let old_room = h.room;
+    let old_header = h.header;
+    let old_claim = h.claim;
+    let names = on_names(text, k == PN, v, old);
+    let md = on_md(text, k == MD, v, old_md);
+    let vulnerability = on_sv(text, k == SV, v, old_vulnerability);
+    let title = on_value(k == MN, v, old_title);
+    let room = on_value(k == QX, v, old_room);
+    let header = on_header(k == AH, v, old_header);
+    let claim = on_claim(text, k == MC, v, old_claim);
+    let calls = on_count(k == MB, h.calls);
+    let cards = on_card(text, k == PC, v, h.cards);
+    Head {
+        names,
+        md,
+        vulnerability,
+        title,
+        room,
+        header,
+        claim,
+        calls,
+        cards,
+    }
+}
+
+// A heading before the first token.
+fn fresh_head() -> Head
+    ensures { λ r. ⌜ r ≡ freshHead ⌝ }
+{
+    let none = Span { start: 0, len: 0 };
+    Head {
+        names: [none, none, none, none],
+        md: MaybeSpan::Absent,
+        vulnerability: Vulnerability::None,
+        title: MaybeSpan::Absent,
+        room: MaybeSpan::Absent,
+        header: MaybeSpan::Absent,
+        claim: MaybeClaim::Absent,
+        calls: 0,
+        cards: 0,
+    }
+}
+
+// The heading that the tokens of a text from a place on give.
+pub(crate) fn read_head(text: &[u8], at: usize) -> Head
+    requires { ⌜ (at ≤ length (now text)) × (length (now text) < 2 ^ 32) ⌝ }
+    ensures { λ r. ⌜ Leaves (now (text .entry)) (stream (now (text .entry)) at) r freshHead [] ⌝ }
+{
+    let mut h = fresh_head();
+    let mut cursor = Cursor { at };
+    loop {
+        match cursor.next(text) {
+            Step::Found(t, c) => {
+                let k = command_of(command(text, t));
+                let value = t.value;
+                let v = Span {
+                    start: value.start as u32,
+                    len: value.len as u32,
+                };
+                h = step(text, h, k, v);
+                cursor = c;
+            }
+            Step::Ended(_) => {
+                return h;
+            }
+        }
+    }
+}

@@ -1,0 +1,15 @@
+-- `cards::deals::is_blank` meets its contract: a text that trims to nothing is blank. (01: Board, md)
+-- Assumes nothing.
+use borrow.Author.Needs.{needs}
+use Rattle.cards.proofs.DealLaws.{blank-is}
+use Rattle.cards.proofs.deals.is_blank.Statement.{statement}
+use Rattle.cards.proofs.deals.is_blank.Tie as tie
+
+trim-requires : tie.Need-trim-requires
+trim-requires c κs = search needs
+
+returns : tie.Need-returns
+returns c = blank-is _ _ (c .trim .ensures)
+
+pub is-blank-spec : {M : Type 1} → statement M
+is-blank-spec = tie.close (tie.spec trim-requires returns)

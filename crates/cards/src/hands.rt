@@ -1,0 +1,113 @@
+// Hands: 52 counts, from a text and from three other hands, and their length. (01: Records; Board, md)
+use crate::letters::Lookup;
+use crate::letters::rank_of;
+use crate::letters::suit_of;
+use lin_spec::Deal;
+ghost use mathlib.Core.Path.{_≡_};
+ghost use mathlib.Core.Bool.{_&&_};
+ghost use Prim.Native.Nat.{_<_, _^_};
+ghost use lib.ListN.{length};
+ghost use lib.Dec.{eqb};
+ghost use Rattle.lin_spec.specs.Base.{pick};
+ghost use Rattle.lin_spec.specs.Cards.{sum, readHand, remainder};
+ghost use Rattle.cards.specs.Letters.{lookupOf};
+ghost use Rattle.cards.specs.Hands.{Suited, saidOf};
+
+// How often a hand holds each card.
+pub(crate) struct Hand {
+    pub(crate) counts: [u32; 52],
+}
+
+// What a byte says in the text of a hand.
+enum Said {
+    Suit(u8),
+    Card(u8),
+    Skip,
+}
+
+// What a byte says, with the suit of the last suit letter before it.
+fn said_of(suit: Lookup, b: u8) -> Said
+    requires { ⌜ Suited suit ⌝ }
+    ensures { λ r. ⌜ r ≡ saidOf (lookupOf suit) b ⌝ }
+{
+    if let Lookup::Found(u) = suit_of(b) {
+        return Said::Suit(u);
+    }
+    let Lookup::Found(v) = suit else {
+        return Said::Skip;
+    };
+    let Lookup::Found(r) = rank_of(b) else {
+        return Said::Skip;
+    };
+    Said::Card(v * 13 + r)
+}
+
+// The hand of a text.
+pub(crate) fn read_hand(s: &[u8]) -> Hand
+    requires { ⌜ length (now s) < 2 ^ 32 ⌝ }
+    ensures { λ r. ⌜ r .counts ≡ readHand (now (s .entry)) ⌝ }
+{
+    let mut hand = Hand { counts: [0; 52] };
+    let mut suit = Lookup::Nothing;
+    let mut i = 0;
+    while i < s.len() {
+        match said_of(suit, s[i]) {
+            Said::Suit(u) => {
+                suit = Lookup::Found(u);
+                i += 1;
+            }
+            Said::Card(c) => {
+                let at = c as usize;
+                hand.counts[at] = hand.counts[at] + 1;
+                i += 1;
+            }
+            Said::Skip => {
+                i += 1;
+            }
+        }
+    }
+    hand
+}
+
+// A count as a number of 64 bits.
+fn wide(n: u32) -> u64
+    ensures { λ r. ⌜ (r ≡ n) × (r < 2 ^ 32) ⌝ }
+{
+    n as u64
+}
+
+// How many cards a hand has. The sum of the counts has up to 38 bits.
+pub(crate) fn hand_len(hand: Hand) -> u64
+    ensures { λ r. ⌜ r ≡ sum (hand .counts) ⌝ }
+{
+    let mut n: u64 = 0;
+    let mut c = 0;
+    while c < Deal::CARDS {
+        n += wide(hand.counts[c]);
+        c += 1;
+    }
+    n
+}
+
+// 1 for a card that none of three hands holds, else 0.
+fn unheld(a: u32, b: u32, c: u32) -> u32
+    ensures { λ r. ⌜ r ≡ pick (eqb a 0 && (eqb b 0 && eqb c 0)) 1 0 ⌝ }
+{
+    if (a == 0) & ((b == 0) & (c == 0)) {
+        return 1;
+    }
+    0
+}
+
+// Each card that no other seat holds, once.
+pub(crate) fn remainder(s: Hand, w: Hand, n: Hand) -> Hand
+    ensures { λ r. ⌜ r .counts ≡ remainder (s .counts) (w .counts) (n .counts) ⌝ }
+{
+    let mut hand = Hand { counts: [0; 52] };
+    let mut c = 0;
+    while c < Deal::CARDS {
+        hand.counts[c] = unheld(s.counts[c], w.counts[c], n.counts[c]);
+        c += 1;
+    }
+    hand
+}

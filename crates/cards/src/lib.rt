@@ -1,0 +1,11 @@
+// Suits, ranks, cards and deals, as their letters give them. (01: Records; Board, md and pc)
+mod deals;
+mod hands;
+mod letters;
+
+pub use deals::deal_of;
+pub use letters::Lookup;
+pub use letters::MaybeCard;
+pub use letters::rank_of;
+pub use letters::read_card;
+pub use letters::suit_of;

@@ -1,0 +1,19 @@
+-- `lin_spec::Board::new` meets its contract: the deal is the fresh one.
+-- Assumes nothing.
+use borrow.Author.Needs.{needs}
+use Rattle.lin_spec.proofs.Board.new.Statement.{statement}
+use Rattle.lin_spec.proofs.Board.new.Tie as tie
+use Rattle.lin_spec.proofs.Board.new.Reads as reads
+use Rattle.lin_spec.proofs.Board.new.Lts as lts
+use Rattle.lin_spec.proofs.Deal.new.Reads as new-reads
+
+-- src/lib.rt:164:13
+new-requires : tie.Need-new-requires
+new-requires c κs = search needs
+
+-- src/lib.rt:160:5
+returns : tie.Need-returns
+returns c = rw (c .new .ensures)
+
+pub new-spec : {M : Type 1} → statement M
+new-spec = tie.close (tie.spec new-requires returns)
