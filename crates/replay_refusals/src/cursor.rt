@@ -56,10 +56,10 @@ fn after(score: Score, text: &[u8]) -> Score {
     ends(s, text, 5, b"d")
 }
 
-// In the middle of the first character of `é|b|c`, before two pipes and before one.
+// In the middle of each character of `é|é|c`, before two pipes and before one.
 fn cut(score: Score, text: &[u8]) -> Score {
-    let s = finds(score, text, 1, b"\xA9", b"b", 5);
-    ends(s, text, 3, b"b|c")
+    let s = finds(score, text, 1, b"\xA9", b"\xC3\xA9", 6);
+    ends(s, text, 4, b"\xA9|c")
 }
 
 // On bytes that are not UTF-8.
@@ -77,7 +77,7 @@ fn places(score: Score) -> Score {
 
 // The other bytes.
 fn bytes(score: Score) -> Score {
-    let s = cut(score, b"\xC3\xA9|b|c");
+    let s = cut(score, b"\xC3\xA9|\xC3\xA9|c");
     odd(s, b"\xFF|\xFE|\x80|\xBF")
 }
 

@@ -3,11 +3,13 @@ use crate::tried::closed;
 use crate::tried::opens;
 use vectors::Score;
 
+// Texts that are opened.
 fn good(score: Score) -> Score {
     let s = opens(score, b"");
     opens(s, b"md|1|\xC3\xA9")
 }
 
+// Texts that are not UTF-8, with the length of their longest well-formed start.
 fn bad(score: Score) -> Score {
     let mut s = closed(score, b"\xFF", 2, 0);
     s = closed(s, b"md|1|\xFF", 2, 5);

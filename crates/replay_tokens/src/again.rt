@@ -15,9 +15,10 @@ use vectors::words;
 // What the output holds before.
 const MARK: u8 = 0xA5;
 
-// The words of the most rows, and the bytes of the output.
+// More words than the rows of any text of the file take.
 const WORDS: usize = 8192;
 
+// More bytes than any text of the file has.
 const ROOM: usize = 32_768;
 
 // The words that the rows of a text take, and the cursor after its last token.

@@ -1,4 +1,4 @@
--- `vectors::filled` is safe and ends. The loop's invariant says nothing, and the measure is what is left of the length.
+-- `vectors::filled` is safe and ends. The invariant says nothing, and the measure is what is left of the bytes.
 -- Assumes nothing.
 use Prim.Native.Nat.{_-_}
 use borrow.Author.Needs.{needs}

@@ -1,12 +1,8 @@
+-- `replay_tokens::steps::walk` is safe and ends. The invariant says nothing, and the measure is the number of tokens left.
+-- Assumes nothing.
 use borrow.Author.Needs.{needs}
 use Rattle.replay_tokens.proofs.steps.walk.Statement.{statement}
 use Rattle.replay_tokens.proofs.steps.walk.Tie as tie
-use Rattle.replay_tokens.proofs.steps.walk.Reads as reads
-use Rattle.replay_tokens.proofs.steps.walk.Lts as lts
-use Rattle.document.proofs.tokens.Cursor.next.Reads as next-reads
-use Rattle.replay_tokens.proofs.steps.found.Reads as found-reads
-use Rattle.replay_tokens.proofs.steps.moved.Reads as moved-reads
-use Rattle.vectors.proofs.field_at.Reads as field-at-reads
 
 abbrev Inv-loop : tie.InvT-loop
 Inv-loop file text tokens count cursor₀ at₀ left₀ cursor at left = Unit {0}
@@ -14,59 +10,45 @@ Inv-loop file text tokens count cursor₀ at₀ left₀ cursor at left = Unit {0
 abbrev μ-loop : tie.MeasureT-loop
 μ-loop file text tokens count cursor₀ at₀ left₀ cursor at left = left
 
--- src/steps.rt:42:5
 loop-holds : tie.Need-loop-holds Inv-loop μ-loop
 loop-holds c = search needs
 
--- src/steps.rt:43:9
 sub-left : tie.Need-sub-left Inv-loop μ-loop
 sub-left c = search needs
 
--- src/steps.rt:44:40
 next-requires : tie.Need-next-requires Inv-loop μ-loop
 next-requires c κs = search needs
 
--- src/steps.rt:44:25
 enum-known-token : tie.Need-enum-known-token Inv-loop μ-loop
 enum-known-token c = search needs
 
--- src/steps.rt:45:13
 enum-told : tie.Need-enum-told Inv-loop μ-loop
 enum-told c = search needs
 
--- src/steps.rt:45:13
 returns : tie.Need-returns Inv-loop μ-loop
 returns c = search needs
 
--- src/steps.rt:47:13
 field-at-requires : tie.Need-field-at-requires Inv-loop μ-loop
 field-at-requires c κs = search needs
 
--- src/steps.rt:48:13
 field-at-requires-2 : tie.Need-field-at-requires-2 Inv-loop μ-loop
 field-at-requires-2 c κs = search needs
 
--- src/steps.rt:49:14
 found-requires : tie.Need-found-requires Inv-loop μ-loop
 found-requires c κs = search needs
 
--- src/steps.rt:49:47
 moved-requires : tie.Need-moved-requires Inv-loop μ-loop
 moved-requires c κs = search needs
 
--- src/steps.rt:50:13
 returns-2 : tie.Need-returns-2 Inv-loop μ-loop
 returns-2 c = search needs
 
--- src/steps.rt:42:5
 loop-less : tie.Need-loop-less Inv-loop μ-loop
 loop-less c = search needs
 
--- src/steps.rt:42:5
 loop-again : tie.Need-loop-again Inv-loop μ-loop
 loop-again c = search needs
 
--- src/steps.rt:38:1
 returns-3 : tie.Need-returns-3 Inv-loop μ-loop
 returns-3 c = search needs
 
