@@ -44,6 +44,32 @@ pub fn well_formed(bytes: &[u8]) -> usize {
 mod tests {
     use super::*;
 
+    /// Document 01's list of white space characters.
+    const WHITE: [u32; 25] = [
+        0x9, 0xA, 0xB, 0xC, 0xD, 0x20, 0x85, 0xA0, 0x1680, 0x2000, 0x2001, 0x2002, 0x2003, 0x2004,
+        0x2005, 0x2006, 0x2007, 0x2008, 0x2009, 0x200A, 0x2028, 0x2029, 0x202F, 0x205F, 0x3000,
+    ];
+
+    /// What `str::trim` removes is document 01's white space, over every scalar value.
+    #[test]
+    fn white_space_is_the_list() {
+        for c in '\0'..=char::MAX {
+            assert_eq!(c.is_whitespace(), WHITE.contains(&(c as u32)), "{c:?}");
+        }
+    }
+
+    /// Upstream lowers sv by Unicode, document 01 by ASCII: no character beyond ASCII lowers into a letter of an sv word.
+    #[test]
+    fn lowering_sv_is_ascii() {
+        for c in '\u{80}'..=char::MAX {
+            let low = c.to_lowercase().to_string();
+            assert!(
+                !low.contains(['n', 's', 'e', 'w', 'b', 'o', 't', 'h', 'a', 'l']),
+                "{c:?}"
+            );
+        }
+    }
+
     #[test]
     fn fresh_board() {
         let Ok(fresh) = lin::parse_lin("");

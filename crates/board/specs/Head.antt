@@ -57,7 +57,7 @@ onCount c v n = on c (ascii "mb") (n + 1) n
 abbrev pub onCard : (s : List ℕ) → List ℕ → Span → ℕ → ℕ
 onCard s c v n = on c (ascii "pc") (more (readCard (trim (bytesAt s v))) n) n
 
--- h has the fields that the tokens ts leave, after those that left h₀
+-- in every field the tokens us leave of h what the tokens ts leave of h₀
 pub record Leaves (s : List ℕ) (ts : List (TokenOf Span)) (h h₀ : Head) (us : List (TokenOf Span)) : Type 0 where
   pub names : over (onNames (spanText s)) (h .names) us ≡ over (onNames (spanText s)) (h₀ .names) ts
   pub md : over (onLast s) (optionOf (h .md)) us ≡ over (onLast s) (optionOf (h₀ .md)) ts

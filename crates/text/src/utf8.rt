@@ -83,7 +83,7 @@ fn char_len(t: &[u8]) -> usize
     n
 }
 
-// Whether there are eight bytes from `i` on, all of them ASCII.
+// Tests eight bytes from `i` on for ASCII. Promised is what the loop needs: where it says true, they are there and are whole characters.
 fn ascii_eight(s: &[u8], i: usize) -> bool
     ensures { λ r. ⌜ (r ≡ true → Eight (now (s .entry)) i) ⌝ }
 {
@@ -103,7 +103,7 @@ fn ascii_eight(s: &[u8], i: usize) -> bool
         & (s[i + 7] <= 0x7F)
 }
 
-// Passes bytes of ASCII from `from` on, by eights, and gives the place after them.
+// Passes bytes of ASCII from `from` on, by eights, and gives the place after them. Promised is that whole characters were passed.
 fn eights_end(s: &[u8], from: usize) -> usize
     ensures { λ r. ⌜ Past (now (s .entry)) from r ⌝ }
 {
@@ -114,7 +114,7 @@ fn eights_end(s: &[u8], from: usize) -> usize
     i
 }
 
-// Passes the bytes of ASCII from `from` on, and gives the place after them.
+// Passes bytes of ASCII from `from` on, and gives the place after them. Promised is that whole characters were passed.
 fn ascii_end(s: &[u8], from: usize) -> usize
     ensures { λ r. ⌜ Past (now (s .entry)) from r ⌝ }
 {
