@@ -16,15 +16,12 @@ use Rattle.lin_spec.specs.Tokens.{TokenOf}
 use Rattle.lin_spec.specs.Tokens.TokenOf.{token}
 use Rattle.lin_spec.specs.Board.{over, on, onNames, onVulnerability, onTitle, onRoom, onHeader, onClaim}
 use Rattle.lin_spec.specs.Cards.{readCard}
-use Rattle.lin_spec.specs.Cursor.{Place, Step, stepAt}
-use Rattle.lin_spec.specs.Cursor.Step.{found, ended}
 use Rattle.lin_spec.specs.Reading.{spanText, stream}
 use Rattle.lin_spec.specs.declared.Span.{Span}
 use Rattle.lin_spec.proofs.Base.{picked}
 use Rattle.lin_spec.proofs.Records.{part-length}
-use Rattle.lin_spec.proofs.Cursor.{Took, means}
-use Rattle.lin_spec.proofs.Reading.{streams}
 use Rattle.board.specs.Commands.{words, commandOf}
+use Rattle.board.specs.Steps.{TokenAt}
 use Rattle.board.specs.Fields.{claimOf, more}
 use Rattle.board.specs.Head.{freshHead, Stepped, onLast, onCount, onCard, Leaves}
 use Rattle.board.specs.declared.heading.Head.{Head}
@@ -89,27 +86,16 @@ begins s at h =
       leaves = record { names = refl; md = refl; vulnerability = refl; title = refl; room = refl; header = refl; claim = refl; calls = refl; cards = refl };
     }
 
-pub ends : (s : List ℕ) (at₀ : ℕ) (h : Head) (at n : ℕ) → Reads s at₀ h at → stepAt s at ≡ ended n → Leaves s (stream s at₀) h freshHead []
-ends s at₀ h at n r e = rw (streams s at (ended n) e) at (r .leaves)
+pub ends : (s : List ℕ) (at₀ : ℕ) (h : Head) (at : ℕ) → Reads s at₀ h at → stream s at ≡ [] → Leaves s (stream s at₀) h freshHead []
+ends s at₀ h at r e = rw e at (r .leaves)
 
-module _ (s : List ℕ) (at₀ : ℕ) (h : Head) (at : ℕ) (i : Reads s at₀ h at) (c v : Place) (n : ℕ) (e : stepAt s at ≡ found c v n) where
-  m : Took s at c v n
-  m = means s at (found c v n) e
-
-  pub value-within : v .start + v .len ≤ length s
-  value-within = let a = m .after in let w = m .within in omega arith
-
-  pub next-more : (at < n) × (n ≤ length s)
-  next-more = let a = m .after in let b = m .split in (omega arith, m .within)
-
-  pub turn : (k : ℕ) → k ≡ commandOf (part s (c .start) (c .len)) → (r : Head) → Stepped s h k (span (v .start) (v .len)) r → Reads s at₀ r n
-  turn k ek r p =
-      let x = part s (c .start) (c .len) in
-      let y = span (v .start) (v .len) in
-      let l : Leaves s (stream s at₀) h freshHead (token x y ∷ stream s n) = rw (streams s at (found c v n) e) at (i .leaves) in
-      let a = calls-most s (stream s at₀) (stream s n) h freshHead x y value-within k ek r p in
-      let b = cards-most s (stream s at₀) (stream s n) h freshHead x y value-within k ek r p in
-      let q = next-more .0 in
-      let w = i .calls in
-      let z = i .cards in
-      record { within = m .within; calls = omega arith; cards = omega arith; leaves = head-turn s (stream s at₀) (stream s n) h freshHead x y value-within k ek r p l }
+pub turn : (s : List ℕ) (at₀ : ℕ) (h : Head) (at : ℕ) → Reads s at₀ h at → (k : ℕ) (v : Span) (n : ℕ) → TokenAt s at k v n → (r : Head) → Stepped s h k v r → Reads s at₀ r n
+turn s at₀ h at i k v n t r p =
+    let x = t .command in
+    let l : Leaves s (stream s at₀) h freshHead (token x v ∷ stream s n) = rw (t .front) at (i .leaves) in
+    let a = calls-most s (stream s at₀) (stream s n) h freshHead x v (t .value) k (t .number) r p in
+    let b = cards-most s (stream s at₀) (stream s n) h freshHead x v (t .value) k (t .number) r p in
+    let q = t .later in
+    let w = i .calls in
+    let z = i .cards in
+    record { within = t .within; calls = omega arith; cards = omega arith; leaves = head-turn s (stream s at₀) (stream s n) h freshHead x v (t .value) k (t .number) r p l }

@@ -48,8 +48,8 @@ pub(crate) fn on_value(on: bool, v: Span, old: MaybeSpan) -> MaybeSpan
     MaybeSpan::Present(v)
 }
 
-// ah: the value, even empty.
-pub(crate) fn on_header(on: bool, v: Span, old: MaybeSpan) -> MaybeSpan
+// ah and an: the value, even empty.
+pub(crate) fn on_present(on: bool, v: Span, old: MaybeSpan) -> MaybeSpan
     ensures { λ r. ⌜ optionOf r ≡ pick on (some v) (optionOf old) ⌝ }
 {
     if !on {

@@ -8,18 +8,17 @@ use crate::commands::PC;
 use crate::commands::PN;
 use crate::commands::QX;
 use crate::commands::SV;
-use crate::commands::command_of;
 use crate::fields::on_card;
 use crate::fields::on_claim;
 use crate::fields::on_count;
-use crate::fields::on_header;
 use crate::fields::on_md;
 use crate::fields::on_names;
+use crate::fields::on_present;
 use crate::fields::on_sv;
 use crate::fields::on_value;
+use crate::steps::Known;
+use crate::steps::next_known;
 use document::Cursor;
-use document::Step;
-use document::command;
 use lin_spec::MaybeClaim;
 use lin_spec::MaybeSpan;
 use lin_spec::Span;
@@ -62,7 +61,7 @@ fn step(text: &[u8], h: Head, k: u8, v: Span) -> Head
     let vulnerability = on_sv(text, k == SV, v, old_vulnerability);
     let title = on_value(k == MN, v, old_title);
     let room = on_value(k == QX, v, old_room);
-    let header = on_header(k == AH, v, old_header);
+    let header = on_present(k == AH, v, old_header);
     let claim = on_claim(text, k == MC, v, old_claim);
     let calls = on_count(k == MB, h.calls);
     let cards = on_card(text, k == PC, v, h.cards);
@@ -105,18 +104,12 @@ pub(crate) fn read_head(text: &[u8], at: usize) -> Head
     let mut h = fresh_head();
     let mut cursor = Cursor { at };
     loop {
-        match cursor.next(text) {
-            Step::Found(t, c) => {
-                let k = command_of(command(text, t));
-                let value = t.value;
-                let v = Span {
-                    start: value.start as u32,
-                    len: value.len as u32,
-                };
+        match next_known(text, cursor) {
+            Known::Token(k, v, c) => {
                 h = step(text, h, k, v);
                 cursor = c;
             }
-            Step::Ended(_) => {
+            Known::Ended => {
                 return h;
             }
         }

@@ -27,6 +27,19 @@ unless-same [] a b h = cc
 unless-same (none ∷ cs) a b h = unless-same cs a b h
 unless-same (some r ∷ cs) a b h = let z : _≡_ {A = ℕ} 0 1 = cc in absurd (omega arith)
 
+-- the first checks refuse whatever the result would be and whatever checks follow; where they accept, those that follow decide
+pub unless-refused : {A B : Type 0} (cs ds : List (Option Refusal)) (a : A) (b : B) (r : Refusal) → unless cs a ≡ refused r → unless (cs ++ ds) b ≡ refused r
+unfolding unless
+unless-refused [] ds a b r h = let z : _≡_ {A = ℕ} 0 1 = cc in absurd (omega arith)
+unless-refused (none ∷ cs) ds a b r h = unless-refused cs ds a b r h
+unless-refused (some x ∷ cs) ds a b r h = cc
+
+pub unless-passed : {A B : Type 0} (cs ds : List (Option Refusal)) (a x : A) (b : B) → unless cs a ≡ accepted x → unless (cs ++ ds) b ≡ unless ds b
+unfolding unless
+unless-passed [] ds a x b h = refl
+unless-passed (none ∷ cs) ds a x b h = unless-passed cs ds a x b h
+unless-passed (some r ∷ cs) ds a x b h = let z : _≡_ {A = ℕ} 0 1 = cc in absurd (omega arith)
+
 -- an output that was filled
 pub record Filled (cs : List (Option Refusal)) (o s : List ℕ) (n : ℕ) (o′ : List ℕ) : Type 0 where
   pub answer : unless cs (length s) ≡ accepted n

@@ -38,11 +38,11 @@ pub record Opened (s : List ℕ) : Type 0 where
   pub short : length s ≤ limit
   pub good : utf8 s ≡ true
 
-pub opened : (s : List ℕ) → openText s ≡ accepted 0 → Opened s
+pub opened : (s : List ℕ) {n : ℕ} → openText s ≡ accepted n → Opened s
 unfolding openText
-opened s h =
-    let p = unmet (ltb limit (length s)) _ _ 0 0 h in
-    let q = unmet (not (utf8 s)) _ [] 0 0 (p .1) in
+opened s {n} h =
+    let p = unmet (ltb limit (length s)) _ _ 0 n h in
+    let q = unmet (not (utf8 s)) _ [] 0 n (p .1) in
     record { short = ltb-false limit (length s) (p .0); good = not-false (utf8 s) (q .0) }
 
 pub open-accepts : (s : List ℕ) → Opened s → openText s ≡ accepted 0

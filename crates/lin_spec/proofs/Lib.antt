@@ -7,5 +7,6 @@ pub mod Cursor
 pub mod Checks
 pub mod Document
 pub mod Cards
+pub mod Rules
 pub mod Reading
 pub mod Cases

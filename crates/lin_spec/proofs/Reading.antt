@@ -23,17 +23,21 @@ use Rattle.lin_spec.specs.declared.Span.{Span}
 use Rattle.lin_spec.proofs.Base.{picked}
 use Rattle.lin_spec.proofs.Tokens.{joined, Whole, joined-cut, whole-cut, cut-joined}
 use Rattle.lin_spec.proofs.Cursor.{after-piece}
+use Rattle.lin_spec.proofs.Rules.{over-change}
 
 abbrev pub mapToken : {A B : Type 0} → (A → B) → TokenOf A → TokenOf B
 mapToken f (token c v) = token c (f v)
 
 -- a fold over changed tokens is the changed fold, if each step is
+over-tokens : {A B C : Type 0} (g : A → B) (f : List ℕ → B → C → C) (ts : List (TokenOf A)) (b : C) → over (λ c v. f c (g v)) b ts ≡ over f b (map (mapToken g) ts)
+unfolding over
+over-tokens g f [] b = refl
+over-tokens g f (token c v ∷ ts) b = over-tokens g f ts (f c (g v) b)
+
 pub over-map : {A B C D : Type 0} (g : A → B) (h : C → D) (f : List ℕ → A → C → C) (f′ : List ℕ → B → D → D)
     → ((c : List ℕ) (v : A) (x : C) → h (f c v x) ≡ f′ c (g v) (h x)) → (ts : List (TokenOf A)) (b : C)
     → h (over f b ts) ≡ over f′ (h b) (map (mapToken g) ts)
-unfolding over
-over-map g h f f′ e [] b = refl
-over-map g h f f′ e (token c v ∷ ts) b = over-map g h f f′ e ts (f c v b) ∙ ap (λ x. over f′ x (map (mapToken g) ts)) (e c v b)
+over-map g h f f′ e ts b = over-change h f (λ c v. f′ c (g v)) e ts b ∙ over-tokens g f′ ts (h b)
 
 -- a change by a command, changed
 on-map : {C D : Type 0} (h : C → D) (t : Bool) (x y : C) → h (pick t x y) ≡ pick t (h x) (h y)
@@ -156,11 +160,6 @@ calls-out s c v b =
     on-map f (isCommand c (ascii "mb")) _ _
     ∙ simp (map-append (mapCall (bytesAt s)) b (callOf (spanText s) v ∷ []), call-out s v, on-map f (isCommand c (ascii "an")) (annotated v b) b, annotated-out (bytesAt s) v b)
 
--- a field that is only read from the bytes is the same
-same-out : {B : Type 0} (s : List ℕ) (f : List ℕ → List ℕ → B → B) (ts : List (TokenOf Span)) (b : B)
-    → over (λ c v. f c (bytesAt s v)) b ts ≡ over f b (map (mapToken (bytesAt s)) ts)
-same-out s f ts b = over-map (bytesAt s) (λ x. x) (λ c v. f c (bytesAt s v)) f (λ c v x. refl) ts b
-
 -- boards that agree in every field
 pub board-eq : {A : Type 0} {b c : BoardOf A} → b .names ≡ c .names → b .dealt ≡ c .dealt → b .vulnerability ≡ c .vulnerability → b .title ≡ c .title
     → b .room ≡ c .room → b .header ≡ c .header → b .calls ≡ c .calls → b .play ≡ c .play → b .claim ≡ c .claim → b ≡ c
@@ -173,14 +172,14 @@ board-out s ts =
     let f = bytesAt s in
     board-eq
     (over-map f (map f) (onNames (spanText s)) (onNames bytesText) (names-on s) ts _)
-    (same-out s (onDealt bytesText) ts _)
-    (same-out s (onVulnerability bytesText) ts _)
+    (over-tokens f (onDealt bytesText) ts _)
+    (over-tokens f (onVulnerability bytesText) ts _)
     (over-map f (mapOption f) (onTitle (spanText s)) (onTitle bytesText) (value-on s (ascii "mn")) ts _)
     (over-map f (mapOption f) (onRoom (spanText s)) (onRoom bytesText) (value-on s (ascii "qx")) ts _)
     (over-map f (mapOption f) (onHeader (spanText s)) (onHeader bytesText) (λ c v b. on-map (mapOption f) (isCommand c (ascii "ah")) _ b) ts _)
     (over-map f (map (mapCall f)) (onCalls (spanText s)) (onCalls bytesText) (calls-out s) ts _)
-    (same-out s (onPlay bytesText) ts _)
-    (same-out s (onClaim bytesText) ts _)
+    (over-tokens f (onPlay bytesText) ts _)
+    (over-tokens f (onClaim bytesText) ts _)
 
 pub spans-out : (s : List ℕ) → mapBoard (bytesAt s) (parseSpans s) ≡ parseLin s
 unfolding parseSpans parseLin stream

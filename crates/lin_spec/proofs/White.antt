@@ -340,3 +340,21 @@ trim-blank s = go (skipWhite 0 s) (skip-twice 0 s)
     go : (x : List ℕ) → skipWhite 0 x ≡ x → null (trimEnd x) ≡ null x
     go [] e = refl
     go (b ∷ x) e = simp e
+
+-- Trimming makes no text longer.
+
+skip-most : (n : ℕ) (s : List ℕ) → length (skipWhite n s) ≤ length s
+unfolding skipWhite
+skip-most n [] = omega arith
+skip-most zero (b ∷ s) =
+    picked (λ (x : List ℕ). length x ≤ suc (length s)) (eqb (whiteAt (b ∷ s)) 0) (λ _. omega arith) (λ _. let h = skip-most (whiteAt (b ∷ s) - 1) s in omega arith)
+skip-most (suc n) (b ∷ s) = let h = skip-most n s in omega arith
+
+end-most : (s : List ℕ) → length (trimEnd s) ≤ length s
+unfolding trimEnd
+end-most [] = omega arith
+end-most (b ∷ s) = picked (λ (x : List ℕ). length x ≤ suc (length s)) (blank (b ∷ s)) (λ _. omega arith) (λ _. let h = end-most s in omega arith)
+
+pub trim-most : (s : List ℕ) → length (trim s) ≤ length s
+unfolding trim trimStart
+trim-most s = let h = end-most (skipWhite 0 s) in let k = skip-most 0 s in omega arith

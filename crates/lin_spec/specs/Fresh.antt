@@ -1,4 +1,4 @@
--- A deal and a board before the first token, as the declared types hold them. (01: Records; Board, "Start ..")
+-- A deal and a board before the first token, and what a refused call gives for a heading, as the declared types hold them. (01: Records; Board, "Start ..")
 use Prim.Native.Nat.{ℕ}
 use mathlib.Core.List.{List, [], _∷_}
 use lib.ListN.{replicate}
@@ -9,6 +9,9 @@ use Rattle.lin_spec.specs.declared.MaybeSpan.the-variants.{Absent}
 use Rattle.lin_spec.specs.declared.MaybeClaim.the-variants.{Absent as NoClaim}
 use Rattle.lin_spec.specs.declared.Deal.{Deal}
 use Rattle.lin_spec.specs.declared.Board.{Board}
+use Rattle.lin_spec.specs.declared.Refusal.{Refusal}
+use Rattle.lin_spec.specs.declared.Verdict.the-variants.{Refused}
+use Rattle.lin_spec.specs.declared.Heading.{Heading}
 
 -- "a fresh one holds 208 zeros"
 abbrev pub freshDeal : Deal
@@ -27,3 +30,6 @@ freshBoard =
       «board_header» = Absent;
       claim = NoClaim;
     }
+
+abbrev pub refusedHeading : Refusal → Heading
+refusedHeading r = record { verdict = Refused r; board = freshBoard; calls = 0; cards = 0 }

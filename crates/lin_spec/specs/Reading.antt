@@ -10,14 +10,21 @@ use Rattle.lin_spec.specs.Tokens.{Pieces, cut, pipe, TokenOf, tokens}
 use Rattle.lin_spec.specs.Tokens.Pieces.{end, piece}
 use Rattle.lin_spec.specs.Tokens.TokenOf.{token}
 use Rattle.lin_spec.specs.Refusals.{Answer, refuseIf, unless, tooLong, notUtf8}
-use Rattle.lin_spec.specs.Output.{outputAfter}
-use Rattle.lin_spec.specs.Board.{CallOf, Dealt, BoardOf, Text, boardFrom}
+use Rattle.lin_spec.specs.Refusals.Answer.{refused, accepted}
+use Rattle.lin_spec.specs.Output.{overlay}
+use Rattle.lin_spec.specs.Board.{CallOf, BoardOf, Text, boardFrom}
+use Rattle.lin_spec.specs.Fresh.{refusedHeading}
 use Rattle.lin_spec.specs.declared.Span.{Span}
 use Rattle.lin_spec.specs.declared.RowKind.{RowKind}
 use Rattle.lin_spec.specs.declared.RowKind.the-variants.{Calls, Cards}
 use Rattle.lin_spec.specs.declared.Refusal.{Refusal}
 use Rattle.lin_spec.specs.declared.Refusal.the-variants.{TooFewRows}
-use Rattle.lin_spec.specs.declared.Vulnerability.{Vulnerability}
+use Rattle.lin_spec.specs.declared.MaybeSpan.{MaybeSpan}
+use Rattle.lin_spec.specs.declared.MaybeSpan.the-variants.{Absent, Present}
+use Rattle.lin_spec.specs.declared.MaybeClaim.{MaybeClaim}
+use Rattle.lin_spec.specs.declared.MaybeClaim.the-variants.{Absent as NoClaim, Claimed}
+use Rattle.lin_spec.specs.declared.Verdict.the-variants.{Accepted}
+use Rattle.lin_spec.specs.declared.Heading.{Heading}
 
 -- texts as bytes, for what a board means; and as spans into s, for what an entry answers
 abbrev pub bytesText : Text (List ℕ)
@@ -45,34 +52,41 @@ parseLin s = boardFrom bytesText (tokens s)
 unfoldable pub parseSpans : List ℕ → BoardOf Span
 parseSpans s = boardFrom (spanText s) (stream s 0)
 
--- "A heading call gives everything but rows, with the numbers of calls and cards."
-pub record Heading : Type 0 where
-  pub names : List Span
-  pub dealt : Dealt
-  pub vulnerability : Vulnerability
-  pub title : Option Span
-  pub room : Option Span
-  pub header : Option Span
-  pub claim : Option ℕ
-  pub calls : ℕ
-  pub cards : ℕ
+-- a span or a claim "or absent", as the declared types hold it
+abbrev pub maybeOf : Option Span → MaybeSpan
+maybeOf none = Absent
+maybeOf (some x) = Present x
 
-unfoldable pub headingOf : BoardOf Span → Heading
+abbrev pub claimedOf : Option ℕ → MaybeClaim
+claimedOf none = NoClaim
+claimedOf (some n) = Claimed n
+
+-- "A heading call gives everything but rows, with the numbers of calls and cards."
+abbrev pub headingOf : BoardOf Span → Heading
 headingOf b =
     record {
-      names = b .names;
-      dealt = b .dealt;
-      vulnerability = b .vulnerability;
-      title = b .title;
-      room = b .room;
-      header = b .header;
-      claim = b .claim;
+      verdict = Accepted;
+      board =
+          record {
+            names = b .names;
+            dealer = b .dealt .dealer;
+            deal = record { counts = b .dealt .deal };
+            vulnerability = b .vulnerability;
+            title = maybeOf (b .title);
+            «room_board» = maybeOf (b .room);
+            «board_header» = maybeOf (b .header);
+            claim = claimedOf (b .claim);
+          };
       calls = length (b .calls);
       cards = length (b .play);
     }
 
-unfoldable pub readHeading : List ℕ → Answer Heading
-readHeading s = unless (tooLong s ∷ notUtf8 s ∷ []) (headingOf (parseSpans s))
+abbrev pub headed : Answer (BoardOf Span) → Heading
+headed (refused r) = refusedHeading r
+headed (accepted b) = headingOf b
+
+unfoldable pub readHeading : List ℕ → Heading
+readHeading s = headed (unless (tooLong s ∷ notUtf8 s ∷ []) (parseSpans s))
 
 -- a call row as six words: bid start and length, alerted, annotated, annotation start and length
 abbrev pub flag : Bool → ℕ
@@ -91,14 +105,21 @@ callWords (c ∷ cs) = c .bid .start ∷ c .bid .len ∷ flag (c .alerted) ∷ (
 abbrev pub tooFew : (kind : RowKind) (rows needed : ℕ) → Option Refusal
 tooFew k rows needed = refuseIf (ltb rows needed) (TooFewRows k needed)
 
--- the answer, and the rows and cards afterwards
+abbrev pub fewRows : BoardOf Span → (rows cards : List ℕ) → List (Option Refusal)
+fewRows b rows cards = tooFew Calls (length rows / 6) (length (b .calls)) ∷ tooFew Cards (length cards) (length (b .play)) ∷ []
+
+-- the heading, and the rows and cards afterwards
 pub record Reading : Type 0 where
-  pub answer : Answer Heading
+  pub heading : Heading
   pub rows : List ℕ
   pub cards : List ℕ
+
+-- "All lent memory stays. Rows and bytes not named by a success stay too."
+abbrev pub stored : Answer (BoardOf Span) → (rows cards : List ℕ) → Reading
+stored (refused r) rows cards = record { heading = refusedHeading r; rows = rows; cards = cards }
+stored (accepted b) rows cards = record { heading = headingOf b; rows = overlay rows 0 (callWords (b .calls)); cards = overlay cards 0 (b .play) }
 
 unfoldable pub readBoard : (s rows cards : List ℕ) → Reading
 readBoard s rows cards =
     let b = parseSpans s in
-    let a = unless (tooLong s ∷ notUtf8 s ∷ tooFew Calls (length rows / 6) (length (b .calls)) ∷ tooFew Cards (length cards) (length (b .play)) ∷ []) (headingOf b) in
-    record { answer = a; rows = outputAfter a rows (callWords (b .calls)); cards = outputAfter a cards (b .play) }
+    stored (unless (tooLong s ∷ notUtf8 s ∷ fewRows b rows cards) b) rows cards

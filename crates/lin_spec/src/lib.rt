@@ -1,6 +1,6 @@
 // The types that the entries share: spans, boards, refusals and what a writer answers. (01: Records, Eight refusals)
 ghost use mathlib.Core.Path.{_≡_};
-ghost use Rattle.lin_spec.specs.Fresh.{freshDeal, freshBoard};
+ghost use Rattle.lin_spec.specs.Fresh.{freshDeal, freshBoard, refusedHeading};
 ghost use Prim.Native.Nat.{min};
 ghost use Rattle.lin_spec.specs.Records.{limit};
 ghost use Rattle.lin_spec.specs.Refusals.{numberOf, kindOf, carriedOf};
@@ -171,6 +171,36 @@ impl Board {
             room_board: MaybeSpan::Absent,
             board_header: MaybeSpan::Absent,
             claim: MaybeClaim::Absent,
+        }
+    }
+}
+
+// Whether a call was accepted, or the refusal that met it.
+pub enum Verdict {
+    Accepted,
+    Refused(Refusal),
+}
+
+// A board without its rows, and how many calls and cards it has. A refusal gives a fresh board, and none.
+pub struct Heading {
+    pub verdict: Verdict,
+    pub board: Board,
+    pub calls: usize,
+    pub cards: usize,
+}
+
+impl Heading {
+    // What a refused call gives.
+    pub fn refused(r: Refusal) -> Self
+        ensures { λ h. ⌜ h ≡ refusedHeading r ⌝ }
+    {
+        let verdict = Verdict::Refused(r);
+        let board = Board::new();
+        Heading {
+            verdict,
+            board,
+            calls: 0,
+            cards: 0,
         }
     }
 }

@@ -1,4 +1,4 @@
-// Bytes put into a lent output, one text after the other, and lengths that stop at the largest number. Nothing of LIN.
+// Bytes and words put into a lent output, one text after the other, and lengths that stop at the largest number. Nothing of LIN.
 // (01: Writer, "Every output's room ..", and refusal 7)
 ghost use mathlib.Core.Path.{_≡_};
 ghost use mathlib.Core.List.{_∷_, []};
@@ -11,6 +11,14 @@ pub fn put_byte(out: &mut [u8], at: usize, b: u8) -> usize
     ensures { λ r. ⌜ Put (now (out .entry)) at (b ∷ []) (now (out .exit)) r ⌝ }
 {
     out[at] = b;
+    at + 1
+}
+
+pub fn put_word(out: &mut [u32], at: usize, w: u32) -> usize
+    requires { ⌜ Room (now out) at (w ∷ []) ⌝ }
+    ensures { λ r. ⌜ Put (now (out .entry)) at (w ∷ []) (now (out .exit)) r ⌝ }
+{
+    out[at] = w;
     at + 1
 }
 

@@ -1,0 +1,293 @@
+-- Laws of the board reader: the calls and cards one at a time are the board's, the heading's numbers are their lengths, and what the entries give. (01: Board)
+-- Assumes nothing.
+use Prim.Native.Nat.{ℕ, zero, suc, _+_, _*_, _/_, _≤_, _<_, _^_}
+use native.Mathlib.Omega.{arith}
+use native.Mathlib.Nat.{zero-add}
+use mathlib.Core.Path.{_≡_, refl, ap, sym, subst, _∙_}
+use mathlib.Core.Bool.{Bool, true, false}
+use mathlib.Core.List.{List, [], _∷_, _++_, append-assoc, append-nil}
+use mathlib.Core.Option.{Option, none, some}
+use lib.ListN.{length, length-append}
+use lib.Dec.{eqb, ltb}
+use borrow.Author.Tests.{lt-ltb, le-ltb}
+use Rattle.lin_spec.specs.Base.{pick, ascii}
+use Rattle.lin_spec.specs.Records.{span, optionOf, bytesAt}
+use Rattle.lin_spec.specs.White.{trim, isCommand}
+use Rattle.lin_spec.specs.Tokens.{TokenOf}
+use Rattle.lin_spec.specs.Tokens.TokenOf.{token}
+use Rattle.lin_spec.specs.Cards.{readCard}
+use Rattle.lin_spec.specs.Board.{CallOf, Dealt as DealtBy, BoardOf, callOf, annotated, played, undealt, over, onDealt, onCalls, onPlay, boardFrom}
+use Rattle.lin_spec.specs.Reading.{spanText, stream, parseSpans, flag, maybeOf, claimedOf, headingOf, headed, readHeading, annotationWords, callWords, fewRows, stored, readBoard}
+use Rattle.lin_spec.specs.Fresh.{refusedHeading}
+use Rattle.lin_spec.specs.Refusals.{Answer, unless, tooLong, notUtf8}
+use Rattle.lin_spec.specs.Refusals.Answer.{refused, accepted}
+use Rattle.lin_spec.specs.Document.{openText}
+use Rattle.lin_spec.specs.declared.RowKind.the-variants.{Calls, Cards}
+use Rattle.lin_spec.specs.declared.Refusal.{Refusal}
+use Rattle.lin_spec.specs.declared.Refusal.the-variants.{TooFewRows}
+use Rattle.lin_spec.specs.declared.Span.{Span}
+use Rattle.lin_spec.specs.declared.MaybeSpan.{MaybeSpan}
+use Rattle.lin_spec.specs.declared.MaybeSpan.the-variants.{Absent, Present}
+use Rattle.lin_spec.specs.declared.MaybeClaim.{MaybeClaim}
+use Rattle.lin_spec.specs.declared.MaybeClaim.the-variants.{Absent as NoClaim, Claimed}
+use Rattle.lin_spec.specs.declared.Verdict.the-variants.{Accepted}
+use Rattle.lin_spec.specs.declared.Heading.{Heading}
+use Rattle.lin_spec.specs.declared.Board.{Board}
+use Rattle.lin_spec.proofs.Rules.{over-change}
+use Rattle.lin_spec.proofs.Checks.{unless-refused, unless-passed}
+use Rattle.lin_spec.proofs.Document.{opened}
+use Rattle.output.specs.Put.{Room, Put}
+use Rattle.output.proofs.Laws.{Left, start}
+use Rattle.document.specs.Steps.{openedOf}
+use Rattle.document.specs.declared.tokens.Cursor.{Cursor}
+use Rattle.document.specs.declared.tokens.Opened.{Opened}
+use Rattle.document.specs.declared.tokens.Opened.the-variants.{At, Refused}
+use Rattle.board.specs.Fields.{claimOf, more}
+use Rattle.board.specs.Head.{freshHead, onLast, onCount, onCard, Leaves}
+use Rattle.board.specs.Dealing.{held, dealtFrom}
+use Rattle.board.specs.Calls.{isPresent, placeOf, rowOf, rowWords, with, callsAfter, callsFrom, CallAt, Gives as Call·Gives}
+use Rattle.board.specs.Play.{before, cardsFrom, Gives as Card·Gives}
+use Rattle.board.specs.Reader.{boardAt}
+use Rattle.board.specs.declared.heading.Head.{Head}
+use Rattle.board.specs.declared.dealing.Dealt.{Dealt}
+use Rattle.board.specs.declared.calls.Call.{Call}
+use Rattle.board.specs.declared.calls.NextCall.{NextCall}
+use Rattle.board.specs.declared.play.NextCard.{NextCard}
+use Rattle.board.proofs.DealingLaws.{dealt-last}
+
+-- The calls one at a time are the board's
+
+annotated-last : (v : Span) (cs : List (CallOf Span)) (c : CallOf Span) (a : Option Span) → annotated v (cs ++ (with c a ∷ [])) ≡ cs ++ (with c (some v) ∷ [])
+unfolding annotated
+annotated-last v [] c a = refl
+annotated-last v (x ∷ []) c a = refl
+annotated-last v (x ∷ y ∷ cs) c a = ap (λ (l : List (CallOf Span)). x ∷ l) (annotated-last v (y ∷ cs) c a)
+
+calls-after : (s : List ℕ) (ts : List (TokenOf Span)) (cs : List (CallOf Span)) (c : CallOf Span) (a : Option Span) → over (onCalls (spanText s)) (cs ++ (with c a ∷ [])) ts ≡ cs ++ callsAfter s c a ts
+unfolding over callsAfter
+calls-after s [] cs c a = refl
+calls-after s (token w v ∷ ts) cs c a = go (isCommand w (ascii "mb")) (isCommand w (ascii "an"))
+    (calls-after s ts (cs ++ (with c a ∷ [])) (callOf (spanText s) v) none) (calls-after s ts cs c)
+  where
+    go : (m n : Bool) → over (onCalls (spanText s)) (cs ++ (with c a ∷ []) ++ (callOf (spanText s) v ∷ [])) ts ≡ cs ++ (with c a ∷ []) ++ callsAfter s (callOf (spanText s) v) none ts
+        → ((o : Option Span) → over (onCalls (spanText s)) (cs ++ (with c o ∷ [])) ts ≡ cs ++ callsAfter s c o ts)
+        → over (onCalls (spanText s)) (pick m (cs ++ (with c a ∷ []) ++ (callOf (spanText s) v ∷ [])) (pick n (annotated v (cs ++ (with c a ∷ []))) (cs ++ (with c a ∷ [])))) ts
+        ≡ cs ++ pick m (with c a ∷ callsAfter s (callOf (spanText s) v) none ts) (callsAfter s c (pick n (some v) a) ts)
+    go true n f g = f ∙ append-assoc cs (with c a ∷ []) _
+    go false true f g = ap (λ (l : List (CallOf Span)). over (onCalls (spanText s)) l ts) (annotated-last v cs c a) ∙ g (some v)
+    go false false f g = g a
+
+pub calls-are : (s : List ℕ) (ts : List (TokenOf Span)) → over (onCalls (spanText s)) [] ts ≡ callsFrom s ts
+unfolding over callsFrom
+calls-are s [] = refl
+calls-are s (token w v ∷ ts) = go (isCommand w (ascii "mb")) (isCommand w (ascii "an")) (calls-after s ts [] (callOf (spanText s) v) none) (calls-are s ts)
+  where
+    go : (m n : Bool) → over (onCalls (spanText s)) (callOf (spanText s) v ∷ []) ts ≡ callsAfter s (callOf (spanText s) v) none ts → over (onCalls (spanText s)) [] ts ≡ callsFrom s ts
+        → over (onCalls (spanText s)) (pick m (callOf (spanText s) v ∷ []) (pick n (annotated v []) [])) ts ≡ pick m (callsAfter s (callOf (spanText s) v) none ts) (callsFrom s ts)
+    go true n f g = f
+    go false true f g = unfold annotated in g
+    go false false f g = g
+
+-- The cards one at a time are the board's
+
+pub cards-after : (s : List ℕ) (ts : List (TokenOf Span)) (cs : List ℕ) → over (onPlay (spanText s)) cs ts ≡ cs ++ cardsFrom s ts
+unfolding over cardsFrom
+cards-after s [] cs = sym (append-nil cs)
+cards-after s (token w v ∷ ts) cs = go (isCommand w (ascii "pc")) (readCard (trim (bytesAt s v))) (cards-after s ts)
+  where
+    go : (m : Bool) (o : Option ℕ) → ((x : List ℕ) → over (onPlay (spanText s)) x ts ≡ x ++ cardsFrom s ts) → over (onPlay (spanText s)) (pick m (played o cs) cs) ts ≡ cs ++ before (pick m o none) (cardsFrom s ts)
+    go true none f = f cs
+    go true (some c) f = f (cs ++ (c ∷ [])) ∙ append-assoc cs (c ∷ []) _
+    go false o f = f cs
+
+-- A heading's counts are the lengths of the board's lists
+
+annotated-length : (v : Span) (cs : List (CallOf Span)) → length (annotated v cs) ≡ length cs
+unfolding annotated
+annotated-length v [] = refl
+annotated-length v (c ∷ []) = refl
+annotated-length v (c ∷ d ∷ cs) = ap suc (annotated-length v (d ∷ cs))
+
+calls-count : (s : List ℕ) (ts : List (TokenOf Span)) → length (over (onCalls (spanText s)) [] ts) ≡ over onCount 0 ts
+calls-count s ts = over-change length (onCalls (spanText s)) onCount step ts []
+  where
+    step : (c : List ℕ) (v : Span) (cs : List (CallOf Span)) → length (onCalls (spanText s) c v cs) ≡ onCount c v (length cs)
+    step c v cs = go (isCommand c (ascii "mb")) (isCommand c (ascii "an"))
+      where
+        go : (m n : Bool) → length (pick m (cs ++ (callOf (spanText s) v ∷ [])) (pick n (annotated v cs) cs)) ≡ pick m (length cs + 1) (length cs)
+        go true n = length-append cs (callOf (spanText s) v ∷ [])
+        go false true = annotated-length v cs
+        go false false = refl
+
+cards-count : (s : List ℕ) (ts : List (TokenOf Span)) → length (over (onPlay (spanText s)) [] ts) ≡ over (onCard s) 0 ts
+cards-count s ts = over-change length (onPlay (spanText s)) (onCard s) step ts []
+  where
+    step : (c : List ℕ) (v : Span) (cs : List ℕ) → length (onPlay (spanText s) c v cs) ≡ onCard s c v (length cs)
+    step c v cs = go (isCommand c (ascii "pc")) (readCard (trim (bytesAt s v)))
+      where
+        go : (m : Bool) (o : Option ℕ) → length (pick m (played o cs) cs) ≡ pick m (more o (length cs)) (length cs)
+        go true none = refl
+        go true (some c) = length-append cs (c ∷ [])
+        go false o = refl
+
+-- The heading that was read is the board's
+
+maybe-is : (m : MaybeSpan) {o : Option Span} → optionOf m ≡ o → m ≡ maybeOf o
+maybe-is Absent e = ap maybeOf e
+maybe-is (Present x) e = ap maybeOf e
+
+claim-is : (m : MaybeClaim) {o : Option ℕ} → claimOf m ≡ o → m ≡ claimedOf o
+claim-is NoClaim e = ap claimedOf e
+claim-is (Claimed n) e = ap claimedOf e
+
+pub read-heading : (s : List ℕ) (at : ℕ) (h : Head) (d : Dealt) → Leaves s (stream s at) h freshHead [] → held d ≡ dealtFrom s (optionOf (h .md))
+    → record {
+      verdict = Accepted;
+      board =
+          record {
+            names = h .names;
+            dealer = d .dealer;
+            deal = d .deal;
+            vulnerability = h .vulnerability;
+            title = h .title;
+            «room_board» = h .room;
+            «board_header» = h .header;
+            claim = h .claim;
+          };
+      calls = h .calls;
+      cards = h .cards;
+    } ≡ headingOf (boardAt s at)
+unfolding boardFrom over
+read-heading s at h d l e =
+    let ts = stream s at in
+    let q : held d ≡ over (onDealt (spanText s)) undealt ts = e ∙ ap (dealtFrom s) (l .md) ∙ dealt-last s ts in
+    λ i.
+    record {
+      verdict = Accepted;
+      board =
+          record {
+            names = l .names i;
+            dealer = q i .dealer;
+            deal = record { counts = q i .deal };
+            vulnerability = l .vulnerability i;
+            title = maybe-is (h .title) (l .title) i;
+            «room_board» = maybe-is (h .room) (l .room) i;
+            «board_header» = maybe-is (h .header) (l .header) i;
+            claim = claim-is (h .claim) (l .claim) i;
+          };
+      calls = (l .calls ∙ sym (calls-count s ts)) i;
+      cards = (l .cards ∙ sym (cards-count s ts)) i;
+    }
+
+-- Rows of six words
+
+words-cons : (c : CallOf Span) (cs : List (CallOf Span)) → callWords (c ∷ cs) ≡ rowWords (rowOf c) ++ callWords cs
+unfolding callWords rowWords
+words-cons c cs = go (c .annotation)
+  where
+    go : (o : Option Span)
+        → c .bid .start ∷ c .bid .len ∷ flag (c .alerted) ∷ (annotationWords o ++ callWords cs)
+        ≡ c .bid .start ∷ c .bid .len ∷ flag (c .alerted) ∷ isPresent o ∷ placeOf o .start ∷ placeOf o .len ∷ callWords cs
+    go none = refl
+    go (some x) = refl
+
+pub words-length : (cs : List (CallOf Span)) → length (callWords cs) ≡ 6 * length cs
+unfolding callWords rowWords
+words-length [] = refl
+words-length (c ∷ cs) = ap length (words-cons c cs) ∙ (let h = words-length cs in omega arith)
+
+-- what a call or a card that was called for and taken apart says
+pub given-call : (s : List ℕ) (at : ℕ) (r v : NextCall) → Call·Gives s at r → r ≡ v → Call·Gives s at v
+given-call s at r v h e = subst (Call·Gives s at) e h
+
+pub given-card : (s : List ℕ) (at : ℕ) (r v : NextCard) → Card·Gives s at r → r ≡ v → Card·Gives s at v
+given-card s at r v h e = subst (Card·Gives s at) e h
+
+-- what is left to store: a call and the others, or nothing
+module _ (s : List ℕ) (at : ℕ) {d : List ℕ} {pos : ℕ} {d₀ : List ℕ} {from : ℕ} {whole : List ℕ} (l : Left d pos (callWords (callsFrom s (stream s at))) d₀ from whole) where
+  pub call-left : (r : Call) (n : ℕ) → CallAt s at r n → Left d pos (rowWords r ++ callWords (callsFrom s (stream s n))) d₀ from whole
+  call-left r n c = rw (c .row, ← words-cons (c .call) (callsFrom s (stream s n)), ← c .front) l
+
+  pub calls-left : callsFrom s (stream s at) ≡ [] → Left d pos [] d₀ from whole
+  unfolding callWords
+  calls-left e = rw e at l
+
+module _ (s : List ℕ) (at : ℕ) {d : List ℕ} {pos : ℕ} {d₀ : List ℕ} {from : ℕ} {whole : List ℕ} (l : Left d pos (cardsFrom s (stream s at)) d₀ from whole) where
+  pub card-left : (x n : ℕ) → cardsFrom s (stream s at) ≡ x ∷ cardsFrom s (stream s n) → Left d pos ((x ∷ []) ++ cardsFrom s (stream s n)) d₀ from whole
+  card-left x n e = rw e at l
+
+  pub cards-left : cardsFrom s (stream s at) ≡ [] → Left d pos [] d₀ from whole
+  cards-left e = rw e at l
+
+-- all of them are left at the start
+pub all-calls : (s : List ℕ) (at : ℕ) (d : List ℕ) → Room d 0 (callWords (boardAt s at .calls)) → Left d 0 (callWords (callsFrom s (stream s at))) d 0 (callWords (boardAt s at .calls))
+unfolding boardFrom
+all-calls s at d r = rw (← calls-are s (stream s at)) (start r)
+
+pub all-cards : (s : List ℕ) (at : ℕ) (d : List ℕ) → Room d 0 (boardAt s at .play) → Left d 0 (cardsFrom s (stream s at)) d 0 (boardAt s at .play)
+unfolding boardFrom
+all-cards s at d r = rw (← cards-after s (stream s at) []) (start r)
+
+-- What the checks of rows and cards give
+module _ (b : BoardOf Span) (rows cards : List ℕ) (h : Heading) (e : h ≡ headingOf b) where
+  calls-are-length : h .calls ≡ length (b .calls)
+  calls-are-length = ap (λ (x : Heading). x .calls) e
+
+  cards-are-length : h .cards ≡ length (b .play)
+  cards-are-length = ap (λ (x : Heading). x .cards) e
+
+  pub few-calls : length rows / 6 < h .calls → (r : Heading) → r ≡ refusedHeading (TooFewRows Calls (h .calls))
+      → record { heading = r; rows = rows; cards = cards } ≡ stored (unless (fewRows b rows cards) b) rows cards
+  unfolding unless
+  few-calls k r f = rw (f, calls-are-length) (simp (lt-ltb (length rows / 6) (length (b .calls)) (rw calls-are-length at k)))
+
+  module _ (k : h .calls ≤ length rows / 6) where
+    calls-fit : ltb (length rows / 6) (length (b .calls)) ≡ false
+    calls-fit = le-ltb (length rows / 6) (length (b .calls)) (rw calls-are-length at k)
+
+    pub few-cards : length cards < h .cards → (r : Heading) → r ≡ refusedHeading (TooFewRows Cards (h .cards))
+        → record { heading = r; rows = rows; cards = cards } ≡ stored (unless (fewRows b rows cards) b) rows cards
+    unfolding unless
+    few-cards l r f = rw (f, cards-are-length) (simp (calls-fit, lt-ltb (length cards) (length (b .play)) (rw cards-are-length at l)))
+
+    pub calls-room : Room rows 0 (callWords (b .calls))
+    calls-room = record { room = let w = words-length (b .calls) in let c = calls-are-length in omega arith }
+
+    module _ (l : h .cards ≤ length cards) where
+      pub cards-room : Room cards 0 (b .play)
+      cards-room = record { room = let c = cards-are-length in omega arith }
+
+      pub board-stored : (rows′ cards′ : List ℕ) {n m : ℕ} → Put rows 0 (callWords (b .calls)) rows′ n → Put cards 0 (b .play) cards′ m
+          → record { heading = h; rows = rows′; cards = cards′ } ≡ stored (unless (fewRows b rows cards) b) rows cards
+      unfolding unless
+      board-stored rows′ cards′ p q = rw (p .text, q .text, e) (simp (calls-fit, le-ltb (length cards) (length (b .play)) (rw cards-are-length at l)))
+
+-- The entries, by the answer of `open`
+module _ (s : List ℕ) (o : Opened) (e : openedOf o ≡ openText s) where
+  module _ (c : Cursor) (f : o ≡ At c) where
+    taken : openText s ≡ accepted (c .at)
+    taken = sym e ∙ ap openedOf f
+
+    pub short : length s < 2 ^ 32
+    short = let h = opened s taken .short in omega arith
+
+    pub heading-read : headingOf (boardAt s 0) ≡ readHeading s
+    unfolding readHeading openText parseSpans unless
+    heading-read = sym (ap headed (unless-passed (tooLong s ∷ notUtf8 s ∷ []) [] 0 (c .at) (boardAt s 0) taken))
+
+    pub board-read : (rows cards : List ℕ) → stored (unless (fewRows (boardAt s 0) rows cards) (boardAt s 0)) rows cards ≡ readBoard s rows cards
+    unfolding readBoard openText parseSpans
+    board-read rows cards = sym (ap (λ (a : Answer (BoardOf Span)). stored a rows cards) (unless-passed (tooLong s ∷ notUtf8 s ∷ []) (fewRows (boardAt s 0) rows cards) 0 (c .at) (boardAt s 0) taken))
+
+  module _ (r : Refusal) (f : o ≡ Refused r) (h : Heading) (g : h ≡ refusedHeading r) where
+    left : openText s ≡ refused r
+    left = sym e ∙ ap openedOf f
+
+    pub heading-refused : h ≡ readHeading s
+    unfolding readHeading openText parseSpans
+    heading-refused = g ∙ sym (ap headed (unless-refused (tooLong s ∷ notUtf8 s ∷ []) [] 0 (boardAt s 0) r left))
+
+    pub board-refused : (rows cards : List ℕ) → record { heading = h; rows = rows; cards = cards } ≡ readBoard s rows cards
+    unfolding readBoard openText parseSpans
+    board-refused rows cards =
+        rw g (sym (ap (λ (a : Answer (BoardOf Span)). stored a rows cards) (unless-refused (tooLong s ∷ notUtf8 s ∷ []) (fewRows (boardAt s 0) rows cards) 0 (boardAt s 0) r left)))

@@ -1,0 +1,20 @@
+-- `board::undealt` meets its contract.
+-- Assumes nothing.
+use Rattle.lin_spec.specs.Board.{undealt}
+use borrow.Author.Needs.{needs}
+use Rattle.board.proofs.dealing.undealt.Statement.{statement}
+use Rattle.board.proofs.dealing.undealt.Tie as tie
+use Rattle.board.proofs.dealing.undealt.Reads as reads
+use Rattle.board.proofs.dealing.undealt.Lts as lts
+use Rattle.lin_spec.proofs.Deal.new.Reads as new-reads
+
+-- src/dealing.rt:48:9
+new-requires : tie.Need-new-requires
+new-requires c κs = search needs
+
+-- src/dealing.rt:45:1
+returns : tie.Need-returns
+returns c = unfold undealt in simp (c .new .ensures)
+
+pub undealt-spec : {M : Type 1} → statement M
+undealt-spec = tie.close (tie.spec new-requires returns)

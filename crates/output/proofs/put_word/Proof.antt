@@ -1,0 +1,30 @@
+-- `output::put_word` meets its contract: one store is a text of one. Assumes nothing.
+use borrow.Author.Needs.{needs}
+use Rattle.output.proofs.Laws.{set-overlay}
+use Rattle.output.proofs.put_word.Statement.{statement}
+use Rattle.output.proofs.put_word.Tie as tie
+use Rattle.output.proofs.put_word.Reads as reads
+use Rattle.output.proofs.put_word.Lts as lts
+
+-- src/lib.rt:21:5
+mul-out : tie.Need-mul-out
+mul-out c = search needs
+
+-- src/lib.rt:21:5
+slice-write-out : tie.Need-slice-write-out
+slice-write-out c = search needs
+
+-- src/lib.rt:22:5
+add-result : tie.Need-add-result
+add-result c = search needs
+
+-- src/lib.rt:17:1
+same-length : tie.Need-same-length
+same-length c = search needs
+
+-- src/lib.rt:17:1
+returns : tie.Need-returns
+returns c = record { next = search needs; text = set-overlay _ _ _ (search needs) }
+
+pub put-word-spec : {M : Type 1} → statement M
+put-word-spec = tie.close (tie.spec mul-out slice-write-out add-result same-length returns)
