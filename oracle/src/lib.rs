@@ -7,6 +7,7 @@ pub mod error;
 #[path = "../upstream/src/lin/mod.rs"]
 pub mod lin;
 
+pub mod boards;
 pub mod random;
 pub mod records;
 pub mod texts;
@@ -44,17 +45,11 @@ pub fn well_formed(bytes: &[u8]) -> usize {
 mod tests {
     use super::*;
 
-    /// Document 01's list of white space characters.
-    const WHITE: [u32; 25] = [
-        0x9, 0xA, 0xB, 0xC, 0xD, 0x20, 0x85, 0xA0, 0x1680, 0x2000, 0x2001, 0x2002, 0x2003, 0x2004,
-        0x2005, 0x2006, 0x2007, 0x2008, 0x2009, 0x200A, 0x2028, 0x2029, 0x202F, 0x205F, 0x3000,
-    ];
-
     /// What `str::trim` removes is document 01's white space, over every scalar value.
     #[test]
     fn white_space_is_the_list() {
         for c in '\0'..=char::MAX {
-            assert_eq!(c.is_whitespace(), WHITE.contains(&(c as u32)), "{c:?}");
+            assert_eq!(c.is_whitespace(), texts::WHITE.contains(&c), "{c:?}");
         }
     }
 

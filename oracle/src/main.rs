@@ -1,6 +1,6 @@
 //! Writes the upstream's answers as vector files: `oracle SUBJECT DIR`.
 
-use oracle::{tokens, utf8, vectors::Vectors};
+use oracle::{boards, tokens, utf8, vectors::Vectors};
 use std::{env, fs, io, path::Path, process::ExitCode};
 
 struct Subject {
@@ -19,6 +19,11 @@ const SUBJECTS: &[Subject] = &[
         name: "utf8",
         about: "the longest well-formed start, by std::str::from_utf8",
         vectors: utf8::vectors,
+    },
+    Subject {
+        name: "boards",
+        about: "every field of one board, by parse_lin",
+        vectors: boards::vectors,
     },
 ];
 
@@ -55,4 +60,21 @@ fn write(subject: &Subject, dir: &Path) -> io::Result<()> {
         vectors.bytes().len()
     );
     Ok(())
+}
+
+#[cfg(test)]
+mod tests {
+    use super::SUBJECTS;
+    use std::{fs, path::Path};
+
+    /// The vectors that the replay programs have are those of the generator.
+    #[test]
+    fn stored_vectors_are_fresh() {
+        let crates = Path::new(env!("CARGO_MANIFEST_DIR")).join("../crates");
+        for s in SUBJECTS {
+            let file = crates.join(format!("replay_{0}/data/{0}.bin", s.name));
+            let stored = fs::read(&file).unwrap();
+            assert!(stored == (s.vectors)().bytes(), "{}", file.display());
+        }
+    }
 }

@@ -28,6 +28,13 @@ pub fn words(letters: &[&str], longest: usize) -> Vec<String> {
     all
 }
 
+/// Document 01's list of white space characters.
+pub const WHITE: [char; 25] = [
+    '\u{9}', '\u{A}', '\u{B}', '\u{C}', '\u{D}', '\u{20}', '\u{85}', '\u{A0}', '\u{1680}',
+    '\u{2000}', '\u{2001}', '\u{2002}', '\u{2003}', '\u{2004}', '\u{2005}', '\u{2006}', '\u{2007}',
+    '\u{2008}', '\u{2009}', '\u{200A}', '\u{2028}', '\u{2029}', '\u{202F}', '\u{205F}', '\u{3000}',
+];
+
 /// Texts that document 01 and the upstream comments name.
 pub const NAMED: &[&str] = &[
     "",

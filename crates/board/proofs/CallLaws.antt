@@ -21,11 +21,11 @@ use Rattle.lin_spec.specs.Reading.{spanText, stream, flag}
 use Rattle.lin_spec.proofs.Records.{part-length}
 use Rattle.lin_spec.proofs.Reading.{part-most}
 use Rattle.lin_spec.specs.declared.Span.{Span}
-use Rattle.board.specs.Commands.{words}
-use Rattle.board.specs.Steps.{TokenAt}
+use Rattle.commands.specs.Commands.{words}
+use Rattle.commands.specs.Steps.{TokenAt}
 use Rattle.board.specs.declared.calls.Bid.{Bid}
 use Rattle.board.specs.Calls.{isPresent, placeOf, rowOf, with, callsAfter, callsFrom, Bids}
-use Rattle.board.proofs.StepLaws.{command-is}
+use Rattle.commands.proofs.StepLaws.{command-is}
 
 -- at the end of the tokens
 pub after-end : (s : List ℕ) (at : ℕ) (c : CallOf Span) (a : Option Span) → stream s at ≡ [] → callsAfter s c a (stream s at) ≡ with c a ∷ callsFrom s (stream s at)

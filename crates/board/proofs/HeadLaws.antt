@@ -20,12 +20,12 @@ use Rattle.lin_spec.specs.Reading.{spanText, stream}
 use Rattle.lin_spec.specs.declared.Span.{Span}
 use Rattle.lin_spec.proofs.Base.{picked}
 use Rattle.lin_spec.proofs.Records.{part-length}
-use Rattle.board.specs.Commands.{words, commandOf}
-use Rattle.board.specs.Steps.{TokenAt}
-use Rattle.board.specs.Fields.{claimOf, more}
+use Rattle.commands.specs.Commands.{words, commandOf}
+use Rattle.commands.specs.Steps.{TokenAt}
+use Rattle.commands.specs.Fields.{claimOf, more}
 use Rattle.board.specs.Head.{freshHead, Stepped, onLast, onCount, onCard, Leaves}
 use Rattle.board.specs.declared.heading.Head.{Head}
-use Rattle.board.proofs.CommandLaws.{code-is}
+use Rattle.commands.proofs.CommandLaws.{code-is}
 
 -- a value within the text is empty exactly where its length is 0
 pub empty-is : (s : List ℕ) (v : Span) → endOf v ≤ length s → null (bytesAt s v) ≡ eqb (v .len) 0

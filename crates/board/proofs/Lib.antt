@@ -1,6 +1,3 @@
-pub mod CommandLaws
-pub mod StepLaws
-pub mod FieldLaws
 pub mod HeadLaws
 pub mod DealingLaws
 pub mod CallLaws

@@ -14,9 +14,9 @@ use Rattle.lin_spec.specs.White.{trim, isCommand}
 use Rattle.lin_spec.specs.Cards.{readCard}
 use Rattle.lin_spec.specs.Reading.{stream}
 use Rattle.lin_spec.specs.declared.Span.{Span}
-use Rattle.board.specs.Steps.{TokenAt}
+use Rattle.commands.specs.Steps.{TokenAt}
 use Rattle.board.specs.Play.{before, cardsFrom}
-use Rattle.board.proofs.StepLaws.{command-is}
+use Rattle.commands.proofs.StepLaws.{command-is}
 
 pub no-card : (s : List ℕ) (at : ℕ) → stream s at ≡ [] → cardsFrom s (stream s at) ≡ []
 unfolding cardsFrom

@@ -1,6 +1,3 @@
-pub mod Commands
-pub mod Steps
-pub mod Fields
 pub mod Head
 pub mod Dealing
 pub mod Calls

@@ -1,10 +1,10 @@
 // The calls of a run of tokens, one at a time. (01: Board, mb and an)
-use crate::commands::AN;
-use crate::commands::MB;
-use crate::fields::on_present;
-use crate::fields::shown;
-use crate::steps::Known;
-use crate::steps::next_known;
+use commands::AN;
+use commands::Known;
+use commands::MB;
+use commands::next_known;
+use commands::on_present;
+use commands::shown;
 use document::Cursor;
 use lin_spec::MaybeSpan;
 use lin_spec::Span;

@@ -1,6 +1,6 @@
 // The dealer and the deal of an md value. (01: Board, md)
-use crate::fields::shown;
 use cards::deal_of;
+use commands::shown;
 use lin_spec::Deal;
 use lin_spec::MaybeSpan;
 use lin_spec::Seat;

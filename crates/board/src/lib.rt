@@ -1,12 +1,9 @@
 // One board from a run of tokens: its heading, its calls and its cards, and the entries of `parse_lin`. (01: Board; upstream's mod.rs)
 mod calls;
-mod commands;
 mod dealing;
-mod fields;
 mod heading;
 mod play;
 mod reader;
-mod steps;
 
 pub use calls::Call;
 pub use calls::NextCall;
@@ -17,5 +14,3 @@ pub use reader::board_at;
 pub use reader::heading_at;
 pub use reader::parse_lin;
 pub use reader::parse_lin_heading;
-pub use steps::Known;
-pub use steps::next_known;

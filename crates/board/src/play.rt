@@ -1,10 +1,10 @@
 // The cards of a run of tokens, one at a time. (01: Board, pc)
-use crate::commands::PC;
-use crate::fields::shown;
-use crate::steps::Known;
-use crate::steps::next_known;
 use cards::MaybeCard;
 use cards::read_card;
+use commands::Known;
+use commands::PC;
+use commands::next_known;
+use commands::shown;
 use document::Cursor;
 use lin_spec::Span;
 use text::trim;

@@ -1,4 +1,4 @@
--- The spans of an answer: taken out of the text they are the bytes of the meaning, and they lie within the text. (01: Board)
+-- The spans of an answer: taken out of the text they are the bytes of the meaning, and they lie within the text; a refusal stores nothing. (01: Board)
 -- Assumes nothing.
 use Prim.Native.Nat.{ℕ, zero, suc, _+_, _-_, _≤_, _<_}
 use native.Mathlib.Nat.{add-zero, add-assoc}
@@ -18,7 +18,11 @@ use Rattle.lin_spec.specs.Tokens.TokenOf.{token}
 use Rattle.lin_spec.specs.Cursor.{Place, Step, stepBy, stepAt}
 use Rattle.lin_spec.specs.Cursor.Step.{found, ended}
 use Rattle.lin_spec.specs.Board.{CallOf, BoardOf, Text, named, withoutEnd, only, endsIn, annotated, over, on, nonEmpty, onNames, onDealt, onVulnerability, onTitle, onRoom, onHeader, onCalls, onPlay, onClaim, callOf, boardFrom, mapOption, mapCall, mapBoard, Present, EachText}
-use Rattle.lin_spec.specs.Reading.{bytesText, spanText, placed, stream, parseLin, parseSpans}
+use Rattle.lin_spec.specs.Reading.{bytesText, spanText, placed, stream, parseLin, parseSpans, stored}
+use Rattle.lin_spec.specs.Refusals.{Answer}
+use Rattle.lin_spec.specs.Refusals.Answer.{refused, accepted}
+use Rattle.lin_spec.specs.declared.Refusal.{Refusal}
+use Rattle.lin_spec.specs.declared.Verdict.the-variants.{Refused}
 use Rattle.lin_spec.specs.declared.Span.{Span}
 use Rattle.lin_spec.proofs.Base.{picked}
 use Rattle.lin_spec.proofs.Tokens.{joined, Whole, joined-cut, whole-cut, cut-joined}
@@ -263,3 +267,9 @@ spans-within s =
           (λ _. picked (All (CallWithin s)) (isCommand c (ascii "an")) (λ _. annotated-within s v w b h) (λ _. h)))
           _ a [] tt;
     }
+
+-- "All lent memory stays": a reading that is refused changes neither rows nor cards.
+pub reading-stays : (a : Answer (BoardOf Span)) (rows cards : List ℕ) (r : Refusal) → stored a rows cards .heading .verdict ≡ Refused r
+    → (stored a rows cards .rows ≡ rows) × (stored a rows cards .cards ≡ cards)
+reading-stays (refused q) rows cards r h = (refl, refl)
+reading-stays (accepted b) rows cards r h = let z : _≡_ {A = ℕ} 0 1 = cc in absurd (omega arith)

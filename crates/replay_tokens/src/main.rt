@@ -9,6 +9,7 @@ use vectors::Score;
 use vectors::field_at;
 use vectors::load;
 use vectors::number_at;
+use vectors::passed;
 use vectors::say;
 
 // The bytes that a file may have.
@@ -26,21 +27,6 @@ struct Case {
 enum Group {
     Tokens,
     Written,
-}
-
-// The place after a number of fields, or beyond the file.
-fn passed(file: &[u8], from: usize, fields: usize) -> usize {
-    let mut at = from;
-    let mut left = fields;
-    while 0 < left {
-        if file.len() < at {
-            return at;
-        }
-        let f = field_at(file, at);
-        at = f.next;
-        left -= 1;
-    }
-    at
 }
 
 // The case at a place of the file.

@@ -68,6 +68,21 @@ pub fn field_at(file: &[u8], at: usize) -> Field {
     }
 }
 
+// The place after a number of fields, or beyond the file.
+pub fn passed(file: &[u8], from: usize, fields: usize) -> usize {
+    let mut at = from;
+    let mut left = fields;
+    while 0 < left {
+        if file.len() < at {
+            return at;
+        }
+        let f = field_at(file, at);
+        at = f.next;
+        left -= 1;
+    }
+    at
+}
+
 // Whether the field holds these bytes.
 pub fn holds(file: &[u8], f: Field, bytes: &[u8]) -> bool {
     same(text::part(file, f.start, f.len), bytes)

@@ -3,7 +3,7 @@
 use Rattle.board.proofs.CallLaws.{from-end, from-mb, from-other}
 use Rattle.board.specs.Calls.{callsFrom}
 use Rattle.lin_spec.specs.Reading.{stream}
-use Rattle.board.proofs.StepLaws.{known}
+use Rattle.commands.proofs.StepLaws.{known}
 use lib.ListN.{length}
 use mathlib.Core.Path.{_≡_, refl, _∙_, sym, ap}
 use borrow.Author.Needs.{needs}
@@ -13,7 +13,7 @@ use Rattle.board.proofs.calls.next_bid.Statement.{statement}
 use Rattle.board.proofs.calls.next_bid.Tie as tie
 use Rattle.board.proofs.calls.next_bid.Reads as reads
 use Rattle.board.proofs.calls.next_bid.Lts as lts
-use Rattle.board.proofs.steps.next_known.Reads as next-known-reads
+use Rattle.commands.proofs.next_known.Reads as next-known-reads
 
 abbrev Inv-loop : tie.InvT-loop
 Inv-loop text c₀ c = callsFrom text (stream text (c .at)) ≡ callsFrom text (stream text (c₀ .at))

@@ -1,7 +1,7 @@
 -- `board::read_head` meets its contract: a turn takes one token off those that are still to be read.
 -- Assumes nothing.
 use Rattle.board.proofs.HeadLaws.{Reads, begins, ends, turn}
-use Rattle.board.proofs.StepLaws.{known}
+use Rattle.commands.proofs.StepLaws.{known}
 use lib.ListN.{length}
 use borrow.Author.Needs.{needs}
 use native.Mathlib.Omega.{arith}
@@ -12,7 +12,7 @@ use Rattle.board.proofs.heading.read_head.Reads as reads
 use Rattle.board.proofs.heading.read_head.Lts as lts
 use Rattle.board.proofs.heading.fresh_head.Reads as fresh-head-reads
 use Rattle.board.proofs.heading.step.Reads as step-reads
-use Rattle.board.proofs.steps.next_known.Reads as next-known-reads
+use Rattle.commands.proofs.next_known.Reads as next-known-reads
 
 abbrev Inv-loop : tie.InvT-loop
 Inv-loop text at h₀ cursor₀ h cursor = Reads text at h (cursor .at)

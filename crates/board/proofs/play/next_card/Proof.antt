@@ -4,7 +4,7 @@ use Rattle.board.proofs.PlayLaws.{no-card, card-here}
 use Rattle.board.specs.Play.{cardsFrom}
 use Rattle.cards.specs.Letters.{maybeOf}
 use Rattle.lin_spec.specs.Reading.{stream}
-use Rattle.board.proofs.StepLaws.{known}
+use Rattle.commands.proofs.StepLaws.{known}
 use lib.ListN.{length}
 use mathlib.Core.Path.{_≡_, refl, _∙_, sym, ap}
 use borrow.Author.Needs.{needs}
@@ -15,7 +15,7 @@ use Rattle.board.proofs.play.next_card.Tie as tie
 use Rattle.board.proofs.play.next_card.Reads as reads
 use Rattle.board.proofs.play.next_card.Lts as lts
 use Rattle.board.proofs.play.card_at.Reads as card-at-reads
-use Rattle.board.proofs.steps.next_known.Reads as next-known-reads
+use Rattle.commands.proofs.next_known.Reads as next-known-reads
 
 abbrev Inv-loop : tie.InvT-loop
 Inv-loop text c₀ c = cardsFrom text (stream text (c .at)) ≡ cardsFrom text (stream text (c₀ .at))

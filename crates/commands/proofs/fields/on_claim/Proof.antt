@@ -1,0 +1,66 @@
+-- `commands::on_claim` meets its contract: the number of the trimmed value, or none.
+-- Assumes nothing.
+use Rattle.commands.proofs.FieldLaws.{off, changed, small}
+use Rattle.lin_spec.specs.Board.{numberIn}
+use Rattle.lin_spec.specs.White.{trim}
+use Rattle.text.specs.Digits.{numberOf}
+use mathlib.Core.Path.{ap, sym, _∙_}
+use native.Mathlib.Omega.{arith}
+use borrow.Author.Needs.{needs}
+use Rattle.commands.proofs.fields.on_claim.Statement.{statement}
+use Rattle.commands.proofs.fields.on_claim.Tie as tie
+use Rattle.commands.proofs.fields.on_claim.Reads as reads
+use Rattle.commands.proofs.fields.on_claim.Lts as lts
+use Rattle.commands.proofs.fields.shown.Reads as shown-reads
+use Rattle.text.proofs.read_number.Reads as read-number-reads
+use Rattle.text.proofs.trim.Reads as trim-reads
+
+-- src/fields.rt:147:9
+returns : tie.Need-returns
+returns c = let a = c .before .before .args in off (a .on) _ _ (c .if1 .taken)
+
+-- src/fields.rt:149:28
+shown-requires : tie.Need-shown-requires
+shown-requires c κs = search needs
+
+-- src/fields.rt:149:23
+trim-requires : tie.Need-trim-requires
+trim-requires c κs = search needs
+
+-- src/fields.rt:149:11
+read-number-requires : tie.Need-read-number-requires
+read-number-requires c κs = search needs
+
+-- src/fields.rt:150:29
+enum-known-n : tie.Need-enum-known-n
+enum-known-n c = search needs
+
+-- src/fields.rt:150:55
+cast-t11 : tie.Need-cast-t11
+cast-t11 c = omega (arith, small _ _ _ (c .before .before .before .read-number .ensures) (c .before .n .given .1))
+
+-- src/fields.rt:151:33
+enum-told : tie.Need-enum-told
+enum-told c = search needs
+
+-- src/fields.rt:143:1
+returns-2 : tie.Need-returns-2
+returns-2 c = let a = c .before .before .before .before .before .before .before .before .args in changed (a .on) _ _ (c .before .before .before .before .before .before .if1 .left) (sym (ap numberOf (c .before .n .given .1)) ∙ c .before .before .before .read-number .ensures ∙ ap (numberIn 255) (c .before .before .before .before .trim .ensures ∙ ap trim (c .before .before .before .before .before .shown .ensures)))
+
+-- src/fields.rt:143:1
+returns-3 : tie.Need-returns-3
+returns-3 c = let a = c .before .before .before .before .before .before .before .args in changed (a .on) _ _ (c .before .before .before .before .before .if1 .left) (sym (ap numberOf (c .enum-told .given .1)) ∙ c .before .before .read-number .ensures ∙ ap (numberIn 255) (c .before .before .before .trim .ensures ∙ ap trim (c .before .before .before .before .shown .ensures)))
+
+pub on-claim-spec : {M : Type 1} → statement M
+on-claim-spec =
+    tie.close
+    (tie.spec
+    returns
+    shown-requires
+    trim-requires
+    read-number-requires
+    enum-known-n
+    cast-t11
+    enum-told
+    returns-2
+    returns-3)

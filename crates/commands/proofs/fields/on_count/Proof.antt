@@ -1,0 +1,24 @@
+-- `commands::on_count` meets its contract: by the test.
+-- Assumes nothing.
+use mathlib.Core.Path.{refl}
+use Rattle.commands.proofs.FieldLaws.{off, changed}
+use borrow.Author.Needs.{needs}
+use Rattle.commands.proofs.fields.on_count.Statement.{statement}
+use Rattle.commands.proofs.fields.on_count.Tie as tie
+use Rattle.commands.proofs.fields.on_count.Reads as reads
+use Rattle.commands.proofs.fields.on_count.Lts as lts
+
+-- src/fields.rt:169:9
+returns : tie.Need-returns
+returns c = let a = c .before .args in off (a .on) _ _ (c .if1 .taken)
+
+-- src/fields.rt:171:5
+add-result : tie.Need-add-result
+add-result c = search needs
+
+-- src/fields.rt:164:1
+returns-2 : tie.Need-returns-2
+returns-2 c = let a = c .before .args in changed (a .on) _ _ (c .if1 .left) refl
+
+pub on-count-spec : {M : Type 1} → statement M
+on-count-spec = tie.close (tie.spec returns add-result returns-2)

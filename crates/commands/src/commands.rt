@@ -1,0 +1,75 @@
+// The commands that a board knows, by their numbers in the list `words`. (01: Tokens, "Commands are trimmed .."; Board)
+use text::same_word;
+use text::trim;
+ghost use mathlib.Core.Path.{_≡_};
+ghost use Rattle.commands.specs.Commands.{words, firstWord, commandOf};
+ghost use lib.ListN.{drop};
+
+pub const PC: u8 = 0;
+
+pub const MB: u8 = 1;
+
+pub const AN: u8 = 2;
+
+pub const MD: u8 = 3;
+
+pub const PN: u8 = 4;
+
+pub const QX: u8 = 5;
+
+pub const MN: u8 = 6;
+
+pub const SV: u8 = 7;
+
+pub const AH: u8 = 8;
+
+pub const MC: u8 = 9;
+
+// The number of a command, 10 where it is none of them.
+pub fn command_of(raw: &[u8]) -> u8
+    ensures { λ r. ⌜ r ≡ commandOf (now (raw .entry)) ⌝ }
+{
+    word_of(trim(raw))
+}
+
+fn word_of(t: &[u8]) -> u8
+    ensures { λ r. ⌜ r ≡ firstWord 0 words (now (t .entry)) ⌝ }
+{
+    if same_word(t, b"pc") {
+        return PC;
+    }
+    if same_word(t, b"mb") {
+        return MB;
+    }
+    if same_word(t, b"an") {
+        return AN;
+    }
+    if same_word(t, b"md") {
+        return MD;
+    }
+    if same_word(t, b"pn") {
+        return PN;
+    }
+    other_word_of(t)
+}
+
+fn other_word_of(t: &[u8]) -> u8
+    ensures { λ r. ⌜ r ≡ firstWord 5 (drop 5 words) (now (t .entry)) ⌝ }
+{
+    if same_word(t, b"qx") {
+        return QX;
+    }
+    if same_word(t, b"mn") {
+        return MN;
+    }
+    if same_word(t, b"sv") {
+        return SV;
+    }
+    if same_word(t, b"ah") {
+        return AH;
+    }
+    if same_word(t, b"mc") {
+        return MC;
+    }
+    10
+}

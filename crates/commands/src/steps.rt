@@ -1,0 +1,34 @@
+// One token at a time, with its command's number and its value as a span. (01: Tokens, Board)
+use crate::commands::command_of;
+use document::Cursor;
+use document::Step;
+use document::command;
+use lin_spec::Span;
+ghost use Prim.Native.Nat.{_<_, _^_};
+ghost use lib.ListN.{length};
+ghost use Rattle.commands.specs.Steps.{Knows};
+
+// A token's command by number and its value, with the cursor after it; or no token.
+pub enum Known {
+    Token(u8, Span, Cursor),
+    Ended,
+}
+
+// The token at the cursor.
+pub fn next_known(text: &[u8], cursor: Cursor) -> Known
+    requires { ⌜ length (now text) < 2 ^ 32 ⌝ }
+    ensures { λ r. ⌜ Knows (now (text .entry)) (cursor .at) r ⌝ }
+{
+    match cursor.next(text) {
+        Step::Found(t, c) => {
+            let k = command_of(command(text, t));
+            let value = t.value;
+            let v = Span {
+                start: value.start as u32,
+                len: value.len as u32,
+            };
+            Known::Token(k, v, c)
+        }
+        Step::Ended(_) => Known::Ended,
+    }
+}
