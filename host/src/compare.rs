@@ -1,6 +1,10 @@
 //! Comparisons of the exports with the oracle and with the model. Each gives
 //! what differs.
 
+mod boards;
+
+pub use boards::board;
+
 use crate::{
     model,
     tokens::{self, Cursor, Span},

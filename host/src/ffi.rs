@@ -35,6 +35,48 @@ pub struct LinPart {
     pub len: u64,
 }
 
+/// A text of a board or its absence, which is 0, 0, 0.
+#[repr(C)]
+#[derive(Debug, Clone, Copy, PartialEq, Eq)]
+pub struct LinText {
+    /// 1 with a text, 0 without.
+    pub present: u32,
+    pub start: u32,
+    pub len: u32,
+}
+
+/// A board without its rows.
+#[repr(C)]
+#[derive(Debug, Clone, Copy, PartialEq, Eq)]
+pub struct LinBoard {
+    /// Start and length of each name, in the order S, W, N, E.
+    pub names: [u32; 8],
+    /// 0 to 3 for S, W, N, E.
+    pub dealer: u32,
+    /// 0 none, 1 NS, 2 EW, 3 both.
+    pub vulnerability: u32,
+    pub title: LinText,
+    pub room_board: LinText,
+    pub board_header: LinText,
+    /// 1 with a claim, 0 without.
+    pub claimed: u32,
+    /// The claim, or 0.
+    pub claim: u32,
+    /// The count of a card is at seat times 52 plus card.
+    pub counts: [u32; 208],
+}
+
+/// A heading. A refusal has a fresh board, without calls and cards.
+#[repr(C)]
+#[derive(Debug, Clone, Copy, PartialEq, Eq)]
+pub struct LinHeading {
+    /// The value is 0 where nothing is refused.
+    pub answer: LinAnswer,
+    pub calls: u64,
+    pub cards: u64,
+    pub board: LinBoard,
+}
+
 extern "C" {
     pub fn lin_open(text: *const u8, text_len: usize) -> LinAnswer;
     pub fn lin_next(text: *const u8, text_len: usize, at: u64) -> LinStep;
@@ -49,4 +91,13 @@ extern "C" {
         out: *mut u8,
         out_len: usize,
     ) -> LinAnswer;
+    pub fn lin_parse_heading(text: *const u8, text_len: usize) -> LinHeading;
+    pub fn lin_parse_lin(
+        text: *const u8,
+        text_len: usize,
+        rows: *mut u32,
+        rows_len: usize,
+        cards: *mut u8,
+        cards_len: usize,
+    ) -> LinHeading;
 }

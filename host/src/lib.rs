@@ -1,8 +1,10 @@
 //! Safe Rust over the exports of the crate `lin_host`.
 
+pub mod boards;
 pub mod compare;
 mod ffi;
 pub mod model;
+pub mod samples;
 pub mod tokens;
 
 pub use ffi::LinAnswer;

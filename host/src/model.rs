@@ -2,6 +2,7 @@
 //! that are no text, any place, any span, any output.
 
 use crate::{
+    boards::{LinBoard, LinText},
     tokens::{Part, Span, Step},
     Refusal, LIMIT,
 };
@@ -13,6 +14,26 @@ pub fn open(text: &[u8]) -> Result<u64, Refusal> {
     match std::str::from_utf8(text) {
         Ok(_) => Ok(0),
         Err(fault) => Err(Refusal::NotUtf8(fault.valid_up_to() as u64)),
+    }
+}
+
+/// A board before its first token: North deals, and all else is 0.
+pub fn fresh_board() -> LinBoard {
+    let absent = LinText {
+        present: 0,
+        start: 0,
+        len: 0,
+    };
+    LinBoard {
+        names: [0; 8],
+        dealer: 2,
+        vulnerability: 0,
+        title: absent,
+        room_board: absent,
+        board_header: absent,
+        claimed: 0,
+        claim: 0,
+        counts: [0; 208],
     }
 }
 

@@ -15,6 +15,8 @@ pub mod tokens;
 pub mod utf8;
 pub mod vectors;
 
+pub use bridge_types;
+
 use lin::{LinDocument, LinToken};
 
 /// The commands and values of a text, and what trails them.

@@ -20,3 +20,14 @@ pub use document::open;
 pub use document::trailing;
 pub use document::value;
 pub use document::write_document;
+
+// Boards. (01: Records, Board)
+pub use board::parse_lin;
+pub use board::parse_lin_heading;
+pub use lin_spec::Board;
+pub use lin_spec::Deal;
+pub use lin_spec::Heading;
+pub use lin_spec::MaybeClaim;
+pub use lin_spec::Seat;
+pub use lin_spec::Verdict;
+pub use lin_spec::Vulnerability;

@@ -3,6 +3,7 @@
 
 use lin_host_rust::{
     compare::{self, Same},
+    samples,
     tokens::Span,
     LIMIT,
 };
@@ -19,6 +20,7 @@ struct Counts {
     bytes: u64,
     places: u64,
     documents: u64,
+    boards: u64,
 }
 
 fn main() -> ExitCode {
@@ -42,8 +44,8 @@ fn main() -> ExitCode {
         }
     }
     println!(
-        "seed {seed}: {} texts, {} runs of bytes, {} places, {} documents: all the same",
-        counts.texts, counts.bytes, counts.places, counts.documents
+        "seed {seed}: {} texts, {} runs of bytes, {} places, {} documents, {} boards: all the same",
+        counts.texts, counts.bytes, counts.places, counts.documents, counts.boards
     );
     ExitCode::SUCCESS
 }
@@ -54,7 +56,7 @@ fn round(rng: &mut Rng, counts: &mut Counts) -> (String, Same) {
         counts.documents += 1;
         return long(rng);
     }
-    match rng.below(8) {
+    match rng.below(12) {
         0..=2 => {
             let text = any_text(rng);
             counts.texts += 1;
@@ -67,9 +69,15 @@ fn round(rng: &mut Rng, counts: &mut Counts) -> (String, Same) {
             let outcome = compare::open(&bytes).and_then(|()| steps(rng, counts, &bytes));
             (format!("bytes {bytes:?}"), outcome)
         }
-        _ => {
+        6..=7 => {
             counts.documents += 1;
             document(rng)
+        }
+        _ => {
+            let bytes = any_record(rng);
+            counts.boards += 1;
+            let outcome = compare::board(&bytes);
+            (format!("board {}", bytes.escape_ascii()), outcome)
         }
     }
 }
@@ -91,6 +99,20 @@ fn any_text(rng: &mut Rng) -> String {
         3 => texts::mixture(rng, 300),
         _ => texts::mixture(rng, 16),
     }
+}
+
+/// A record of one board, now and then another text, or with faults.
+fn any_record(rng: &mut Rng) -> Vec<u8> {
+    let text = match rng.below(16) {
+        0 => any_text(rng),
+        1 => records::file(rng, 1),
+        2 => samples::record(rng, 200),
+        _ => samples::record(rng, 12),
+    };
+    if rng.once_in(10) {
+        return texts::damaged(rng, text.as_bytes(), 3);
+    }
+    text.into_bytes()
 }
 
 fn any_bytes(rng: &mut Rng) -> Vec<u8> {

@@ -1,17 +1,17 @@
 -- `lin_host::lin_trailing` meets its contract: the place, and the length of what is left.
 -- Assumes nothing.
 use borrow.Author.Needs.{needs}
-use Rattle.lin_host.proofs.lin_trailing.Statement.{statement}
-use Rattle.lin_host.proofs.lin_trailing.Tie as tie
-use Rattle.lin_host.proofs.lin_trailing.Reads as reads
-use Rattle.lin_host.proofs.lin_trailing.Lts as lts
+use Rattle.lin_host.proofs.tokens.lin_trailing.Statement.{statement}
+use Rattle.lin_host.proofs.tokens.lin_trailing.Tie as tie
+use Rattle.lin_host.proofs.tokens.lin_trailing.Reads as reads
+use Rattle.lin_host.proofs.tokens.lin_trailing.Lts as lts
 use Rattle.document.proofs.trailing.Reads as trailing-reads
 
--- src/lib.rt:132:9
+-- src/tokens.rt:114:9
 trailing-requires : tie.Need-trailing-requires
 trailing-requires c κs = search needs
 
--- src/lib.rt:128:1
+-- src/tokens.rt:110:1
 returns : tie.Need-returns
 returns c = cc
 

@@ -3,22 +3,22 @@
 use mathlib.Core.Path.{ap, _∙_}
 use Rattle.lin_host.specs.Numbers.{stepNumbers}
 use borrow.Author.Needs.{needs}
-use Rattle.lin_host.proofs.lin_next.Statement.{statement}
-use Rattle.lin_host.proofs.lin_next.Tie as tie
-use Rattle.lin_host.proofs.lin_next.Reads as reads
-use Rattle.lin_host.proofs.lin_next.Lts as lts
+use Rattle.lin_host.proofs.tokens.lin_next.Statement.{statement}
+use Rattle.lin_host.proofs.tokens.lin_next.Tie as tie
+use Rattle.lin_host.proofs.tokens.lin_next.Reads as reads
+use Rattle.lin_host.proofs.tokens.lin_next.Lts as lts
 use Rattle.document.proofs.tokens.Cursor.next.Reads as next-reads
-use Rattle.lin_host.proofs.stepped.Reads as stepped-reads
+use Rattle.lin_host.proofs.tokens.stepped.Reads as stepped-reads
 
--- src/lib.rt:124:13
+-- src/tokens.rt:106:13
 next-requires : tie.Need-next-requires
 next-requires c κs = search needs
 
--- src/lib.rt:124:5
+-- src/tokens.rt:106:5
 stepped-requires : tie.Need-stepped-requires
 stepped-requires c κs = search needs
 
--- src/lib.rt:119:1
+-- src/tokens.rt:101:1
 returns : tie.Need-returns
 returns c = c .stepped .ensures ∙ ap stepNumbers (c .before .next .ensures)
 

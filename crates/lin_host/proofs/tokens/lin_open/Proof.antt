@@ -3,22 +3,22 @@
 use mathlib.Core.Path.{ap, _∙_}
 use Rattle.lin_host.specs.Numbers.{numbersOf}
 use borrow.Author.Needs.{needs}
-use Rattle.lin_host.proofs.lin_open.Statement.{statement}
-use Rattle.lin_host.proofs.lin_open.Tie as tie
-use Rattle.lin_host.proofs.lin_open.Reads as reads
-use Rattle.lin_host.proofs.lin_open.Lts as lts
+use Rattle.lin_host.proofs.tokens.lin_open.Statement.{statement}
+use Rattle.lin_host.proofs.tokens.lin_open.Tie as tie
+use Rattle.lin_host.proofs.tokens.lin_open.Reads as reads
+use Rattle.lin_host.proofs.tokens.lin_open.Lts as lts
 use Rattle.document.proofs.open.Reads as open-reads
-use Rattle.lin_host.proofs.opened.Reads as opened-reads
+use Rattle.lin_host.proofs.tokens.opened.Reads as opened-reads
 
--- src/lib.rt:116:12
+-- src/tokens.rt:98:12
 open-requires : tie.Need-open-requires
 open-requires c κs = search needs
 
--- src/lib.rt:116:5
+-- src/tokens.rt:98:5
 opened-requires : tie.Need-opened-requires
 opened-requires c κs = search needs
 
--- src/lib.rt:112:1
+-- src/tokens.rt:94:1
 returns : tie.Need-returns
 returns c = c .opened .ensures ∙ ap numbersOf (c .before .«open» .ensures)
 

@@ -1,24 +1,24 @@
 -- `lin_host::stepped` meets its contract: by the case of the step.
 -- Assumes nothing.
 use borrow.Author.Needs.{needs}
-use Rattle.lin_host.proofs.stepped.Statement.{statement}
-use Rattle.lin_host.proofs.stepped.Tie as tie
-use Rattle.lin_host.proofs.stepped.Reads as reads
-use Rattle.lin_host.proofs.stepped.Lts as lts
+use Rattle.lin_host.proofs.tokens.stepped.Statement.{statement}
+use Rattle.lin_host.proofs.tokens.stepped.Tie as tie
+use Rattle.lin_host.proofs.tokens.stepped.Reads as reads
+use Rattle.lin_host.proofs.tokens.stepped.Lts as lts
 
--- src/lib.rt:87:21
+-- src/tokens.rt:69:21
 enum-known-s : tie.Need-enum-known-s
 enum-known-s c = search needs
 
--- src/lib.rt:99:21
+-- src/tokens.rt:81:21
 enum-known-s-2 : tie.Need-enum-known-s-2
 enum-known-s-2 c = search needs
 
--- src/lib.rt:83:1
+-- src/tokens.rt:65:1
 returns : tie.Need-returns
 returns c = rw (c .before .before .before .s .given .1)
 
--- src/lib.rt:83:1
+-- src/tokens.rt:65:1
 returns-2 : tie.Need-returns-2
 returns-2 c = rw (c .before .s2 .given .1)
 

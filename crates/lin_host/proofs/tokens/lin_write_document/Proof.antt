@@ -3,26 +3,26 @@
 use mathlib.Core.Path.{ap}
 use Rattle.lin_host.specs.Numbers.{outcomeNumbers}
 use borrow.Author.Needs.{needs}
-use Rattle.lin_host.proofs.lin_write_document.Statement.{statement}
-use Rattle.lin_host.proofs.lin_write_document.Tie as tie
-use Rattle.lin_host.proofs.lin_write_document.Reads as reads
-use Rattle.lin_host.proofs.lin_write_document.Lts as lts
+use Rattle.lin_host.proofs.tokens.lin_write_document.Statement.{statement}
+use Rattle.lin_host.proofs.tokens.lin_write_document.Tie as tie
+use Rattle.lin_host.proofs.tokens.lin_write_document.Reads as reads
+use Rattle.lin_host.proofs.tokens.lin_write_document.Lts as lts
 use Rattle.document.proofs.write_document.Reads as write-document-reads
-use Rattle.lin_host.proofs.written.Reads as written-reads
+use Rattle.lin_host.proofs.tokens.written.Reads as written-reads
 
--- src/lib.rt:143:13
+-- src/tokens.rt:131:13
 write-document-requires : tie.Need-write-document-requires
 write-document-requires c κs = search needs
 
--- src/lib.rt:143:5
+-- src/tokens.rt:131:5
 written-requires : tie.Need-written-requires
 written-requires c κs = search needs
 
--- src/lib.rt:139:1
+-- src/tokens.rt:121:1
 same-length : tie.Need-same-length
 same-length c = search needs
 
--- src/lib.rt:139:1
+-- src/tokens.rt:121:1
 returns : tie.Need-returns
 returns c = rw (c .written .ensures) (ap outcomeNumbers (c .before .before .before .write-document .ensures))
 

@@ -1,0 +1,391 @@
+//! The board reader against the oracle, and document 01's examples of it.
+
+use lin_host_rust::{
+    boards::{self, Board, Call, Card, Heading, Seat, Vulnerability},
+    compare, samples, Refusal, RowKind, LIMIT,
+};
+use oracle::{random::Rng, records, texts};
+
+fn compared(text: &[u8]) {
+    if let Err(difference) = compare::board(text) {
+        panic!("{difference}\nfor {:?}", String::from_utf8_lossy(text));
+    }
+}
+
+/// The board of a text, which is compared with upstream's too.
+fn board(text: &str) -> Board<'_> {
+    compared(text.as_bytes());
+    boards::board(text.as_bytes()).unwrap()
+}
+
+fn heading(text: &str) -> Heading<'_> {
+    board(text).heading
+}
+
+/// The cards of a seat, as often as it holds them.
+fn hand(heading: &Heading, seat: Seat) -> String {
+    let card = |n: usize| Card(n as u8).to_string();
+    let counts = heading.deal.hand(seat).iter().enumerate();
+    let cards: Vec<String> = counts
+        .map(|(n, count)| card(n).repeat(*count as usize))
+        .collect();
+    cards.concat()
+}
+
+fn lengths(heading: &Heading) -> [u64; 4] {
+    Seat::ALL.map(|seat| heading.deal.len(seat))
+}
+
+// Document 01's examples
+
+#[test]
+fn nothing_read() {
+    for text in ["", "a|b", "hello", "pg||", "xx|md|3SA|"] {
+        let numbers = boards::heading_numbers(text.as_bytes());
+        assert_eq!(numbers.board, lin_host_rust::model::fresh_board());
+        let Board {
+            heading,
+            calls,
+            play,
+        } = board(text);
+        assert_eq!(heading.names, [b""; 4]);
+        assert_eq!(heading.dealer, Seat::North);
+        assert_eq!(lengths(&heading), [0; 4]);
+        assert_eq!(heading.vulnerability, Vulnerability::None);
+        assert_eq!((heading.title, heading.room_board), (None, None));
+        assert_eq!((heading.board_header, heading.claim), (None, None));
+        assert_eq!((calls.len(), play.len()), (0, 0));
+    }
+}
+
+#[test]
+fn cases_of_deals() {
+    let c4 = heading("md|1|");
+    assert_eq!((c4.dealer, lengths(&c4)), (Seat::South, [0; 4]));
+    let c5 = heading("md|3SA|md|0SK|");
+    assert_eq!((c5.dealer, lengths(&c5)), (Seat::North, [1, 0, 0, 0]));
+    assert_eq!(hand(&c5, Seat::South), "SA");
+}
+
+#[test]
+fn cases_of_claims() {
+    // C6 and C7
+    assert_eq!(heading("mc|9|mc|x|").claim, None);
+    assert_eq!(heading("mc|+009|").claim, Some(9));
+    for (value, claim) in [
+        ("0", Some(0)),
+        ("255", Some(255)),
+        (" +7\n", Some(7)),
+        ("256", None),
+        ("+", None),
+        ("-0", None),
+        ("++5", None),
+        ("+ 7", None),
+        ("", None),
+    ] {
+        assert_eq!(heading(&format!("mc|{value}|")).claim, claim, "{value:?}");
+    }
+    let long = format!("mc|{}9|", "0".repeat(65_000));
+    assert_eq!(heading(&long).claim, Some(9));
+}
+
+#[test]
+fn cases_of_play() {
+    // C8
+    assert_eq!(board("pc|SA|pc|S|pc|!SA|").play, [Card(12)]);
+    let play = board("pc| s2 |pc|HA|pc|dT|pc|Ck|pc|S10|").play;
+    assert_eq!(play, [Card(0), Card(25), Card(34), Card(50)]);
+    let shown: Vec<String> = play.iter().map(Card::to_string).collect();
+    assert_eq!(shown, ["S2", "HA", "DT", "CK"]);
+}
+
+#[test]
+fn cases_of_vulnerability() {
+    // C9
+    assert_eq!(heading("sv|b|sv|x|").vulnerability, Vulnerability::None);
+    for (value, vulnerability) in [
+        ("n", Vulnerability::NorthSouth),
+        (" Ns ", Vulnerability::NorthSouth),
+        ("E", Vulnerability::EastWest),
+        ("ew", Vulnerability::EastWest),
+        ("B", Vulnerability::Both),
+        ("both", Vulnerability::Both),
+        ("ALL", Vulnerability::Both),
+        ("n\u{17F}", Vulnerability::None),
+        ("o", Vulnerability::None),
+    ] {
+        let text = format!("sv|{value}|");
+        assert_eq!(heading(&text).vulnerability, vulnerability, "{value:?}");
+    }
+}
+
+#[test]
+fn cases_of_calls() {
+    let call = |bid: &'static str, alerted| Call {
+        bid: bid.as_bytes(),
+        alerted,
+        annotation: None,
+    };
+    // C10
+    assert_eq!(board("mb|1C!!|").calls, [call("1C", true)]);
+    let made = board("mb|p|mb|1C! |mb|!!|mb||mb| d|").calls;
+    assert_eq!(
+        made,
+        [
+            call("p", false),
+            call("1C! ", false),
+            call("", true),
+            call("", false),
+            call(" d", false),
+        ]
+    );
+}
+
+#[test]
+fn annotations_of_calls() {
+    let made = board("an|early|mb|1N|an|one|an|15-17|mb|p|pc|SA|an||mb|d|").calls;
+    let annotations: Vec<_> = made.iter().map(|c| c.annotation).collect();
+    assert_eq!(annotations, [Some(&b"15-17"[..]), Some(b""), None]);
+}
+
+#[test]
+fn the_listed_board() {
+    let text = "qx|o1|md|3SAK,SQJ,ST9|mb|1C!|pc|SA|mc|9|";
+    let Board {
+        heading,
+        calls,
+        play,
+    } = board(text);
+    assert_eq!(heading.room_board, Some(&b"o1"[..]));
+    assert_eq!(heading.dealer, Seat::North);
+    assert_eq!(lengths(&heading), [2, 2, 2, 0]);
+    assert_eq!(hand(&heading, Seat::West), "SJSQ");
+    assert_eq!(heading.claim, Some(9));
+    assert_eq!((calls.len(), calls[0].bid), (1, &b"1C"[..]));
+    assert_eq!(play, [Card(12)]);
+    // a part of the caller's text, not a copy
+    assert_eq!(calls[0].bid.as_ptr(), text[25..].as_ptr());
+}
+
+// Points of the fields
+
+#[test]
+fn names() {
+    let read = |text| heading(text).names.map(|n| String::from_utf8_lossy(n));
+    assert_eq!(read("pn|a, b,é|"), ["a", " b", "é", ""]);
+    assert_eq!(read("pn|a,b,c,d|pn||"), ["", "b", "c", "d"]);
+    assert_eq!(read("pn|a,b,c,d,e|pn|f,|"), ["f", "", "c", "d"]);
+    // never set is 0, 0; an empty piece stands at its place
+    let numbers = boards::heading_numbers(b"pn|a,,b|");
+    assert_eq!(numbers.board.names, [3, 1, 5, 0, 6, 1, 0, 0]);
+}
+
+#[test]
+fn texts_and_their_absence() {
+    let read = |text| {
+        let h = heading(text);
+        [h.title, h.room_board, h.board_header].map(|t| t.map(String::from_utf8_lossy))
+    };
+    let absent = [None, None, None];
+    let empty_header = [None, None, Some("".into())];
+    assert_eq!(read("mn|a|qx|b|mn||qx||"), absent);
+    assert_eq!(read("ah|c|ah||"), empty_header);
+    let kept = [
+        Some(" a\n".into()),
+        Some("o1".into()),
+        Some("Board+7".into()),
+    ];
+    assert_eq!(read("mn| a\n|qx|o1|ah|Board+7|"), kept);
+
+    let numbers = boards::heading_numbers(b"mn|ab|ah||").board;
+    let words = |t: boards::LinText| [t.present, t.start, t.len];
+    assert_eq!(words(numbers.title), [1, 3, 2]);
+    assert_eq!(words(numbers.room_board), [0, 0, 0]);
+    assert_eq!(words(numbers.board_header), [1, 9, 0]);
+}
+
+#[test]
+fn commands_in_any_dress() {
+    let dressed = heading("\r\nMD|1|\u{3000}mN\u{85}|a|\u{FEFF}qx|b|");
+    assert_eq!(dressed.dealer, Seat::South);
+    assert_eq!(dressed.title, Some(&b"a"[..]));
+    assert_eq!(dressed.room_board, None);
+}
+
+#[test]
+fn hands() {
+    let south = |text| hand(&heading(text), Seat::South);
+    assert_eq!(south("md|11SA|"), "SA");
+    assert_eq!(south("md|1AsaKxhq1|"), "SKSAHQ");
+    assert_eq!(south("md|1SAA|"), "SASA");
+    let apart = heading("md|1S,AK|");
+    assert_eq!(lengths(&apart), [0; 4]);
+    let again = heading("md|1SA,SK|md|2,SQ|");
+    assert_eq!((again.dealer, lengths(&again)), (Seat::West, [0, 1, 0, 0]));
+}
+
+#[test]
+fn implied_east() {
+    let suits = ["S", "H", "D"].map(|s| format!("{s}AKQJT98765432"));
+    let three = suits.join(",");
+    for east in ["", ",", ", \u{3000}", ",,SA", ", ,x"] {
+        let text = format!("md|1{three}{east}|");
+        let all = heading(&text);
+        assert_eq!(lengths(&all), [13; 4], "{east:?}");
+        assert_eq!(all.deal.hand(Seat::East)[39..], [1; 13]);
+    }
+    for (east, cards) in [(",x", 0), (",S", 0), (",\u{FEFF}", 0), (",SA", 1)] {
+        let text = format!("md|1{three}{east}|");
+        assert_eq!(lengths(&heading(&text))[3], cards, "{east:?}");
+    }
+    let repeated = ["SAAAAAAAAAAAAA"; 3].join(",");
+    let text = format!("md|1{repeated}|");
+    assert_eq!(lengths(&heading(&text)), [13, 13, 13, 51]);
+}
+
+// Refusals
+
+const TEXT: &[u8] = b"mb|p|pc|SA|mb|1C!|an|x|pc|HK|pc|D2|";
+
+#[test]
+fn refuses_1_then_2() {
+    let refused = |text: &[u8]| {
+        compared(text);
+        assert_eq!(boards::heading(text).err(), boards::board(text).err());
+        boards::board(text).err()
+    };
+    assert_eq!(refused(&vec![b' '; LIMIT]), None);
+    let long = Some(Refusal::TextTooLong);
+    assert_eq!(refused(&vec![b' '; LIMIT + 1]), long);
+    assert_eq!(refused(&vec![0xFF; LIMIT + 1]), long);
+    assert_eq!(refused(b"\xFF"), Some(Refusal::NotUtf8(0)));
+    // 2 comes before 3
+    assert_eq!(refused(b"mb|p|pc|SA|\xC3"), Some(Refusal::NotUtf8(11)));
+    let refused = boards::parse_lin_into(b"mb|p|\xFF", &mut [], &mut []);
+    assert_eq!(refused, Err(Refusal::NotUtf8(5)));
+}
+
+#[test]
+fn too_few_rows() {
+    let few = |kind, n| Some(Refusal::TooFewRows(kind, n));
+    let no_calls = few(RowKind::Calls, 2);
+    let no_cards = few(RowKind::Cards, 3);
+    for (words, places, refusal) in [
+        (0, 0, no_calls),
+        (0, 3, no_calls),
+        (11, 2, no_calls),
+        (11, 9, no_calls),
+        (12, 0, no_cards),
+        (12, 2, no_cards),
+        (99, 2, no_cards),
+        (12, 3, None),
+    ] {
+        let (mut rows, mut cards) = (vec![7; words], vec![8; places]);
+        let answer = boards::parse_lin_into(TEXT, &mut rows, &mut cards);
+        assert_eq!(answer.err(), refusal, "{words}, {places}");
+        if refusal.is_some() {
+            assert_eq!((rows, cards), (vec![7; words], vec![8; places]));
+        }
+    }
+    let one = boards::parse_lin_into(b"mb|p|", &mut [], &mut []);
+    assert_eq!(one.err(), few(RowKind::Calls, 1));
+}
+
+#[test]
+fn rows_beyond_those_needed() {
+    let (mut rows, mut cards) = ([7; 20], [8; 5]);
+    let heading = boards::parse_lin_into(TEXT, &mut rows, &mut cards).unwrap();
+    assert_eq!((heading.calls, heading.cards), (2, 3));
+    assert_eq!(rows[..12], [3, 1, 0, 0, 0, 0, 14, 2, 1, 1, 21, 1]);
+    assert_eq!(rows[12..], [7; 8]);
+    assert_eq!(cards, [12, 24, 26, 8, 8]);
+    compared(TEXT);
+}
+
+// Against upstream
+
+#[test]
+fn stored_texts() {
+    for text in oracle::tokens::texts() {
+        compared(text.as_bytes());
+    }
+    oracle::utf8::texts().iter().for_each(|t| compared(t));
+}
+
+#[test]
+fn short_values() {
+    for command in ["pn", "md", "sv", "mn", "qx", "ah", "mb", "an", "pc", "mc"] {
+        for value in texts::words(&["1", "S", "A", ",", "!", "+", " ", "n", "é"], 3) {
+            compared(format!("mb|p|{command}|{value}|").as_bytes());
+        }
+    }
+}
+
+/// Every character at both ends of what is trimmed.
+#[test]
+fn every_blank() {
+    let all: Vec<char> = ('\0'..=char::MAX).filter(|c| *c != '|').collect();
+    for some in all.chunks(1_000) {
+        let token = |c: &char| format!("{c}mb{c}|{c}|pc|{c}HK{c}|");
+        let text: String = some.iter().map(token).collect();
+        compared(text.as_bytes());
+    }
+    for c in all.iter().filter(|c| **c < '\u{3100}') {
+        let text = format!("md|{c}1SA,{c},|sv|{c}b{c}|mc|{c}7{c}|mb|{c}!{c}|");
+        compared(text.as_bytes());
+    }
+}
+
+#[test]
+fn random_records() {
+    let rng = &mut Rng::new(21);
+    for _ in 0..20_000 {
+        compared(samples::record(rng, 10).as_bytes());
+    }
+    for _ in 0..100 {
+        compared(samples::record(rng, 400).as_bytes());
+    }
+}
+
+#[test]
+fn realistic_texts() {
+    let rng = &mut Rng::new(22);
+    for n in 0..60 {
+        compared(records::file(rng, n % 4).as_bytes());
+        compared(records::lines(rng, n % 4).as_bytes());
+        compared(records::movie(rng, n).as_bytes());
+    }
+}
+
+#[test]
+fn damaged_records() {
+    let rng = &mut Rng::new(23);
+    for _ in 0..2_000 {
+        let text = records::file(rng, 1);
+        compared(&texts::damaged(rng, text.as_bytes(), 6));
+        let text = samples::record(rng, 10);
+        compared(&texts::damaged(rng, text.as_bytes(), 3));
+    }
+}
+
+#[test]
+fn texts_at_the_limit() {
+    for unit in [
+        "mb||",
+        "pc|SA|",
+        "an|x|mb|!|",
+        "pn|a,b,c,d|",
+        "mc|7|sv|b|",
+        "|",
+    ] {
+        let mut text = unit.repeat(LIMIT / unit.len());
+        compared(text.as_bytes());
+        text += &" ".repeat(LIMIT - text.len());
+        compared(text.as_bytes());
+    }
+    let calls = "mb||".repeat(LIMIT / 4);
+    let read = boards::board(calls.as_bytes()).unwrap();
+    assert_eq!(read.calls.len(), 262_144);
+    let long = format!("md|1{}|", "SA".repeat((LIMIT - 5) / 2));
+    assert_eq!(heading(&long).deal.hand(Seat::South)[12], 524_285);
+}
