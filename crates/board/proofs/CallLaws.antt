@@ -1,14 +1,14 @@
 -- Laws of calls one at a time: the next mb, the annotation after it, and a bid without its exclamation marks. (01: Board, mb and an)
 -- Assumes nothing.
 use Prim.Native.Nat.{ℕ, zero, suc, _+_, _-_, _≤_, _<_}
-use native.Mathlib.Nat.{add-zero, not-suc-le-zero, le-of-suc-le-suc}
+use native.Mathlib.Nat.{add-zero}
 use native.Mathlib.Omega.{arith}
 use mathlib.Core.Path.{_≡_, refl, ap, sym, subst, _∙_}
 use mathlib.Core.Bool.{Bool, true, false, _&&_}
 use mathlib.Core.List.{List, [], _∷_, _++_}
 use mathlib.Core.Option.{Option, none, some}
 use lib.ListN.{length, getD, take, length-take}
-use lib.Seq.{take-all}
+use lib.Seq.{take-all, take-suc}
 use lib.Dec.{eqb, ltb, leb·zero, leb·suc-suc}
 use borrow.Author.Tests.{eq-eqb, ne-eqb}
 use Rattle.lin_spec.specs.Base.{pick, ascii}
@@ -102,14 +102,9 @@ without-snoc c (a ∷ x) b = go (eqb b c) (only-snoc c x b) (without-snoc c x b)
     go false e f = simp (e, f, and-false)
 
 -- going back over the marks from the end
-take-snoc : (s : List ℕ) (m : ℕ) → m < length s → take (suc m) s ≡ take m s ++ (getD s m 0 ∷ [])
-take-snoc [] m h = absurd (not-suc-le-zero h)
-take-snoc (b ∷ s) zero h = refl
-take-snoc (b ∷ s) (suc m) h = ap (λ (x : List ℕ). b ∷ x) (take-snoc s m (le-of-suc-le-suc h))
-
 module _ (s : List ℕ) (n : ℕ) (h : 0 < n) (w : n ≤ length s) where
   last : take n s ≡ take (n - 1) s ++ (getD s (n - 1) 0 ∷ [])
-  last = let q : n ≡ suc (n - 1) = omega arith in ap (λ (k : ℕ). take k s) q ∙ take-snoc s (n - 1) (omega arith)
+  last = let q : n ≡ suc (n - 1) = omega arith in ap (λ (k : ℕ). take k s) q ∙ take-suc s (n - 1) 0 (omega arith)
 
   pub mark-off : getD s (n - 1) 0 ≡ 0x21 → withoutEnd 0x21 (take (n - 1) s) ≡ withoutEnd 0x21 (take n s)
   mark-off e = sym (ap (withoutEnd 0x21) last ∙ without-snoc 0x21 (take (n - 1) s) (getD s (n - 1) 0) ∙ simp (eq-eqb _ 0x21 e))

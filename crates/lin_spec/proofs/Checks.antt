@@ -21,7 +21,7 @@ unmet true r cs a b h = let z : _≡_ {A = ℕ} 0 1 = cc in absurd (omega arith)
 unmet false r cs a b h = (refl, h)
 
 -- and its answer is the result
-unless-same : {A : Type 0} (cs : List (Option Refusal)) (a b : A) → unless cs a ≡ accepted b → a ≡ b
+pub unless-same : {A : Type 0} (cs : List (Option Refusal)) (a b : A) → unless cs a ≡ accepted b → a ≡ b
 unfolding unless
 unless-same [] a b h = cc
 unless-same (none ∷ cs) a b h = unless-same cs a b h

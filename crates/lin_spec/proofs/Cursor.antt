@@ -170,17 +170,17 @@ no-tokens : (s : List ℕ) → tokens s ≡ [] → trailing s ≡ s
 unfolding write
 no-tokens s e = rw e at (written-back s)
 
--- what stands after a piece and its pipe
-pub after-piece : (s : List ℕ) (a : ℕ) (x t : List ℕ) → drop a s ≡ x ++ pipe ∷ t → drop (a + (length x + 1)) s ≡ t
-after-piece s a x t e = sym (drop-drop (length x + 1) a s) ∙ ap (drop (length x + 1)) e ∙ drop-append-add x (pipe ∷ t) 1
+-- what stands after a piece and the byte that ends it
+pub after-piece : (c : ℕ) (s : List ℕ) (a : ℕ) (x t : List ℕ) → drop a s ≡ x ++ c ∷ t → drop (a + (length x + 1)) s ≡ t
+after-piece c s a x t e = sym (drop-drop (length x + 1) a s) ∙ ap (drop (length x + 1)) e ∙ drop-append-add x (c ∷ t) 1
 
 took : (s : List ℕ) (at : ℕ) (x y : List ℕ) (r : Pieces) → drop at s ≡ x ++ pipe ∷ (y ++ pipe ∷ joined pipe r)
     → cut pipe (drop at s) ≡ piece x (piece y r) → Whole pipe r
     → Took s at (place at (length x)) (place (at + (length x + 1)) (length y)) (at + (length x + 1) + (length y + 1))
 unfolding tokens trailing paired left part
 took s at x y r f e w =
-    let d = after-piece s at x _ f in
-    let n = after-piece s (at + (length x + 1)) y _ d in
+    let d = after-piece pipe s at x _ f in
+    let n = after-piece pipe s (at + (length x + 1)) y _ d in
     let p : part s at (length x) ≡ x = ap (take (length x)) f ∙ take-append-seam x _ in
     let q : part s (at + (length x + 1)) (length y) ≡ y = ap (take (length y)) d ∙ take-append-seam y _ in
     let l : length s - at ≡ length x + suc (length y + suc (length (joined pipe r))) = sym (length-drop at s) ∙ ap length f ∙ simp length-append in

@@ -9,4 +9,5 @@ pub mod Document
 pub mod Cards
 pub mod Rules
 pub mod Reading
+pub mod File
 pub mod Cases

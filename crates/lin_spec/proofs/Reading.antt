@@ -71,8 +71,8 @@ unfolding placed paired joined part
 placed-from s at (end x) h = refl
 placed-from s at (piece x (end y)) h = refl
 placed-from s at (piece x (piece y r)) h =
-    let d = after-piece s at x _ h in
-    let n = after-piece s (at + (length x + 1)) y _ d in
+    let d = after-piece pipe s at x _ h in
+    let n = after-piece pipe s (at + (length x + 1)) y _ d in
     let q : take (length y) (drop (at + (length x + 1)) s) ≡ y = ap (take (length y)) d ∙ take-append-seam y _ in
     let ih = placed-from s (at + (length x + 1) + (length y + 1)) r n in
     simp (q, ih)
@@ -90,8 +90,8 @@ step-stream s at (piece x (end y)) e = simp e
 step-stream s at (piece x (piece y r)) e =
     let w = subst (Whole pipe) e (whole-cut pipe (drop at s)) .1 .1 in
     let f : drop at s ≡ x ++ pipe ∷ (y ++ pipe ∷ joined pipe r) = sym (joined-cut pipe (drop at s)) ∙ ap (joined pipe) e in
-    let d = after-piece s at x _ f in
-    let n = after-piece s (at + (length x + 1)) y _ d in
+    let d = after-piece pipe s at x _ f in
+    let n = after-piece pipe s (at + (length x + 1)) y _ d in
     let q : part s at (length x) ≡ x = ap (take (length x)) f ∙ take-append-seam x _ in
     simp (e, q, n, cut-joined pipe r w)
 
@@ -208,8 +208,8 @@ unfolding placed joined
 placed-within s at (end x) h k = tt
 placed-within s at (piece x (end y)) h k = tt
 placed-within s at (piece x (piece y r)) h k =
-    let d = after-piece s at x _ h in
-    let n = after-piece s (at + (length x + 1)) y _ d in
+    let d = after-piece pipe s at x _ h in
+    let n = after-piece pipe s (at + (length x + 1)) y _ d in
     let l : length s - at ≡ length x + suc (length y + suc (length (joined pipe r))) = sym (length-drop at s) ∙ ap length h ∙ simp length-append in
     (omega arith, placed-within s (at + (length x + 1) + (length y + 1)) r n (omega arith))
 

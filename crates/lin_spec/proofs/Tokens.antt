@@ -191,7 +191,7 @@ paired-no-pipes (end x) h = tt
 paired-no-pipes (piece x (end y)) h = tt
 paired-no-pipes (piece x (piece y r)) h = (h .0, h .1 .0, paired-no-pipes r (h .1 .1))
 
-count-append : (c : ℕ) (x y : List ℕ) → count c (x ++ y) ≡ count c x + count c y
+pub count-append : (c : ℕ) (x y : List ℕ) → count c (x ++ y) ≡ count c x + count c y
 unfolding count
 count-append c [] y = omega arith
 count-append c (b ∷ x) y = go (eqb b c) (count-append c x y)

@@ -11,3 +11,4 @@ pub mod Cards
 pub mod Board
 pub mod Reading
 pub mod Fresh
+pub mod File
