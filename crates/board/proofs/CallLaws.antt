@@ -4,7 +4,7 @@ use Prim.Native.Nat.{ℕ, zero, suc, _+_, _-_, _≤_, _<_}
 use native.Mathlib.Nat.{add-zero}
 use native.Mathlib.Omega.{arith}
 use mathlib.Core.Path.{_≡_, refl, ap, sym, subst, _∙_}
-use mathlib.Core.Bool.{Bool, true, false, _&&_}
+use mathlib.Core.Bool.{Bool, true, false, _&&_, and-true, and-false, and-assoc}
 use mathlib.Core.List.{List, [], _∷_, _++_}
 use mathlib.Core.Option.{Option, none, some}
 use lib.ListN.{length, getD, take, length-take}
@@ -70,22 +70,10 @@ module _ (s : List ℕ) (at k : ℕ) (v : Span) (n : ℕ) (t : TokenAt s at k v 
 
 -- A bid without the exclamation marks at its end
 
-and-true : (t : Bool) → (t && true) ≡ t
-and-true true = refl
-and-true false = refl
-
-and-false : (t : Bool) → (t && false) ≡ false
-and-false true = refl
-and-false false = refl
-
-and-assoc : (t u v : Bool) → (t && (u && v)) ≡ ((t && u) && v)
-and-assoc true u v = refl
-and-assoc false u v = refl
-
 only-snoc : (c : ℕ) (x : List ℕ) (b : ℕ) → only c (x ++ (b ∷ [])) ≡ (only c x && eqb b c)
 unfolding only
 only-snoc c [] b = and-true (eqb b c)
-only-snoc c (a ∷ x) b = ap (λ (t : Bool). eqb a c && t) (only-snoc c x b) ∙ and-assoc (eqb a c) (only c x) (eqb b c)
+only-snoc c (a ∷ x) b = ap (λ (t : Bool). eqb a c && t) (only-snoc c x b) ∙ sym (and-assoc (eqb a c) (only c x) (eqb b c))
 
 without-snoc : (c : ℕ) (x : List ℕ) (b : ℕ) → withoutEnd c (x ++ (b ∷ [])) ≡ pick (eqb b c) (withoutEnd c x) (x ++ (b ∷ []))
 unfolding withoutEnd only

@@ -179,6 +179,10 @@ read-heading s at h d l e =
       cards = (l .cards ∙ sym (cards-count s ts)) i;
     }
 
+pub read-names : (s : List ℕ) (at : ℕ) (h : Head) → Leaves s (stream s at) h freshHead [] → h .names ≡ boardAt s at .names
+unfolding boardFrom over
+read-names s at h l = l .names
+
 -- Rows of six words
 
 words-cons : (c : CallOf Span) (cs : List (CallOf Span)) → callWords (c ∷ cs) ≡ rowWords (rowOf c) ++ callWords cs

@@ -12,5 +12,6 @@ pub use play::NextCard;
 pub use play::next_card;
 pub use reader::board_at;
 pub use reader::heading_at;
+pub use reader::names_at;
 pub use reader::parse_lin;
 pub use reader::parse_lin_heading;

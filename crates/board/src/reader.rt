@@ -13,6 +13,7 @@ use lin_spec::Board;
 use lin_spec::Heading;
 use lin_spec::Refusal;
 use lin_spec::RowKind;
+use lin_spec::Span;
 use lin_spec::Verdict;
 use output::put_byte;
 use output::put_word;
@@ -114,7 +115,16 @@ pub fn heading_at(text: &[u8], at: usize) -> Heading
     }
 }
 
-// The same with its rows and cards, where there are enough places.
+// The names of that board alone.
+pub fn names_at(text: &[u8], at: usize) -> [Span; 4]
+    requires { ⌜ (at ≤ length (now text)) × (length (now text) < 2 ^ 32) ⌝ }
+    ensures { λ r. ⌜ r ≡ boardAt (now (text .entry)) at .names ⌝ }
+{
+    let h = read_head(text, at);
+    h.names
+}
+
+// The same board with its rows and cards, where there are enough places.
 pub fn board_at(text: &[u8], at: usize, rows: &mut [u32], cards: &mut [u8]) -> Heading
     requires { ⌜ (at ≤ length (now text)) × (length (now text) < 2 ^ 32) ⌝ }
     ensures { λ r. ⌜ _≡_ {A = Reading} (record { heading = r; rows = now (rows .exit); cards = now (cards .exit) }) (stored (unless (fewRows (boardAt (now (text .entry)) at) (now (rows .entry)) (now (cards .entry))) (boardAt (now (text .entry)) at)) (now (rows .entry)) (now (cards .entry))) ⌝ }

@@ -76,14 +76,6 @@ fields f g h i eg eh ei =
 
 -- East
 
-null-length : (x : List ℕ) → eqb (length x) 0 ≡ null x
-null-length [] = refl
-null-length (b ∷ x) = ne-eqb (suc (length x)) 0 (λ e. omega arith)
-
--- the test of a trimmed text's length
-pub blank-is : (s t : List ℕ) → t ≡ trim s → eqb (length t) 0 ≡ blank s
-blank-is s t e = null-length t ∙ ap null e ∙ trim-blank s
-
 -- the code's test of East's field and the three lengths
 module _ (e s w n : List ℕ) (b t : Bool) (eb : b ≡ blank e) (et : t ≡ thirteens s w n) (r : List ℕ) where
   -- the test holds

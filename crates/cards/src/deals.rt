@@ -5,13 +5,12 @@ use crate::hands::read_hand;
 use crate::hands::remainder;
 use lin_spec::Deal;
 use text::find_byte;
+use text::is_blank;
 use text::part;
-use text::trim;
 ghost use mathlib.Core.Path.{_≡_};
 ghost use mathlib.Core.List.{_++_};
 ghost use Prim.Native.Nat.{_<_, _^_};
 ghost use lib.ListN.{length};
-ghost use Rattle.lin_spec.specs.White.{blank};
 ghost use Rattle.lin_spec.specs.Tokens.{cut};
 ghost use Rattle.lin_spec.specs.Cards.{field, thirteens, eastOf, dealOf};
 ghost use Rattle.cards.specs.Deals.{others, placed};
@@ -28,13 +27,6 @@ fn other_fields(s: &[u8]) -> &[u8]
     ensures { λ r. ⌜ cut 0x2C (now r) ≡ others (cut 0x2C (now (s .entry))) ⌝ }
 {
     part(s, find_byte(s, b',', 0) + 1, s.len())
-}
-
-// Nothing is left after trimming.
-fn is_blank(s: &[u8]) -> bool
-    ensures { λ r. ⌜ r ≡ blank (now (s .entry)) ⌝ }
-{
-    trim(s).len() == 0
 }
 
 // Three hands of 13 cards each.

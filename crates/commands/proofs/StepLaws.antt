@@ -15,7 +15,8 @@ use Rattle.lin_spec.specs.declared.Span.{Span}
 use Rattle.lin_spec.proofs.Cursor.{means}
 use Rattle.lin_spec.proofs.Reading.{streams}
 use Rattle.commands.specs.Commands.{words, commandOf}
-use Rattle.commands.specs.Steps.{TokenAt, Knows}
+use Rattle.commands.specs.Steps.{TokenAt, Commands, Knows}
+use Rattle.commands.specs.declared.steps.Commanded.{Commanded}
 use Rattle.commands.specs.declared.steps.Known.{Known}
 use Rattle.commands.proofs.CommandLaws.{code-is}
 
@@ -29,12 +30,15 @@ module _ (s : List ℕ) (at : ℕ) (c v : Place) (n : ℕ) (e : stepAt s at ≡ 
       let m = means s at (found c v n) e in
       let a = m .after in
       let b = m .split in
-      record { command = part s (c .start) (c .len); front = streams s at (found c v n) e; number = ek; value = value-within; later = omega arith; within = m .within }
+      record { command = part s (c .start) (c .len); front = streams s at (found c v n) e; number = ek; value = value-within; after = omega arith; later = omega arith; within = m .within }
 
 pub no-token : (s : List ℕ) (at n : ℕ) → stepAt s at ≡ ended n → stream s at ≡ []
 no-token s at n e = streams s at (ended n) e
 
 -- what a step that was called for and taken apart says
+pub commanded : (s : List ℕ) (at : ℕ) (r v : Commanded) → Commands s at r → r ≡ v → Commands s at v
+commanded s at r v h e = subst (Commands s at) e h
+
 pub known : (s : List ℕ) (at : ℕ) (r v : Known) → Knows s at r → r ≡ v → Knows s at v
 known s at r v h e = subst (Knows s at) e h
 

@@ -1,13 +1,15 @@
 -- What one token with its command's number says of the tokens from there on. (01: Tokens, Board)
-use Prim.Native.Nat.{ℕ, _<_, _≤_}
+use Prim.Native.Nat.{ℕ, _+_, _<_, _≤_}
 use mathlib.Core.Path.{_≡_}
 use mathlib.Core.List.{List, [], _∷_}
 use lib.ListN.{length}
-use Rattle.lin_spec.specs.Records.{endOf}
+use Rattle.lin_spec.specs.Records.{span, endOf}
 use Rattle.lin_spec.specs.Tokens.TokenOf.{token}
 use Rattle.lin_spec.specs.Reading.{stream}
 use Rattle.lin_spec.specs.declared.Span.{Span}
 use Rattle.commands.specs.Commands.{commandOf}
+use Rattle.commands.specs.declared.steps.Commanded.{Commanded}
+use Rattle.commands.specs.declared.steps.Commanded.the-variants.{Token as Spoken, Ended as Silent}
 use Rattle.commands.specs.declared.steps.Known.{Known}
 use Rattle.commands.specs.declared.steps.Known.the-variants.{Token, Ended}
 
@@ -17,8 +19,13 @@ pub record TokenAt (s : List ℕ) (at k : ℕ) (v : Span) (n : ℕ) : Type 0 whe
   pub front : stream s at ≡ token command v ∷ stream s n
   pub number : k ≡ commandOf command
   pub value : endOf v ≤ length s
+  pub after : n ≡ endOf v + 1
   pub later : at < n
   pub within : n ≤ length s
+
+abbrev pub Commands : (s : List ℕ) (at : ℕ) → Commanded → Type 0
+Commands s at (Spoken k p c) = TokenAt s at k (span (p .start) (p .len)) (c .at)
+Commands s at Silent = stream s at ≡ []
 
 abbrev pub Knows : (s : List ℕ) (at : ℕ) → Known → Type 0
 Knows s at (Token k v c) = TokenAt s at k v (c .at)

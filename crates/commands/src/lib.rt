@@ -23,5 +23,7 @@ pub use fields::on_present;
 pub use fields::on_sv;
 pub use fields::on_value;
 pub use fields::shown;
+pub use steps::Commanded;
 pub use steps::Known;
+pub use steps::next_command;
 pub use steps::next_known;

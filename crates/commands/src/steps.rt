@@ -1,34 +1,53 @@
-// One token at a time, with its command's number and its value as a span. (01: Tokens, Board)
+// One token at a time, with its command's number. (01: Tokens, Board)
 use crate::commands::command_of;
 use document::Cursor;
+use document::Part;
 use document::Step;
 use document::command;
 use lin_spec::Span;
 ghost use Prim.Native.Nat.{_<_, _^_};
 ghost use lib.ListN.{length};
-ghost use Rattle.commands.specs.Steps.{Knows};
+ghost use Rattle.commands.specs.Steps.{Commands, Knows};
 
 // A token's command by number and its value, with the cursor after it; or no token.
+pub enum Commanded {
+    Token(u8, Part, Cursor),
+    Ended,
+}
+
+// The same with the value as a span.
 pub enum Known {
     Token(u8, Span, Cursor),
     Ended,
 }
 
 // The token at the cursor.
-pub fn next_known(text: &[u8], cursor: Cursor) -> Known
-    requires { ⌜ length (now text) < 2 ^ 32 ⌝ }
-    ensures { λ r. ⌜ Knows (now (text .entry)) (cursor .at) r ⌝ }
+pub fn next_command(text: &[u8], cursor: Cursor) -> Commanded
+    ensures { λ r. ⌜ Commands (now (text .entry)) (cursor .at) r ⌝ }
 {
     match cursor.next(text) {
         Step::Found(t, c) => {
             let k = command_of(command(text, t));
             let value = t.value;
+            Commanded::Token(k, value, c)
+        }
+        Step::Ended(_) => Commanded::Ended,
+    }
+}
+
+// The same in a text whose places are numbers of 32 bits.
+pub fn next_known(text: &[u8], cursor: Cursor) -> Known
+    requires { ⌜ length (now text) < 2 ^ 32 ⌝ }
+    ensures { λ r. ⌜ Knows (now (text .entry)) (cursor .at) r ⌝ }
+{
+    match next_command(text, cursor) {
+        Commanded::Token(k, value, c) => {
             let v = Span {
                 start: value.start as u32,
                 len: value.len as u32,
             };
             Known::Token(k, v, c)
         }
-        Step::Ended(_) => Known::Ended,
+        Commanded::Ended => Known::Ended,
     }
 }

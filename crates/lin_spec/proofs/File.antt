@@ -81,6 +81,7 @@ part-here s at (more c v e m z r) begin back l = go (isCommand c (ascii "qx")) r
   where
     again : isCommand c (ascii "qx") ≡ true → partsAt s back ≡ partsFrom s back (endOf v + 1) (endOf v + 1) (stream s (endOf v + 1))
     again q = simp (l .there (ap null e)) (l .same ∙ simp (e, q, le-ltb back back (omega arith)))
+
     go : (q : Bool) → isCommand c (ascii "qx") ≡ q → (t : Bool) → ltb begin back ≡ t → (w : Bool) → leads c ≡ w
         → ((b k : ℕ) → Led s k (endOf v + 1) → Here s b k (endOf v + 1)) → Here s begin back at
     go true q true t w u ih = simp (e, q, t, again q)
@@ -166,7 +167,7 @@ module _ (at m : ℕ) (x y t : List ℕ) (h : count pipe x ≡ 0) (k : count pip
       let j = m - (length x + 1 + (length y + 1)) in
       let q : m ≡ length x + suc (length y + suc j) = omega arith in
       let b : take m two ≡ x ++ pipe ∷ (y ++ pipe ∷ take j t) =
-          ap (λ (i : ℕ). take i two) q ∙ take-append-add x (pipe ∷ (y ++ pipe ∷ t)) (suc (length y + suc j)) ∙ ap (λ (z : List ℕ). x ++ pipe ∷ z) (take-append-add y (pipe ∷ t) (suc j)) in
+      ap (λ (i : ℕ). take i two) q ∙ take-append-add x (pipe ∷ (y ++ pipe ∷ t)) (suc (length y + suc j)) ∙ ap (λ (z : List ℕ). x ++ pipe ∷ z) (take-append-add y (pipe ∷ t) (suc j)) in
       simp (b, cut-piece pipe x (y ++ pipe ∷ take j t) h, cut-piece pipe y (take j t) k)
 
 take-placed : (at m : ℕ) (p : Pieces) → Whole pipe p → placed at (cut pipe (take m (joined pipe p))) ≡ upTo (at + m) (placed at p)
@@ -180,8 +181,8 @@ take-placed at m (piece x (piece y r)) w =
     split m z
     (λ l. short-cut at m x y (joined pipe r) (w .0) (w .1 .0) l ∙ sym (simp (lt-leb (at + (length x + 1) + length y + 1) (at + m) (omega arith))))
     (λ l.
-      long-cut at m x y (joined pipe r) (w .0) (w .1 .0) l
-      ∙ simp (ih, le-leb (at + (length x + 1) + length y + 1) (at + m) (omega arith), (let q : n + (m - z) ≡ at + m = omega arith in q)))
+    long-cut at m x y (joined pipe r) (w .0) (w .1 .0) l
+    ∙ simp (ih, le-leb (at + (length x + 1) + length y + 1) (at + m) (omega arith), (let q : n + (m - z) ≡ at + m = omega arith in q)))
 
 drop-take : (a e : ℕ) (s : List ℕ) → drop a (take e s) ≡ take (e - a) (drop a s)
 drop-take zero e s = let q : e ≡ e - 0 = omega arith in ap (λ (i : ℕ). take i s) q
@@ -205,12 +206,12 @@ unfolding stream placed cut
 stream-take s a e =
     split e a
     (λ h.
-      let q : e - a ≡ 0 = omega arith in
-      rw (drop-take a e s, q) (sym (none-placed e a (omega arith) (cut pipe (drop a s)))))
+    let q : e - a ≡ 0 = omega arith in
+    rw (drop-take a e s, q) (sym (none-placed e a (omega arith) (cut pipe (drop a s)))))
     (λ h.
-      let q : a + (e - a) ≡ e = omega arith in
-      let t = take-placed a (e - a) (cut pipe (drop a s)) (whole-cut pipe (drop a s)) in
-      rw (drop-take a e s) (rw (joined-cut pipe (drop a s), q) at t))
+    let q : a + (e - a) ≡ e = omega arith in
+    let t = take-placed a (e - a) (cut pipe (drop a s)) (whole-cut pipe (drop a s)) in
+    rw (drop-take a e s) (rw (joined-cut pipe (drop a s), q) at t))
 
 -- A part ends after it begins, and within the text
 
@@ -253,6 +254,8 @@ pub record Found (s : List ℕ) (c : Standing) (n : ℕ) (p : Section) (d : Stan
   pub next : d .number ≡ pick (p .board) (sat (c .number + 1)) (c .number)
   pub later : c .at < d .at
   pub within : d .at ≤ length s + 1
+  pub begins : p .start ≤ p .stop
+  pub stops : p .stop ≤ length s
 
 abbrev pub Visited : (s : List ℕ) (c : Standing) → Visit → Type 0
 Visited s c (found n p d) = Found s c n p d
@@ -263,7 +266,7 @@ unfolding field joined
 first-short (end x) = omega arith
 first-short (piece x r) = rw (length-append x (0x0A ∷ joined 0x0A r)) (omega arith)
 
-line-stops : (s : List ℕ) (at : ℕ) → at ≤ length s → lineAt s at .stop ≤ length s
+pub line-stops : (s : List ℕ) (at : ℕ) → at ≤ length s → lineAt s at .stop ≤ length s
 line-stops s at h =
     let p = cut 0x0A (drop at s) in
     let f : length s - at ≡ length (joined 0x0A p) = sym (length-drop at s) ∙ ap length (sym (joined-cut 0x0A (drop at s))) in
@@ -278,13 +281,14 @@ visited s c = picked (Visited s c) (c .lines) (λ l. lines (ltb (length s) (c .a
     lines true l e = (refl, (unfold linesAt in simp (l, e)))
     lines false l e =
         let h = ltb-false (length s) (c .at) e in
-        record { number = refl; front = simp l (next-line s (c .at) h); next = refl; later = omega arith; within = let w = line-stops s (c .at) h in omega arith }
+        record { number = refl; front = simp l (next-line s (c .at) h); next = refl; later = omega arith; within = let w = line-stops s (c .at) h in omega arith; begins = omega arith; stops = line-stops s (c .at) h }
+
     parts : (t : Bool) → c .lines ≡ false → null (stream s (c .at)) ≡ t
         → Visited s c (pick t (ended c) (after c (partAt s (c .at) (partEnd (c .at) (c .at) (c .at) (stream s (c .at)))) (partEnd (c .at) (c .at) (c .at) (stream s (c .at)))))
     parts true l e = (refl, (unfold partsAt in simp (l, e)))
     parts false l e =
         let w = part-later s (c .at) e in
-        record { number = refl; front = simp l (next-part s (c .at) e); next = refl; later = w .0; within = let k = w .1 in omega arith }
+        record { number = refl; front = simp l (next-part s (c .at) e); next = refl; later = w .0; within = let k = w .1 in omega arith; begins = let k = w .0 in omega arith; stops = w .1 }
 
 pub visits : (s : List ℕ) (c : Standing) (v : Visit) → visit s c ≡ v → Visited s c v
 visits s c v e = subst (Visited s c) e (visited s c)

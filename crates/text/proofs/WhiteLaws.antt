@@ -16,7 +16,7 @@ use Rattle.lin_spec.specs.Base.{pick, any, null, starts, eqList}
 use Rattle.lin_spec.specs.Utf8.{encode}
 use Rattle.lin_spec.specs.White.{whiteSpace, front, whiteAt, skipWhite, trimStart, blank, trimEnd, trim, lower, sameWord}
 use Rattle.lin_spec.proofs.Base.{picked, list-eq, eq-list, eq-length, starts-split}
-use Rattle.lin_spec.proofs.White.{Character, character, white, blank-encode, skip-at, white-most, end-blank}
+use Rattle.lin_spec.proofs.White.{Character, character, white, blank-encode, skip-at, white-most, end-blank, trim-blank}
 use Rattle.text.specs.White.{isWhite, whiteBack, last}
 
 -- One character: the tests are the definition's
@@ -338,3 +338,11 @@ module _ (s w : List ℕ) (l : length s ≡ length w) (i : ℕ) (g : Word s w i)
     pub word-differ : (x ≡ getD w i 0 → ⊥) → false ≡ sameWord s w
     unfolding sameWord eqList
     word-differ k = sym (rw (drop-cons s i 0 h, drop-cons w i 0 (omega arith), ne-eqb _ _ (λ q. k (e ∙ q)))) ∙ g
+
+null-length : (x : List ℕ) → eqb (length x) 0 ≡ null x
+null-length [] = refl
+null-length (b ∷ x) = ne-eqb (suc (length x)) 0 (λ e. omega arith)
+
+-- the test of a trimmed text's length
+pub blank-is : (s t : List ℕ) → t ≡ trim s → eqb (length t) 0 ≡ blank s
+blank-is s t e = null-length t ∙ ap null e ∙ trim-blank s

@@ -12,6 +12,7 @@ pub use parts::find_byte;
 pub use parts::part;
 pub use utf8::is_utf8;
 pub use utf8::well_formed_len;
+pub use white::is_blank;
 pub use white::is_command;
 pub use white::same_word;
 pub use white::trim;

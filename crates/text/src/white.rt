@@ -3,7 +3,7 @@ ghost use mathlib.Core.Path.{_≡_};
 ghost use mathlib.Core.List.{[], _∷_};
 ghost use Prim.Native.Nat.{_≤_};
 ghost use lib.ListN.{length, take, drop, getD};
-ghost use Rattle.lin_spec.specs.White.{whiteAt, trimStart, trimEnd, trim, lower, sameWord, isCommand};
+ghost use Rattle.lin_spec.specs.White.{whiteAt, trimStart, trimEnd, trim, blank, lower, sameWord, isCommand};
 ghost use Rattle.text.specs.White.{isWhite, whiteBack, last};
 
 // One byte that is a white space character: U+0009 to U+000D, 0020.
@@ -134,6 +134,13 @@ pub fn trim(s: &[u8]) -> &[u8]
     let t = &s[a..];
     let n = trim_end(t);
     &t[..n]
+}
+
+// Nothing is left after trimming.
+pub fn is_blank(s: &[u8]) -> bool
+    ensures { λ r. ⌜ r ≡ blank (now (s .entry)) ⌝ }
+{
+    trim(s).len() == 0
 }
 
 // A capital of ASCII as the small letter, any other byte as it is.

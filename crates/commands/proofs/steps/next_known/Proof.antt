@@ -1,65 +1,43 @@
--- `commands::next_known` meets its contract: the cursor's step, with the number of the command.
+-- `commands::next_known` meets its contract: the value is within the text, so its places have 32 bits.
 -- Assumes nothing.
-use Rattle.commands.proofs.StepLaws.{value-within, token-at, no-token}
-use Rattle.commands.specs.Commands.{commandOf}
-use Rattle.document.specs.Steps.{stepOf}
+use Rattle.commands.proofs.StepLaws.{commanded}
 use native.Mathlib.Omega.{arith}
-use mathlib.Core.Path.{_≡_, ap, sym, _∙_}
 use borrow.Author.Needs.{needs}
 use Rattle.commands.proofs.steps.next_known.Statement.{statement}
 use Rattle.commands.proofs.steps.next_known.Tie as tie
 use Rattle.commands.proofs.steps.next_known.Reads as reads
 use Rattle.commands.proofs.steps.next_known.Lts as lts
-use Rattle.commands.proofs.commands.command_of.Reads as command-of-reads
-use Rattle.document.proofs.tokens.Cursor.next.Reads as next-reads
-use Rattle.document.proofs.command.Reads as command-reads
+use Rattle.commands.proofs.steps.next_command.Reads as next-command-reads
 
--- src/steps.rt:22:11
-next-requires : tie.Need-next-requires
-next-requires c κs = search needs
+-- src/steps.rt:43:11
+next-command-requires : tie.Need-next-command-requires
+next-command-requires c κs = search needs
 
--- src/steps.rt:23:21
-enum-known-t : tie.Need-enum-known-t
-enum-known-t c = search needs
+-- src/steps.rt:44:26
+enum-known-k : tie.Need-enum-known-k
+enum-known-k c = search needs
 
--- src/steps.rt:24:32
-command-requires : tie.Need-command-requires
-command-requires c κs = search needs
+-- src/steps.rt:46:24
+cast-t9 : tie.Need-cast-t9
+cast-t9 c = omega (arith, (commanded _ _ _ _ (c .before .before .before .before .next-command .ensures) (c .before .before .k .given .1)) .value, c .before .before .before .before .before .before .pre)
 
--- src/steps.rt:24:17
-command-of-requires : tie.Need-command-of-requires
-command-of-requires c κs = search needs
+-- src/steps.rt:47:22
+cast-t10 : tie.Need-cast-t10
+cast-t10 c = omega (arith, (commanded _ _ _ _ (c .before .before .before .before .before .next-command .ensures) (c .before .before .before .k .given .1)) .value, c .before .before .before .before .before .before .before .pre)
 
--- src/steps.rt:27:24
-cast-t11 : tie.Need-cast-t11
-cast-t11 c = omega (arith, value-within _ _ _ _ _ (sym (c .before .before .before .before .before .before .before .next .ensures) ∙ ap stepOf (c .before .before .before .before .before .t .given .1)), c .before .before .before .before .before .before .before .before .before .pre)
-
--- src/steps.rt:28:22
-cast-t12 : tie.Need-cast-t12
-cast-t12 c = omega (arith, value-within _ _ _ _ _ (sym (c .before .before .before .before .before .before .before .before .next .ensures) ∙ ap stepOf (c .before .before .before .before .before .before .t .given .1)), c .before .before .before .before .before .before .before .before .before .before .pre)
-
--- src/steps.rt:32:27
+-- src/steps.rt:51:29
 enum-told : tie.Need-enum-told
 enum-told c = search needs
 
--- src/steps.rt:18:1
+-- src/steps.rt:39:1
 returns : tie.Need-returns
-returns c = token-at _ _ _ _ _ (sym (c .before .before .before .before .before .before .before .before .next .ensures) ∙ ap stepOf (c .before .before .before .before .before .before .t .given .1)) _ (c .before .before .before .command-of .ensures ∙ ap commandOf (c .before .before .before .before .command .ensures))
+returns c = commanded _ _ _ _ (c .before .before .before .before .before .next-command .ensures) (c .before .before .before .k .given .1)
 
--- src/steps.rt:18:1
+-- src/steps.rt:39:1
 returns-2 : tie.Need-returns-2
-returns-2 c = no-token _ _ _ (sym (c .before .before .next .ensures) ∙ ap stepOf (c .enum-told .given .1))
+returns-2 c = commanded _ _ _ _ (c .before .before .next-command .ensures) (c .enum-told .given .1)
 
 pub next-known-spec : {M : Type 1} → statement M
 next-known-spec =
     tie.close
-    (tie.spec
-    next-requires
-    enum-known-t
-    command-requires
-    command-of-requires
-    cast-t11
-    cast-t12
-    enum-told
-    returns
-    returns-2)
+    (tie.spec next-command-requires enum-known-k cast-t9 cast-t10 enum-told returns returns-2)

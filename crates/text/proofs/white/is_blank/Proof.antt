@@ -1,9 +1,9 @@
--- `cards::deals::is_blank` meets its contract: a text that trims to nothing is blank. (01: Board, md)
+-- `text::is_blank` meets its contract: a text that trims to nothing is blank. (01: Records, trim)
 -- Assumes nothing.
 use borrow.Author.Needs.{needs}
-use Rattle.cards.proofs.DealLaws.{blank-is}
-use Rattle.cards.proofs.deals.is_blank.Statement.{statement}
-use Rattle.cards.proofs.deals.is_blank.Tie as tie
+use Rattle.text.proofs.WhiteLaws.{blank-is}
+use Rattle.text.proofs.white.is_blank.Statement.{statement}
+use Rattle.text.proofs.white.is_blank.Tie as tie
 
 trim-requires : tie.Need-trim-requires
 trim-requires c κs = search needs

@@ -1,0 +1,20 @@
+-- `board::names_at` meets its contract.
+-- Assumes nothing.
+use Rattle.board.proofs.ReaderLaws.{read-names}
+use borrow.Author.Needs.{needs}
+use Rattle.board.proofs.reader.names_at.Statement.{statement}
+use Rattle.board.proofs.reader.names_at.Tie as tie
+use Rattle.board.proofs.reader.names_at.Reads as reads
+use Rattle.board.proofs.reader.names_at.Lts as lts
+use Rattle.board.proofs.heading.read_head.Reads as read-head-reads
+
+-- src/reader.rt:123:9
+read-head-requires : tie.Need-read-head-requires
+read-head-requires c κs = search needs
+
+-- src/reader.rt:119:1
+returns : tie.Need-returns
+returns c = read-names _ _ _ (c .before .read-head .ensures)
+
+pub names-at-spec : {M : Type 1} → statement M
+names-at-spec = tie.close (tie.spec read-head-requires returns)

@@ -1,0 +1,192 @@
+-- Laws of the name finder: equal names, the names of a board, and the boards counted. (01: names)
+-- Assumes nothing.
+use Prim.Native.Nat.{ℕ, zero, suc, _+_, _-_, _^_, _≤_, _<_}
+use native.Mathlib.Numerals.{add-one}
+use native.Mathlib.Omega.{arith}
+use mathlib.Core.Path.{_≡_, refl, ap, sym, subst, _∙_}
+use mathlib.Core.Bool.{Bool, true, false, _&&_, _||_, not, false≢true}
+use mathlib.Core.List.{List, [], _∷_, map}
+use mathlib.Core.Option.{Option}
+use lib.ListN.{length, getD, take, drop, drop-of-length-le}
+use lib.Seq.{drop-cons}
+use lib.Dec.{eqb, ltb}
+use borrow.Author.Tests.{eq-eqb, ne-eqb, lt-ltb, le-ltb}
+use Rattle.lin_spec.specs.Base.{pick, any, eqList, ascii}
+use Rattle.lin_spec.specs.Records.{span, limit, bytesAt}
+use Rattle.lin_spec.specs.Utf8.{utf8, longest}
+use Rattle.lin_spec.specs.Refusals.{Answer, unless}
+use Rattle.lin_spec.specs.Refusals.Answer.{refused, accepted}
+use Rattle.lin_spec.specs.Reading.{stream}
+use Rattle.lin_spec.specs.Board.{BoardOf}
+use Rattle.lin_spec.specs.File.{Section as Part, holds, Standing, sections, boardsOf, boardIn, fileSpans, sameName, hasName, countIf, findName}
+use Rattle.lin_spec.specs.declared.Span.{Span}
+use Rattle.lin_spec.specs.declared.Refusal.the-variants.{TextTooLong, NotUtf8}
+use Rattle.lin_spec.proofs.Base.{picked, eq-length}
+use Rattle.lin_spec.proofs.Utf8.{short, whole-text}
+use Rattle.lin_spec.proofs.File.{remaining, Found, all-remain}
+use Rattle.board.specs.Reader.{boardAt}
+use Rattle.file.specs.Sections.{sectionOf, standingOf}
+use Rattle.file.specs.Numbers.{Ready, Holds, Finds}
+use Rattle.file.specs.declared.sections.Section.{Section}
+use Rattle.file.specs.declared.sections.BoardCursor.{BoardCursor}
+use Rattle.file.proofs.NumberLaws.{Way, way-begin, number-board, number-other, way-on}
+
+-- Two names, byte by byte
+
+module _ (a b : List ℕ) where
+  pub names-length : (length a ≡ length b → ⊥) → false ≡ sameName a b
+  names-length h = sym (eq-length a b h)
+
+  module _ (l : length a ≡ length b) (i : ℕ) (v : eqList (drop i a) (drop i b) ≡ eqList a b) where
+    pub names-end : length a ≤ i → true ≡ sameName a b
+    unfolding eqList
+    names-end h = (let z = rw (drop-of-length-le a h, drop-of-length-le b (let k : length b ≤ i = omega arith in k)) at v in z)
+
+    module _ (h : i < length a) where
+      names-cons : eqList (drop i a) (drop i b) ≡ (eqb (getD a i 0) (getD b i 0) && eqList (drop (i + 1) a) (drop (i + 1) b))
+      unfolding eqList
+      names-cons = rw (add-one, drop-cons a i 0 h, drop-cons b i 0 (let k : i < length b = omega arith in k)) refl
+
+      pub names-differ : (getD a i 0 ≡ getD b i 0 → ⊥) → false ≡ sameName a b
+      names-differ d = sym (sym v ∙ names-cons ∙ simp (ne-eqb _ _ d))
+
+      pub names-next : getD a i 0 ≡ getD b i 0 → eqList (drop (i + 1) a) (drop (i + 1) b) ≡ eqList a b
+      names-next e = (let z : eqList (drop (i + 1) a) (drop (i + 1) b) ≡ (eqb (getD a i 0) (getD b i 0) && eqList (drop (i + 1) a) (drop (i + 1) b)) = simp (eq-eqb _ _ e) in z) ∙ sym names-cons ∙ v
+
+-- The seats
+
+module _ (f : Span → Bool) (names : List Span) (i : ℕ) (v : any f (drop i names) ≡ any f names) where
+  pub seats-end : length names ≡ 4 → 4 ≤ i → false ≡ any f names
+  unfolding any
+  seats-end l h = (let z = rw (drop-of-length-le names (let k : length names ≤ i = omega arith in k)) at v in z)
+
+  module _ (h : i < length names) (t : Bool) (e : t ≡ f (getD names i (span 0 0))) where
+    seats-cons : any f (drop i names) ≡ (t || any f (drop (i + 1) names))
+    unfolding any
+    seats-cons = rw (add-one, drop-cons names i (span 0 0) h, e) refl
+
+    pub seats-found : t ≡ true → true ≡ any f names
+    seats-found q = sym (sym v ∙ seats-cons ∙ simp q)
+
+    pub seats-next : t ≡ false → any f (drop (i + 1) names) ≡ any f names
+    seats-next q = (let z : any f (drop (i + 1) names) ≡ (t || any f (drop (i + 1) names)) = simp q in z) ∙ sym seats-cons ∙ v
+
+-- One section
+
+module _ (s name : List ℕ) (p : Section) where
+  pub found-none : not (p .board) ≡ true → Finds s name p 0
+  found-none h = go (p .board) refl h
+    where
+      go : (t : Bool) → p .board ≡ t → not t ≡ true → Finds s name p 0
+      go true e k = absurd (false≢true k)
+      go false e k = simp e
+
+  module _ (h : not (p .board) ≡ false) (names : List Span) (n : names ≡ boardAt (take (p .stop) s) (p .start) .names) (t : Bool) (e : t ≡ any (λ x. sameName (bytesAt s x) name) names) where
+    has-is : (p .board && hasName s name (boardIn s (sectionOf p))) ≡ t
+    unfolding boardIn
+    has-is = go (p .board) refl h
+      where
+        go : (u : Bool) → p .board ≡ u → not u ≡ false → (p .board && hasName s name (boardIn s (sectionOf p))) ≡ t
+        go true q k = ap (λ (x : Bool). x && hasName s name (boardIn s (sectionOf p))) q ∙ sym (e ∙ ap (any (λ x. sameName (bytesAt s x) name)) n)
+        go false q k = absurd (false≢true (sym k))
+
+    pub found-some : t ≡ true → Finds s name p 1
+    found-some q = simp (has-is, q)
+
+    pub found-other : t ≡ false → Finds s name p 0
+    found-other q = simp (has-is, q)
+
+-- The boards counted so far, and those that remain
+
+abbrev left : (s name : List ℕ) → Standing → ℕ
+left s name c = countIf (hasName s name) (map (boardIn s) (boardsOf (remaining s c)))
+
+pub record Tally (s name : List ℕ) (count : ℕ) (c : Standing) : Type 0 where
+  pub way : Way s c
+  pub all : count + left s name c ≡ countIf (hasName s name) (fileSpans s)
+  pub most : count ≤ c .number
+
+pub tally-begin : (s name : List ℕ) (c : BoardCursor) → Ready s c → Tally s name 0 (standingOf c)
+unfolding fileSpans
+tally-begin s name c r =
+    let e : remaining s (standingOf c) ≡ sections s = ap (remaining s) (r .first) ∙ all-remain s in
+    let a = ap (λ (l : List Part). countIf (hasName s name) (map (boardIn s) (boardsOf l))) e in
+    record { way = way-begin s c r; all = omega arith; most = omega arith }
+
+pub tally-end : (s name : List ℕ) (n : ℕ) (c : Standing) → Tally s name n c → remaining s c ≡ [] → n ≡ countIf (hasName s name) (fileSpans s)
+unfolding boardsOf countIf
+tally-end s name n c t e = (let a : n ≡ n + left s name c = rw e (omega arith) in a) ∙ t .all
+
+-- a section's part of the count
+module _ (s name : List ℕ) (n : ℕ) (c : Standing) (t : Tally s name n c) (m : ℕ) (p : Section) (d : Standing) (f : Found s c m (sectionOf p) d) (r : ℕ) (e : Finds s name p r) where
+  at-board : p .board ≡ true → r ≡ pick (hasName s name (boardIn s (sectionOf p))) 1 0
+  at-board q = e ∙ ap (λ (x : Bool). pick (x && hasName s name (boardIn s (sectionOf p))) 1 0) q
+
+  at-other : p .board ≡ false → r ≡ 0
+  at-other q = e ∙ ap (λ (x : Bool). pick (x && hasName s name (boardIn s (sectionOf p))) 1 0) q
+
+  left-is : left s name c ≡ r + left s name d
+  unfolding boardsOf countIf
+  left-is =
+      ap (λ (l : List Part). countIf (hasName s name) (map (boardIn s) (boardsOf l))) (f .front)
+      ∙ picked (λ (l : List Part). countIf (hasName s name) (map (boardIn s) l) ≡ r + left s name d) (p .board)
+      (λ q.
+      picked (λ (x : ℕ). x ≡ r + left s name d) (hasName s name (boardIn s (sectionOf p)))
+      (λ h. let y : r ≡ 1 = at-board q ∙ simp h in omega arith)
+      (λ h. let y : r ≡ 0 = at-board q ∙ simp h in omega arith))
+      (λ q. let y = at-other q in omega arith)
+
+  pub tally-small : (r ≤ 1) × (n + r < 2 ^ 32)
+  tally-small =
+      let k : r ≤ 1 = rw e (picked (λ (x : ℕ). x ≤ 1) (p .board && hasName s name (boardIn s (sectionOf p))) (λ _. omega arith) (λ _. omega arith)) in
+      let w = t .way in
+      let a = w .short in
+      let b = w .small in
+      let l = w .within in
+      let m = t .most in
+      (k, omega arith)
+
+  pub tally-on : Tally s name (n + r) d
+  tally-on =
+      let w = t .way in
+      let a = t .all in
+      let l = left-is in
+      let k = tally-small .0 in
+      let m = t .most in
+      record {
+        way = way-on s c w _ (sectionOf p) d f;
+        all = omega arith;
+        most = go (p .board) refl k m;
+      }
+    where
+      go : (b : Bool) → p .board ≡ b → r ≤ 1 → n ≤ c .number → n + r ≤ d .number
+      go true q k m = let x = number-board s c (t .way) _ (sectionOf p) d f q in omega arith
+      go false q k m = let x = number-other s c (t .way) _ (sectionOf p) d f q in let y = at-other q in omega arith
+
+-- The entry, by the tests that it made
+module _ (s name : List ℕ) where
+  pub find-long : limit < length s → refused TextTooLong ≡ findName s name
+  unfolding findName unless
+  find-long h = simp (lt-ltb limit (length s) h)
+
+  module _ (a : length s ≤ limit) where
+    pub find-name-long : limit < length name → refused TextTooLong ≡ findName s name
+    unfolding findName unless
+    find-name-long h = simp (le-ltb limit (length s) a, lt-ltb limit (length name) h)
+
+    module _ (b : length name ≤ limit) (n : ℕ) (f : n ≡ longest s) where
+      pub find-ill : n < length s → refused (NotUtf8 n) ≡ findName s name
+      unfolding findName unless
+      find-ill h = simp (le-ltb limit (length s) a, le-ltb limit (length name) b, short s n f h, ← f)
+
+      module _ (h : length s ≤ n) (m : ℕ) (g : m ≡ longest name) where
+        pub find-name-ill : m < length name → refused (NotUtf8 m) ≡ findName s name
+        unfolding findName unless
+        find-name-ill k = simp (le-ltb limit (length s) a, le-ltb limit (length name) b, whole-text s n f h, short name m g k, ← g)
+
+        pub find-counted : length name ≤ m → (r : ℕ) → r ≡ countIf (hasName s name) (fileSpans s) → accepted r ≡ findName s name
+        unfolding findName unless
+        find-counted k r q = simp (le-ltb limit (length s) a, le-ltb limit (length name) b, whole-text s n f h, whole-text name m g k, q)
+
+pub first-ready : (s : List ℕ) → length s ≤ limit → (b : Bool) → b ≡ holds (ascii "qx") (stream s 0) → (c : BoardCursor) → c ≡ record { at = 0; number = 0; lines = not b } → Ready s c
+first-ready s h b e c f = record { first = ap standingOf f ∙ ap (λ (x : Bool). record { at = 0; number = 0; lines = not x }) e; short = h }

@@ -1,0 +1,228 @@
+-- Laws of parts and lines as they are read: what is left to read of them, and what a cursor passes. (01: File)
+-- Assumes nothing.
+use Prim.Native.Nat.{ℕ, zero, suc, _+_, _-_, _^_, _≤_, _<_, min}
+use native.Mathlib.Omega.{arith}
+use mathlib.Core.Path.{_≡_, refl, ap, sym, subst, _∙_}
+use mathlib.Core.Bool.{Bool, true, false, _&&_, _||_, not, false≢true, or-false, or-assoc}
+use mathlib.Core.List.{List, [], _∷_}
+use lib.ListN.{length, take, drop, length-drop}
+use lib.Dec.{eqb, ltb, leb}
+use borrow.Author.Tests.{eq-eqb, ne-eqb, eqb-true, le-leb, ltb-true, lt-ltb, le-ltb}
+use Rattle.lin_spec.specs.Base.{pick, null, ascii}
+use Rattle.lin_spec.specs.Records.{endOf, part}
+use Rattle.lin_spec.specs.Refusals.{unless, tooLong, notUtf8, sat}
+use Rattle.lin_spec.specs.Refusals.Answer.{refused, accepted}
+use Rattle.lin_spec.specs.Document.{openText}
+use Rattle.lin_spec.specs.declared.Refusal.{Refusal}
+use Rattle.lin_spec.proofs.Checks.{unless-refused, unless-passed}
+use Rattle.document.specs.Steps.{openedOf as openedAt}
+use Rattle.document.specs.declared.tokens.Cursor.{Cursor}
+use Rattle.document.specs.declared.tokens.Opened.{Opened}
+use Rattle.document.specs.declared.tokens.Opened.the-variants.{At, Refused}
+use Rattle.lin_spec.specs.White.{blank, isCommand}
+use Rattle.lin_spec.specs.Tokens.{cut, TokenOf}
+use Rattle.lin_spec.specs.Tokens.TokenOf.{token}
+use Rattle.lin_spec.specs.Cards.{field}
+use Rattle.lin_spec.specs.Cursor.{findFrom}
+use Rattle.lin_spec.specs.Reading.{stream}
+use Rattle.lin_spec.specs.File.{Section as Part, section, tokensIn, holds, leads, partAt, lineAt, partEnd, Standing, Visit, after, visit, openBoards}
+use Rattle.lin_spec.specs.File.Visit.{found, ended}
+use Rattle.lin_spec.specs.declared.Span.{Span}
+use Rattle.lin_spec.proofs.Base.{and-left, and-right, picked, split}
+use Rattle.lin_spec.proofs.Records.{part-length, part-rest}
+use Rattle.lin_spec.proofs.Cursor.{find-within, find-after, cut-at, cut-end}
+use Rattle.lin_spec.proofs.File.{upTo, none-yet, stream-take}
+use Rattle.lin_spec.proofs.File.{line-stops, part-later}
+use Rattle.file.specs.Sections.{sectionOf, standingOf}
+use Rattle.file.specs.declared.sections.Section.{Section}
+use Rattle.file.specs.declared.sections.BoardCursor.{BoardCursor}
+use Rattle.commands.specs.Steps.{TokenAt}
+use Rattle.commands.proofs.StepLaws.{command-is}
+
+-- qx in the tokens from a place on
+module _ (s : List ℕ) (at k : ℕ) (v : Span) (n : ℕ) (t : TokenAt s at k v n) where
+  qx-is : isCommand (t .command) (ascii "qx") ≡ eqb k 5
+  qx-is = command-is s at k v n t 5 (omega arith)
+
+  md-is : isCommand (t .command) (ascii "md") ≡ eqb k 3
+  md-is = command-is s at k v n t 3 (omega arith)
+
+  leads-is : leads (t .command) ≡ (eqb k 6 || eqb k 4)
+  leads-is = simp (command-is s at k v n t 6 (omega arith), command-is s at k v n t 4 (omega arith))
+
+  pub qx-here : k ≡ 5 → true ≡ holds (ascii "qx") (stream s at)
+  unfolding holds
+  qx-here h = simp (t .front, qx-is, eq-eqb k 5 h)
+
+  pub qx-later : (k ≡ 5 → ⊥) → holds (ascii "qx") (stream s n) ≡ holds (ascii "qx") (stream s at)
+  unfolding holds
+  qx-later h = simp (t .front, qx-is, ne-eqb k 5 h)
+
+pub no-qx : (s : List ℕ) (at : ℕ) → stream s at ≡ [] → false ≡ holds (ascii "qx") (stream s at)
+unfolding holds
+no-qx s at e = simp e
+
+-- The part that begins at `begin`: what is still to be read of it, where a qx here is moved back to `back`
+
+abbrev mdUpTo : (s : List ℕ) (at e : ℕ) → Bool
+mdUpTo s at e = holds (ascii "md") (upTo e (stream s at))
+
+pub record Walks (s : List ℕ) (begin back at : ℕ) (board : Bool) : Type 0 where
+  pub ends : partEnd begin back at (stream s at) ≡ partEnd begin begin begin (stream s begin)
+  pub here : board ≡ mdUpTo s begin back
+  pub ahead : (e : ℕ) → at ≤ e → (board || mdUpTo s at e) ≡ mdUpTo s begin e
+
+pub walks-begin : (s : List ℕ) (begin : ℕ) → Walks s begin begin begin false
+unfolding holds
+walks-begin s begin = record { ends = refl; here = simp (none-yet s begin begin (omega arith)); ahead = λ e h. refl }
+
+-- its bounds, when it ends
+part-is : (s : List ℕ) (begin e : ℕ) (board : Bool) → e ≡ partEnd begin begin begin (stream s begin) → board ≡ mdUpTo s begin e
+    → section begin e board ≡ partAt s begin (partEnd begin begin begin (stream s begin))
+part-is s begin e board h b = rw (← h) (rw (b ∙ ap (holds (ascii "md")) (sym (stream-take s begin e))) refl)
+
+pub walks-end : (s : List ℕ) (begin back at : ℕ) (board : Bool) → Walks s begin back at board → stream s at ≡ []
+    → section begin at board ≡ partAt s begin (partEnd begin begin begin (stream s begin))
+unfolding partEnd holds upTo
+walks-end s begin back at board w e =
+    part-is s begin at board ((let z : at ≡ partEnd begin back at (stream s at) = simp e in z) ∙ w .ends)
+    (sym (or-false board) ∙ (let z = w .ahead at (omega arith) in rw e at z))
+
+module _ (s : List ℕ) (begin back at : ℕ) (board : Bool) (w : Walks s begin back at board) (k : ℕ) (v : Span) (n : ℕ) (t : TokenAt s at k v n) where
+  pub walks-stop : (eqb k 5 && ltb begin back) ≡ true → section begin back board ≡ partAt s begin (partEnd begin begin begin (stream s begin))
+  unfolding partEnd
+  walks-stop h =
+      let q = and-left (eqb k 5) _ h in
+      let l = and-right (eqb k 5) _ h in
+      part-is s begin back board ((let z : back ≡ partEnd begin back at (stream s at) = simp (t .front, qx-is s at k v n t, q, l) in z) ∙ w .ends) (w .here)
+
+  -- the token is passed
+  md-more : (e : ℕ) → n ≤ e → mdUpTo s at e ≡ (eqb k 3 || mdUpTo s n e)
+  unfolding holds upTo
+  md-more e h = let a = t .after in simp (t .front, le-leb (endOf v + 1) e (omega arith), md-is s at k v n t)
+
+  other : (i j : ℕ) → k ≡ i → (i ≡ j → ⊥) → eqb k j ≡ false
+  other i j e h = ne-eqb k j (λ x. h (sym e ∙ x))
+
+  on-ends : (eqb k 5 && ltb begin back) ≡ false → partEnd begin (pick (eqb k 6 || eqb k 4) back n) n (stream s n) ≡ partEnd begin back at (stream s at)
+  unfolding partEnd
+  on-ends h = go (eqb k 5) refl
+    where
+      go : (q : Bool) → eqb k 5 ≡ q → partEnd begin (pick (eqb k 6 || eqb k 4) back n) n (stream s n) ≡ partEnd begin back at (stream s at)
+      go true q =
+          let e = eqb-true k 5 q in
+          let l : ltb begin back ≡ false = (simp q at h) in
+          simp (t .front, qx-is s at k v n t, q, l, other 5 6 e (λ x. omega arith), other 5 4 e (λ x. omega arith), ← t .after)
+      go false q = simp (t .front, qx-is s at k v n t, q, leads-is s at k v n t, ← t .after)
+
+  on-here : (r : Bool) → (eqb k 6 || eqb k 4) ≡ r → (board || eqb k 3) ≡ mdUpTo s begin (pick r back n)
+  unfolding holds
+  on-here false r =
+      let m : mdUpTo s n n ≡ false = simp (none-yet s n n (omega arith)) in
+      (let z : (board || eqb k 3) ≡ (board || mdUpTo s at n) = ap (λ (x : Bool). board || x) (sym (md-more n (omega arith) ∙ ap (λ (x : Bool). eqb k 3 || x) m ∙ or-false (eqb k 3))) in z)
+      ∙ w .ahead n (let l = t .later in omega arith)
+  on-here true r = ap (λ (x : Bool). board || x) (lead (eqb k 6) refl r) ∙ or-false board ∙ w .here
+    where
+      lead : (x : Bool) → eqb k 6 ≡ x → (eqb k 6 || eqb k 4) ≡ true → eqb k 3 ≡ false
+      lead true e h = other 6 3 (eqb-true k 6 e) (λ x. omega arith)
+      lead false e h = other 4 3 (eqb-true k 4 (simp e at h)) (λ x. omega arith)
+
+  pub walks-on : (eqb k 5 && ltb begin back) ≡ false → (b : ℕ) → b ≡ pick (eqb k 6 || eqb k 4) back n → Walks s begin b n (board || eqb k 3)
+  walks-on h b e =
+      rw e
+      (record {
+        ends = on-ends h ∙ w .ends;
+        here = on-here (eqb k 6 || eqb k 4) refl;
+        ahead = λ i l. or-assoc board (eqb k 3) (mdUpTo s n i) ∙ ap (λ (x : Bool). board || x) (sym (md-more i l)) ∙ w .ahead i (let z = t .later in omega arith);
+      })
+
+-- A line
+
+module _ (s : List ℕ) (at e : ℕ) (h : at ≤ length s) (f : e ≡ findFrom 0x0A s at) where
+  pub line-stop : (at ≤ e) × (e ≤ length s)
+  line-stop = ((split e (length s) (λ k. rw f (find-after 0x0A s at (rw f at k))) (λ k. omega arith)), rw f (find-within 0x0A s at))
+
+  line-field : field 0 (cut 0x0A (drop at s)) ≡ part s at (e - at)
+  unfolding field
+  line-field =
+      split e (length s)
+      (λ k. rw f (ap (field 0) (cut-at 0x0A s at (rw f at k))))
+      (λ k. ap (field 0) (cut-end 0x0A s at (rw f at k)) ∙ sym (part-rest s at (e - at) (omega arith)))
+
+  pub line-is : (b : Bool) → b ≡ blank (take (e - at) (drop at s)) → section at e (not b) ≡ lineAt s at
+  unfolding part
+  line-is b q =
+      let k = line-stop in
+      let l : length (part s at (e - at)) ≡ e - at = part-length s at (e - at) (let x = k .0 in let y = k .1 in omega arith) in
+      let z : at + (e - at) ≡ e = (let x = k .0 in omega arith) in
+      rw (line-field, l, z, q) refl
+
+pub line-short : (s : List ℕ) (at : ℕ) (p : Section) → at ≤ length s → sectionOf p ≡ lineAt s at → p .stop ≤ length s
+line-short s at p h e = let q = ap (λ (x : Part). x .stop) e in let l = line-stops s at h in omega arith
+
+-- The number of the next board
+
+pub number-stays : (n : ℕ) (b : Bool) → not b ≡ true → n ≡ pick b (sat (n + 1)) n
+number-stays n true h = absurd (false≢true h)
+number-stays n false h = refl
+
+pub number-more : (n m : ℕ) (b : Bool) → not b ≡ false → m ≡ sat (n + 1) → m ≡ pick b (sat (n + 1)) n
+number-more n m true h e = e
+number-more n m false h e = absurd (false≢true (sym h))
+
+-- A step, by the tests that it made
+
+differ : {t : Bool} → t ≡ true → t ≡ false → ⊥
+differ e f = false≢true (sym f ∙ e)
+
+null-nil : {A : Type 0} (l : List A) → null l ≡ true → l ≡ []
+null-nil [] h = refl
+null-nil (a ∷ l) h = absurd (false≢true h)
+
+module _ (s : List ℕ) (c : BoardCursor) where
+  module _ (l : c .lines ≡ true) where
+    pub line-ended : length s < c .at → ended (standingOf c) ≡ visit s (standingOf c)
+    unfolding visit
+    line-ended h =
+        picked (λ (x : Visit). ended (standingOf c) ≡ x) (c .lines)
+        (λ _. picked (λ (x : Visit). ended (standingOf c) ≡ x) (ltb (length s) (c .at)) (λ _. refl) (λ q. absurd (differ (lt-ltb (length s) (c .at) h) q)))
+        (λ q. absurd (differ l q))
+
+    pub line-passed : c .at ≤ length s → (p : Section) → sectionOf p ≡ lineAt s (c .at) → {r : Visit} → r ≡ after (standingOf c) (sectionOf p) (p .stop + 1) → r ≡ visit s (standingOf c)
+    unfolding visit
+    line-passed h p e {r} f =
+        picked (λ (x : Visit). r ≡ x) (c .lines)
+        (λ _. picked (λ (x : Visit). r ≡ x) (ltb (length s) (c .at)) (λ q. absurd (differ q (le-ltb (length s) (c .at) h))) (λ _. f ∙ ap (λ (q : Part). after (standingOf c) q (q .stop + 1)) e))
+        (λ q. absurd (differ l q))
+
+  module _ (l : c .lines ≡ false) (p : Section) (e : sectionOf p ≡ partAt s (c .at) (partEnd (c .at) (c .at) (c .at) (stream s (c .at)))) where
+    stop-is : p .stop ≡ partEnd (c .at) (c .at) (c .at) (stream s (c .at))
+    stop-is = ap (λ (q : Part). q .stop) e
+
+    pub part-ended : p .stop ≤ c .at → ended (standingOf c) ≡ visit s (standingOf c)
+    unfolding visit
+    part-ended h =
+        picked (λ (x : Visit). ended (standingOf c) ≡ x) (c .lines) (λ q. absurd (differ q l))
+        (λ _. picked (λ (x : Visit). ended (standingOf c) ≡ x) (null (stream s (c .at))) (λ _. refl) (λ q. absurd (let z = part-later s (c .at) q .0 in let y = stop-is in let x : ⊥ = omega arith in x)))
+
+    pub part-passed : c .at < p .stop → {r : Visit} → r ≡ after (standingOf c) (sectionOf p) (p .stop) → r ≡ visit s (standingOf c)
+    unfolding visit partEnd
+    part-passed h {r} f =
+        picked (λ (x : Visit). r ≡ x) (c .lines) (λ q. absurd (differ q l))
+        (λ _.
+        picked (λ (x : Visit). r ≡ x) (null (stream s (c .at)))
+        (λ q. absurd (let y : p .stop ≡ c .at = stop-is ∙ ap (partEnd (c .at) (c .at) (c .at)) (null-nil (stream s (c .at)) q) in let x : ⊥ = omega arith in x))
+        (λ _. f ∙ ap (λ (u : Part). after (standingOf c) u (u .stop)) e))
+
+-- Opening, by the answer of `open`
+module _ (s : List ℕ) (o : Opened) (e : openedAt o ≡ openText s) where
+  pub boards-opened : (c : Cursor) → o ≡ At c → (b : Bool) → b ≡ holds (ascii "qx") (stream s 0) → accepted (record { at = 0; number = 0; lines = not b }) ≡ openBoards s
+  unfolding openBoards openText
+  boards-opened c f b h =
+      let x : Standing = record { at = 0; number = 0; lines = not (holds (ascii "qx") (stream s 0)) } in
+      let z : unless [] x ≡ accepted x = unfold unless in refl in
+      rw h (sym (unless-passed (tooLong s ∷ notUtf8 s ∷ []) [] 0 (c .at) x (sym e ∙ ap openedAt f) ∙ z))
+
+  pub boards-refused : (r : Refusal) → o ≡ Refused r → refused r ≡ openBoards s
+  unfolding openBoards openText
+  boards-refused r f = sym (unless-refused (tooLong s ∷ notUtf8 s ∷ []) [] 0 _ r (sym e ∙ ap openedAt f))

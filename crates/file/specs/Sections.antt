@@ -1,0 +1,25 @@
+-- The board cursor's answers as lin_spec's. (01: File)
+use Rattle.lin_spec.specs.Refusals.{Answer}
+use Rattle.lin_spec.specs.Refusals.Answer.{refused, accepted}
+use Rattle.lin_spec.specs.File.{Section as Part, section, Standing, Visit}
+use Rattle.lin_spec.specs.File.Visit.{found, ended}
+use Rattle.file.specs.declared.sections.Section.{Section}
+use Rattle.file.specs.declared.sections.BoardCursor.{BoardCursor}
+use Rattle.file.specs.declared.sections.OpenedBoards.{OpenedBoards}
+use Rattle.file.specs.declared.sections.OpenedBoards.the-variants.{At, Refused}
+use Rattle.file.specs.declared.sections.BoardStep.{BoardStep}
+use Rattle.file.specs.declared.sections.BoardStep.the-variants.{Found, Ended}
+
+abbrev pub sectionOf : Section → Part
+sectionOf p = section (p .start) (p .stop) (p .board)
+
+abbrev pub standingOf : BoardCursor → Standing
+standingOf c = record { at = c .at; number = c .number; lines = c .lines }
+
+abbrev pub openedOf : OpenedBoards → Answer Standing
+openedOf (At c) = accepted (standingOf c)
+openedOf (Refused r) = refused r
+
+abbrev pub visitOf : BoardStep → Visit
+visitOf (Found n p c) = found n (sectionOf p) (standingOf c)
+visitOf (Ended c) = ended (standingOf c)
