@@ -8,10 +8,11 @@ use mathlib.Core.Path.{_≡_, refl, ap, sym, subst, _∙_}
 use mathlib.Core.Bool.{_&&_}
 use mathlib.Core.List.{List, [], _∷_, _++_, map}
 use mathlib.Core.Option.{Option, none, some}
-use lib.ListN.{length, getD, set, take, drop, length-map, drop-of-length-le}
-use lib.Seq.{drop-cons, take-all, take-suc, take-suc-set}
+use lib.ListN.{length, getD, set, take, drop, length-map, length-take, drop-of-length-le}
+use lib.Seq.{drop-cons, take-all, take-suc, take-suc-set, getD-take, getD-drop}
 use lib.Dec.{eqb}
 use Rattle.lin_spec.specs.Base.{pick}
+use Rattle.lin_spec.specs.Records.{part}
 use Rattle.lin_spec.specs.Cards.{suitOf, rankOf, cardOf, noCards, sum, handFrom, readHand, remainder}
 use Rattle.lin_spec.proofs.Cards.{Under, suit-under, rank-under, count-sum, set-sum, remainder-at, remainder-length}
 use Rattle.cards.specs.Letters.{lookupOf}
@@ -155,6 +156,15 @@ sum-next h i n w e f = rw add-one (omega (arith, sum-suc h i))
 pub sum-end : (h : List ℕ) (i n : ℕ) → n + sum (drop i h) ≡ sum h → length h ≤ i → n ≡ sum h
 unfolding sum
 sum-end h i n e l = let z : sum (drop i h) ≡ 0 = ap sum (drop-of-length-le h l) in omega arith
+
+-- a seat's hand within the deal: its counts, of which there are at most so many
+pub count-at : (d : List ℕ) (a m i : ℕ) → i < m → getD d (a + i) 0 ≡ getD (part d a m) i 0
+unfolding part
+count-at d a m i h = sym (getD-take m (drop a d) i 0 h ∙ getD-drop a d i 0)
+
+pub counts-most : (d : List ℕ) (a m : ℕ) → length (part d a m) ≤ m
+unfolding part
+counts-most d a m = omega (arith, length-take m (drop a d))
 
 -- Three hands
 

@@ -3,6 +3,7 @@ use crate::letters::Lookup;
 use crate::letters::rank_of;
 use crate::letters::suit_of;
 use lin_spec::Deal;
+use lin_spec::Seat;
 ghost use mathlib.Core.Path.{_≡_};
 ghost use mathlib.Core.Bool.{_&&_};
 ghost use Prim.Native.Nat.{_<_, _^_};
@@ -10,6 +11,7 @@ ghost use lib.ListN.{length};
 ghost use lib.Dec.{eqb};
 ghost use Rattle.lin_spec.specs.Base.{pick};
 ghost use Rattle.lin_spec.specs.Cards.{sum, readHand, remainder};
+ghost use Rattle.lin_spec.specs.Letters.{handLength};
 ghost use Rattle.cards.specs.Letters.{lookupOf};
 ghost use Rattle.cards.specs.Hands.{Suited, saidOf};
 
@@ -84,6 +86,20 @@ pub(crate) fn hand_len(hand: Hand) -> u64
     let mut c = 0;
     while c < Deal::CARDS {
         n += wide(hand.counts[c]);
+        c += 1;
+    }
+    n
+}
+
+// How many cards a seat's hand in a deal has.
+pub fn seat_len(deal: Deal, seat: Seat) -> u64
+    ensures { λ r. ⌜ r ≡ handLength (deal .counts) seat ⌝ }
+{
+    let first = seat.number() * Deal::CARDS;
+    let mut n: u64 = 0;
+    let mut c = 0;
+    while c < Deal::CARDS {
+        n += wide(deal.counts[first + c]);
         c += 1;
     }
     n

@@ -4,6 +4,7 @@ mod hands;
 mod letters;
 
 pub use deals::deal_of;
+pub use hands::seat_len;
 pub use letters::Lookup;
 pub use letters::MaybeCard;
 pub use letters::rank_of;

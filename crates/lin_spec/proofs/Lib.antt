@@ -10,4 +10,6 @@ pub mod Cards
 pub mod Rules
 pub mod Reading
 pub mod File
+pub mod Decimal
+pub mod Listing
 pub mod Cases

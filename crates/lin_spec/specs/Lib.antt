@@ -12,3 +12,6 @@ pub mod Board
 pub mod Reading
 pub mod Fresh
 pub mod File
+pub mod Decimal
+pub mod Letters
+pub mod Listing

@@ -1,9 +1,10 @@
 // The types that the entries share: spans, boards, refusals and what a writer answers. (01: Records, Eight refusals)
 ghost use mathlib.Core.Path.{_≡_};
 ghost use Rattle.lin_spec.specs.Fresh.{freshDeal, freshBoard, refusedHeading};
-ghost use Prim.Native.Nat.{min};
+ghost use Prim.Native.Nat.{_<_, min};
 ghost use Rattle.lin_spec.specs.Records.{limit};
 ghost use Rattle.lin_spec.specs.Refusals.{numberOf, kindOf, carriedOf};
+ghost use Rattle.lin_spec.specs.Letters.{seatNumber, seatLetter, svLetter};
 
 // The bytes of the longest text, and the most of an output that is ever filled.
 pub const LIMIT: usize = 1_048_576;
@@ -110,11 +111,51 @@ pub enum Seat {
     East,
 }
 
+impl Seat {
+    // Its place in the order of LIN.
+    pub fn number(self) -> usize
+        ensures { λ r. ⌜ (r ≡ seatNumber self) × (r < 4) ⌝ }
+    {
+        match self {
+            Seat::South => 0,
+            Seat::West => 1,
+            Seat::North => 2,
+            Seat::East => 3,
+        }
+    }
+
+    // The letter that a listing shows.
+    pub fn letter(self) -> u8
+        ensures { λ r. ⌜ r ≡ seatLetter self ⌝ }
+    {
+        match self {
+            Seat::South => b'S',
+            Seat::West => b'W',
+            Seat::North => b'N',
+            Seat::East => b'E',
+        }
+    }
+}
+
 pub enum Vulnerability {
     None,
     NorthSouth,
     EastWest,
     Both,
+}
+
+impl Vulnerability {
+    // The letter of a written sv.
+    pub fn letter(self) -> u8
+        ensures { λ r. ⌜ r ≡ svLetter self ⌝ }
+    {
+        match self {
+            Vulnerability::None => b'0',
+            Vulnerability::NorthSouth => b'n',
+            Vulnerability::EastWest => b'e',
+            Vulnerability::Both => b'b',
+        }
+    }
 }
 
 // The tricks claimed.

@@ -1,4 +1,4 @@
--- Laws of `overlay`, and of a run of puts: what is left to write. (01: Writer)
+-- Laws of `overlay`, of a run of puts: what is left to write, and of lengths. (01: Writer)
 -- Assumes nothing.
 use mathlib.Core.Path.{_≡_, refl, sym, ap, _∙_, subst}
 use Prim.Native.Nat.{ℕ, zero, suc, _+_, _-_, _≤_, _<_}
@@ -8,6 +8,7 @@ use native.Mathlib.Omega.{arith}
 use mathlib.Core.List.{List, [], _∷_, _++_, append-assoc, append-nil, map}
 use lib.ListN.{length, take, drop, getD, set, length-append, length-take, length-drop, take-append-drop, drop-of-length-le, length-map}
 use lib.Seq.{take-append-seam, drop-append-add, drop-drop, drop-nil, take-nil, take-all, set-split, drop-cons}
+use Rattle.lin_spec.specs.Refusals.{sat}
 use Rattle.lin_spec.specs.Output.{overlay}
 use Rattle.output.specs.Put.{Room, Put}
 
@@ -99,3 +100,9 @@ inside s j h l = omega (arith, l .room, length-drop j s)
 -- past the last byte nothing is left
 pub end-of : (s : List ℕ) (j : ℕ) → length s ≤ j → drop j s ≡ []
 end-of s j h = drop-of-length-le s h
+
+-- Lengths
+
+-- the sum of two lengths, each as it is given
+pub sat-sum : (a b : ℕ) {n x r : ℕ} → n ≡ sat a → x ≡ sat b → r ≡ sat (n + x) → r ≡ sat (a + b)
+sat-sum a b e f g = omega arith

@@ -6,6 +6,11 @@ ghost use Prim.Native.Nat.{_+_};
 ghost use Rattle.lin_spec.specs.Refusals.{sat};
 ghost use Rattle.output.specs.Put.{Room, Put};
 
+mod decimal;
+
+pub use decimal::decimal_len;
+pub use decimal::put_decimal;
+
 pub fn put_byte(out: &mut [u8], at: usize, b: u8) -> usize
     requires { ⌜ Room (now out) at (b ∷ []) ⌝ }
     ensures { λ r. ⌜ Put (now (out .entry)) at (b ∷ []) (now (out .exit)) r ⌝ }

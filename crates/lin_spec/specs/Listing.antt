@@ -1,0 +1,60 @@
+-- The lines that the program linlist prints. (01: Program linlist)
+use Prim.Native.Nat.{ℕ}
+use mathlib.Core.List.{List, [], _∷_, _++_}
+use lib.ListN.{length}
+use Rattle.lin_spec.specs.Base.{ascii}
+use Rattle.lin_spec.specs.Decimal.{decimal}
+use Rattle.lin_spec.specs.Letters.{seatLetter, svLetter, handLength}
+use Rattle.lin_spec.specs.Refusals.{numberOf, tooSmall}
+use Rattle.lin_spec.specs.Output.{Outcome, room, fill}
+use Rattle.lin_spec.specs.declared.Seat.the-variants.{South, West, North, East}
+use Rattle.lin_spec.specs.declared.MaybeClaim.{MaybeClaim}
+use Rattle.lin_spec.specs.declared.MaybeClaim.the-variants.{Absent, Claimed}
+use Rattle.lin_spec.specs.declared.Refusal.{Refusal}
+use Rattle.lin_spec.specs.declared.Heading.{Heading}
+
+-- words with a space between
+unfoldable pub spaced : List (List ℕ) → List ℕ
+spaced [] = []
+spaced (w ∷ []) = w
+spaced (w ∷ v ∷ ws) = w ++ (ascii " " ++ spaced (v ∷ ws))
+
+-- "Every line ends in LF."
+unfoldable pub line : List ℕ → List ℕ
+line s = s ++ ascii "\n"
+
+-- "board dealer vul S W N E calls cards claim"
+unfoldable pub header : List ℕ
+header = line (ascii "board dealer vul S W N E calls cards claim")
+
+-- "claim or `-`"
+abbrev pub claimWord : MaybeClaim → List ℕ
+claimWord Absent = ascii "-"
+claimWord (Claimed n) = decimal n
+
+-- "being number, dealer letter, written sv letter, hand lengths, counts, claim or `-`"
+unfoldable pub boardLine : (number : ℕ) → Heading → List ℕ
+boardLine k h =
+    let b = h .board in
+    let d = b .deal .counts in
+    line
+    (spaced
+    (decimal k
+    ∷ (seatLetter (b .dealer) ∷ [])
+    ∷ (svLetter (b .vulnerability) ∷ [])
+    ∷ decimal (handLength d South)
+    ∷ decimal (handLength d West)
+    ∷ decimal (handLength d North)
+    ∷ decimal (handLength d East)
+    ∷ decimal (h .calls)
+    ∷ decimal (h .cards)
+    ∷ claimWord (b .claim)
+    ∷ []))
+
+-- "A refusal prints one line, `refused`, a space and its number"
+unfoldable pub refusalLine : Refusal → List ℕ
+refusalLine r = line (spaced (ascii "refused" ∷ decimal (numberOf r) ∷ []))
+
+-- a line as an entry's answer: refused by 7, or from the first byte of the output on
+unfoldable pub writeLine : (text out : List ℕ) → Outcome
+writeLine t o = fill (tooSmall (room o) (length t) ∷ []) o t
