@@ -184,7 +184,7 @@ take-placed at m (piece x (piece y r)) w =
     long-cut at m x y (joined pipe r) (w .0) (w .1 .0) l
     ∙ simp (ih, le-leb (at + (length x + 1) + length y + 1) (at + m) (omega arith), (let q : n + (m - z) ≡ at + m = omega arith in q)))
 
-drop-take : (a e : ℕ) (s : List ℕ) → drop a (take e s) ≡ take (e - a) (drop a s)
+pub drop-take : (a e : ℕ) (s : List ℕ) → drop a (take e s) ≡ take (e - a) (drop a s)
 drop-take zero e s = let q : e ≡ e - 0 = omega arith in ap (λ (i : ℕ). take i s) q
 drop-take (suc a) zero s = let q : 0 ≡ 0 - suc a = omega arith in ap (λ (i : ℕ). take i (drop (suc a) s)) q
 drop-take (suc a) (suc e) [] = sym (take-nil (suc e - suc a))

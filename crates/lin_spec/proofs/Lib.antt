@@ -10,6 +10,7 @@ pub mod Cards
 pub mod Rules
 pub mod Reading
 pub mod File
+pub mod FileMeaning
 pub mod Decimal
 pub mod Listing
 pub mod Cases

@@ -66,7 +66,7 @@ Streams s at (found c v n) = stream s at ≡ token (part s (c .start) (c .len)) 
 Streams s at (ended n) = stream s at ≡ []
 
 -- The tokens as spans, taken out of the text, are the tokens
-placed-from : (s : List ℕ) (at : ℕ) (p : Pieces) → drop at s ≡ joined pipe p → map (mapToken (bytesAt s)) (placed at p) ≡ paired p
+pub placed-from : (s : List ℕ) (at : ℕ) (p : Pieces) → drop at s ≡ joined pipe p → map (mapToken (bytesAt s)) (placed at p) ≡ paired p
 unfolding placed paired joined part
 placed-from s at (end x) h = refl
 placed-from s at (piece x (end y)) h = refl
@@ -170,7 +170,7 @@ pub board-eq : {A : Type 0} {b c : BoardOf A} → b .names ≡ c .names → b .d
 board-eq n d v t r h c p m = λ i. record { names = n i; dealt = d i; vulnerability = v i; title = t i; room = r i; header = h i; calls = c i; play = p i; claim = m i }
 
 -- The board of the answer, with each span replaced by its bytes, is the board that the text means.
-board-out : (s : List ℕ) (ts : List (TokenOf Span)) → mapBoard (bytesAt s) (boardFrom (spanText s) ts) ≡ boardFrom bytesText (map (mapToken (bytesAt s)) ts)
+pub board-out : (s : List ℕ) (ts : List (TokenOf Span)) → mapBoard (bytesAt s) (boardFrom (spanText s) ts) ≡ boardFrom bytesText (map (mapToken (bytesAt s)) ts)
 unfolding mapBoard boardFrom part
 board-out s ts =
     let f = bytesAt s in
