@@ -7,7 +7,7 @@ use mathlib.Core.Path.{_≡_, refl, ap, sym, subst, _∙_}
 use mathlib.Core.Bool.{Bool, true, false}
 use mathlib.Core.List.{List, [], _∷_, _++_, map}
 use mathlib.Core.Option.{Option, none, some}
-use lib.ListN.{length, take, drop, length-append, length-drop, length-take}
+use lib.ListN.{length, take, drop, length-append, length-drop, length-take, drop-of-length-le}
 use lib.Seq.{take-take, take-append-seam, drop-append-add, drop-drop}
 use Rattle.lin_spec.specs.Base.{pick, All, null, ascii}
 use Rattle.lin_spec.specs.Records.{span, endOf, part, bytesAt}
@@ -24,24 +24,24 @@ use Rattle.lin_spec.specs.Refusals.Answer.{refused, accepted}
 use Rattle.lin_spec.specs.declared.Refusal.{Refusal}
 use Rattle.lin_spec.specs.declared.Verdict.the-variants.{Refused}
 use Rattle.lin_spec.specs.declared.Span.{Span}
-use Rattle.lin_spec.proofs.Base.{picked}
+use Rattle.lin_spec.proofs.Base.{picked, split}
 use Rattle.lin_spec.proofs.Tokens.{joined, Whole, joined-cut, whole-cut, cut-joined}
 use Rattle.lin_spec.proofs.Cursor.{after-piece}
-use Rattle.lin_spec.proofs.Rules.{over-change}
 
 abbrev pub mapToken : {A B : Type 0} → (A → B) → TokenOf A → TokenOf B
 mapToken f (token c v) = token c (f v)
 
--- a fold over changed tokens is the changed fold, if each step is
-over-tokens : {A B C : Type 0} (g : A → B) (f : List ℕ → B → C → C) (ts : List (TokenOf A)) (b : C) → over (λ c v. f c (g v)) b ts ≡ over f b (map (mapToken g) ts)
-unfolding over
-over-tokens g f [] b = refl
-over-tokens g f (token c v ∷ ts) b = over-tokens g f ts (f c (g v) b)
+-- P holds of a token's value
+abbrev pub ValueOf : {A : Type 0} → (A → Type 0) → TokenOf A → Type 0
+ValueOf P (token c v) = P v
 
-pub over-map : {A B C D : Type 0} (g : A → B) (h : C → D) (f : List ℕ → A → C → C) (f′ : List ℕ → B → D → D)
-    → ((c : List ℕ) (v : A) (x : C) → h (f c v x) ≡ f′ c (g v) (h x)) → (ts : List (TokenOf A)) (b : C)
+-- a fold over changed tokens is the changed fold, if each step is, with values of which P holds
+over-map : {A B C D : Type 0} (P : A → Type 0) (g : A → B) (h : C → D) (f : List ℕ → A → C → C) (f′ : List ℕ → B → D → D)
+    → ((c : List ℕ) (v : A) (x : C) → P v → h (f c v x) ≡ f′ c (g v) (h x)) → (ts : List (TokenOf A)) → All (ValueOf P) ts → (b : C)
     → h (over f b ts) ≡ over f′ (h b) (map (mapToken g) ts)
-over-map g h f f′ e ts b = over-change h f (λ c v. f′ c (g v)) e ts b ∙ over-tokens g f′ ts (h b)
+unfolding over
+over-map P g h f f′ e [] w b = refl
+over-map P g h f f′ e (token c v ∷ ts) w b = over-map P g h f f′ e ts (w .1) (f c v b) ∙ ap (λ x. over f′ x (map (mapToken g) ts)) (e c v b (w .0))
 
 -- a change by a command, changed
 on-map : {C D : Type 0} (h : C → D) (t : Bool) (x y : C) → h (pick t x y) ≡ pick t (h x) (h y)
@@ -100,37 +100,13 @@ pub streams : (s : List ℕ) (at : ℕ) (v : Step) → stepAt s at ≡ v → Str
 unfolding stepAt
 streams s at v e = subst (Streams s at) e (step-stream s at (cut pipe (drop at s)) refl)
 
--- Each field, taken out of the text
-
 pub part-most : (s : List ℕ) (a n : ℕ) → length (part s a n) ≤ n
 unfolding part
 part-most s a n = rw (length-take n (drop a s)) (omega arith)
 
-names-out : (s : List ℕ) (v : Span) (k : ℕ) (p : Pieces) (ns : List Span) → k + length (joined 0x2C p) ≤ length (bytesAt s v)
-    → map (bytesAt s) (named (spanText s) v k p ns) ≡ named bytesText (bytesAt s v) k p (map (bytesAt s) ns)
-unfolding named joined
-names-out s v k p [] h = refl
-names-out s v k (end x) (n ∷ ns) h =
-    let l = part-most s (v .start) (v .len) in
-    simp (part-part s (v .start) (v .len) k (length x) (omega arith))
-names-out s v k (piece x r) (n ∷ ns) h =
-    let l = part-most s (v .start) (v .len) in
-    let m : k + (length x + suc (length (joined 0x2C r))) ≤ length (bytesAt s v) = simp length-append at h in
-    simp (part-part s (v .start) (v .len) k (length x) (omega arith), names-out s v (k + (length x + 1)) r ns (omega arith))
-
-names-on : (s : List ℕ) (c : List ℕ) (v : Span) (b : List Span) → map (bytesAt s) (onNames (spanText s) c v b) ≡ onNames bytesText c (bytesAt s v) (map (bytesAt s) b)
-names-on s c v b =
-    let j = joined-cut 0x2C (bytesAt s v) in
-    on-map (map (bytesAt s)) (isCommand c (ascii "pn")) _ b
-    ∙ simp (names-out s v 0 (cut 0x2C (bytesAt s v)) b (rw j (omega arith)))
-
 option-out : {A B : Type 0} (f : A → B) (t : Bool) (v : A) → mapOption f (pick t none (some v)) ≡ pick t none (some (f v))
 option-out f true v = refl
 option-out f false v = refl
-
-value-on : (s w c : List ℕ) (v : Span) (b : Option Span)
-    → mapOption (bytesAt s) (on c w (nonEmpty (spanText s) v) b) ≡ on c w (nonEmpty bytesText (bytesAt s v)) (mapOption (bytesAt s) b)
-value-on s w c v b = on-map (mapOption (bytesAt s)) (isCommand c w) _ b ∙ simp (option-out (bytesAt s) (null (bytesAt s v)) v)
 
 map-append : {A B : Type 0} (f : A → B) (x y : List A) → map f (x ++ y) ≡ map f x ++ map f y
 map-append f [] y = refl
@@ -151,39 +127,71 @@ without-most c (b ∷ s) = go (only c (b ∷ s)) (without-most c s)
     go true h = omega arith
     go false h = omega arith
 
-call-out : (s : List ℕ) (v : Span) → mapCall (bytesAt s) (callOf (spanText s) v) ≡ callOf bytesText (bytesAt s v)
-call-out s v =
-    let l = part-most s (v .start) (v .len) in
-    let w = without-most 0x21 (bytesAt s v) in
-    simp (part-part s (v .start) (v .len) 0 (length (withoutEnd 0x21 (bytesAt s v))) (omega arith))
-
-calls-out : (s : List ℕ) (c : List ℕ) (v : Span) (b : List (CallOf Span))
-    → map (mapCall (bytesAt s)) (onCalls (spanText s) c v b) ≡ onCalls bytesText c (bytesAt s v) (map (mapCall (bytesAt s)) b)
-calls-out s c v b =
-    let f : List (CallOf Span) → List (CallOf (List ℕ)) = map (mapCall (bytesAt s)) in
-    on-map f (isCommand c (ascii "mb")) _ _
-    ∙ simp (map-append (mapCall (bytesAt s)) b (callOf (spanText s) v ∷ []), call-out s v, on-map f (isCommand c (ascii "an")) (annotated v b) b, annotated-out (bytesAt s) v b)
-
 -- boards that agree in every field
 pub board-eq : {A : Type 0} {b c : BoardOf A} → b .names ≡ c .names → b .dealt ≡ c .dealt → b .vulnerability ≡ c .vulnerability → b .title ≡ c .title
     → b .room ≡ c .room → b .header ≡ c .header → b .calls ≡ c .calls → b .play ≡ c .play → b .claim ≡ c .claim → b ≡ c
 board-eq n d v t r h c p m = λ i. record { names = n i; dealt = d i; vulnerability = v i; title = t i; room = r i; header = h i; calls = c i; play = p i; claim = m i }
 
+-- One reading serves all kinds of texts: if g keeps the bytes of values and the parts within them, the board of changed values is the changed board.
+module _
+    {A B : Type 0}
+    (T : Text A)
+    (U : Text B)
+    (g : A → B)
+    (P : A → Type 0)
+    (same : (v : A) → P v → U .bytes (g v) ≡ T .bytes v)
+    (inside : (v : A) (k n : ℕ) → P v → k + n ≤ length (T .bytes v) → g (T .within v k n) ≡ U .within (g v) k n)
+    (empty : g (T .nil) ≡ U .nil)
+  where
+    names-out : (v : A) → P v → (k : ℕ) (p : Pieces) (ns : List A) → k + length (joined 0x2C p) ≤ length (T .bytes v) → map g (named T v k p ns) ≡ named U (g v) k p (map g ns)
+    unfolding named joined
+    names-out v w k p [] h = refl
+    names-out v w k (end x) (n ∷ ns) h = simp (inside v k (length x) w h)
+    names-out v w k (piece x r) (n ∷ ns) h =
+        let m : k + (length x + suc (length (joined 0x2C r))) ≤ length (T .bytes v) = simp length-append at h in
+        simp (inside v k (length x) w (omega arith), names-out v w (k + (length x + 1)) r ns (omega arith))
+
+    names-on : (c : List ℕ) (v : A) (b : List A) → P v → map g (onNames T c v b) ≡ onNames U c (g v) (map g b)
+    names-on c v b w =
+        let j = joined-cut 0x2C (T .bytes v) in
+        on-map (map g) (isCommand c (ascii "pn")) _ b ∙ simp (same v w, names-out v w 0 (cut 0x2C (T .bytes v)) b (rw j (omega arith)))
+
+    value-on : (w c : List ℕ) (v : A) (b : Option A) → P v → mapOption g (on c w (nonEmpty T v) b) ≡ on c w (nonEmpty U (g v)) (mapOption g b)
+    value-on w c v b h = on-map (mapOption g) (isCommand c w) _ b ∙ simp (same v h, option-out g (null (T .bytes v)) v)
+
+    call-out : (v : A) → P v → mapCall g (callOf T v) ≡ callOf U (g v)
+    call-out v w = let m = without-most 0x21 (T .bytes v) in simp (same v w, inside v 0 (length (withoutEnd 0x21 (T .bytes v))) w (omega arith))
+
+    calls-on : (c : List ℕ) (v : A) (b : List (CallOf A)) → P v → map (mapCall g) (onCalls T c v b) ≡ onCalls U c (g v) (map (mapCall g) b)
+    calls-on c v b w =
+        let f : List (CallOf A) → List (CallOf B) = map (mapCall g) in
+        on-map f (isCommand c (ascii "mb")) _ _
+        ∙ simp (map-append (mapCall g) b (callOf T v ∷ []), call-out v w, on-map f (isCommand c (ascii "an")) (annotated v b) b, annotated-out g v b)
+
+    pub board-map : (ts : List (TokenOf A)) → All (ValueOf P) ts → mapBoard g (boardFrom T ts) ≡ boardFrom U (map (mapToken g) ts)
+    unfolding mapBoard boardFrom
+    board-map ts w =
+        board-eq
+        (over-map P g (map g) (onNames T) (onNames U) names-on ts w _ ∙ simp empty)
+        (over-map P g (λ x. x) (onDealt T) (onDealt U) (λ c v b h. simp (same v h)) ts w _)
+        (over-map P g (λ x. x) (onVulnerability T) (onVulnerability U) (λ c v b h. simp (same v h)) ts w _)
+        (over-map P g (mapOption g) (onTitle T) (onTitle U) (value-on (ascii "mn")) ts w _)
+        (over-map P g (mapOption g) (onRoom T) (onRoom U) (value-on (ascii "qx")) ts w _)
+        (over-map P g (mapOption g) (onHeader T) (onHeader U) (λ c v b h. on-map (mapOption g) (isCommand c (ascii "ah")) _ b) ts w _)
+        (over-map P g (map (mapCall g)) (onCalls T) (onCalls U) calls-on ts w _)
+        (over-map P g (λ x. x) (onPlay T) (onPlay U) (λ c v b h. simp (same v h)) ts w _)
+        (over-map P g (λ x. x) (onClaim T) (onClaim U) (λ c v b h. simp (same v h)) ts w _)
+
+any-values : {A : Type 0} (ts : List (TokenOf A)) → All (ValueOf (λ (v : A). Unit)) ts
+any-values [] = tt
+any-values (token c v ∷ ts) = (tt, any-values ts)
+
 -- The board of the answer, with each span replaced by its bytes, is the board that the text means.
 pub board-out : (s : List ℕ) (ts : List (TokenOf Span)) → mapBoard (bytesAt s) (boardFrom (spanText s) ts) ≡ boardFrom bytesText (map (mapToken (bytesAt s)) ts)
-unfolding mapBoard boardFrom part
+unfolding part
 board-out s ts =
-    let f = bytesAt s in
-    board-eq
-    (over-map f (map f) (onNames (spanText s)) (onNames bytesText) (names-on s) ts _)
-    (over-tokens f (onDealt bytesText) ts _)
-    (over-tokens f (onVulnerability bytesText) ts _)
-    (over-map f (mapOption f) (onTitle (spanText s)) (onTitle bytesText) (value-on s (ascii "mn")) ts _)
-    (over-map f (mapOption f) (onRoom (spanText s)) (onRoom bytesText) (value-on s (ascii "qx")) ts _)
-    (over-map f (mapOption f) (onHeader (spanText s)) (onHeader bytesText) (λ c v b. on-map (mapOption f) (isCommand c (ascii "ah")) _ b) ts _)
-    (over-map f (map (mapCall f)) (onCalls (spanText s)) (onCalls bytesText) (calls-out s) ts _)
-    (over-tokens f (onPlay bytesText) ts _)
-    (over-tokens f (onClaim bytesText) ts _)
+    board-map (spanText s) bytesText (bytesAt s) (λ _. Unit) (λ v _. refl)
+    (λ v k n _ h. part-part s (v .start) (v .len) k n (let l = part-most s (v .start) (v .len) in omega arith)) refl ts (any-values ts)
 
 pub spans-out : (s : List ℕ) → mapBoard (bytesAt s) (parseSpans s) ≡ parseLin s
 unfolding parseSpans parseLin stream
@@ -193,9 +201,6 @@ spans-out s = board-out s (placed 0 (cut pipe s)) ∙ ap (boardFrom bytesText) (
 
 abbrev pub Within : (s : List ℕ) → Span → Type 0
 Within s x = endOf x ≤ length s
-
-abbrev ValueOf : {A : Type 0} → (A → Type 0) → TokenOf A → Type 0
-ValueOf P (token c v) = P v
 
 pub over-all : {A B : Type 0} (P : A → Type 0) (Q : B → Type 0) (f : List ℕ → A → B → B) → ((c : List ℕ) (v : A) (x : B) → P v → Q x → Q (f c v x))
     → (ts : List (TokenOf A)) → All (ValueOf P) ts → (b : B) → Q b → Q (over f b ts)
@@ -212,6 +217,13 @@ placed-within s at (piece x (piece y r)) h k =
     let n = after-piece pipe s (at + (length x + 1)) y _ d in
     let l : length s - at ≡ length x + suc (length y + suc (length (joined pipe r))) = sym (length-drop at s) ∙ ap length h ∙ simp length-append in
     (omega arith, placed-within s (at + (length x + 1) + (length y + 1)) r n (omega arith))
+
+pub stream-within : (s : List ℕ) (at : ℕ) → All (ValueOf (Within s)) (stream s at)
+unfolding stream placed cut
+stream-within s at =
+    split (length s) at
+    (λ h. rw (drop-of-length-le s (let k : length s ≤ at = omega arith in k)) tt)
+    (λ h. placed-within s at (cut pipe (drop at s)) (sym (joined-cut pipe (drop at s))) h)
 
 names-within : (s : List ℕ) (v : Span) → Within s v → (k : ℕ) (p : Pieces) (ns : List Span) → k + length (joined 0x2C p) ≤ length (bytesAt s v) → All (Within s) ns
     → All (Within s) (named (spanText s) v k p ns)
@@ -249,10 +261,10 @@ value-within s w c v b k h =
     picked (Present (Within s)) (isCommand c w) (λ _. picked (Present (Within s)) (null (bytesAt s v)) (λ _. tt) (λ _. k)) (λ _. h)
 
 pub spans-within : (s : List ℕ) → EachText (Within s) (parseSpans s)
-unfolding parseSpans stream boardFrom
+unfolding parseSpans boardFrom
 spans-within s =
     let W = Within s in
-    let a = placed-within s 0 (cut pipe s) (sym (joined-cut pipe s)) (omega arith) in
+    let a = stream-within s 0 in
     record {
       names =
           over-all W (All W) (onNames (spanText s))
