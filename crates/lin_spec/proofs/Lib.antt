@@ -11,6 +11,7 @@ pub mod Rules
 pub mod Reading
 pub mod File
 pub mod FileMeaning
+pub mod Parts
 pub mod Decimal
 pub mod Listing
 pub mod Cases
