@@ -14,4 +14,5 @@ pub mod FileMeaning
 pub mod Parts
 pub mod Decimal
 pub mod Listing
+pub mod Hands
 pub mod Cases

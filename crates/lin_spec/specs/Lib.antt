@@ -15,3 +15,4 @@ pub mod File
 pub mod Decimal
 pub mod Letters
 pub mod Listing
+pub mod Writer
