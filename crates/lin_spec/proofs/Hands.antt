@@ -10,9 +10,10 @@ use mathlib.Core.Option.{Option, none, some}
 use lib.ListN.{length, getD, set, take, drop, replicate, length-append, length-take, length-drop, length-replicate, take-append-drop}
 use lib.Seq.{set-at, getD-at, append-snoc, take-all, take-suc, drop-drop, getD-drop}
 use lib.Dec.{eqb, leb}
-use borrow.Author.Tests.{eqb-true, leb-true}
+use borrow.Author.Tests.{ne-eqb, eqb-true, leb-true}
 use Rattle.lin_spec.specs.Base.{pick, All, ascii}
 use Rattle.lin_spec.specs.White.{lower}
+use Rattle.lin_spec.specs.Tokens.{count}
 use Rattle.lin_spec.specs.Cards.{indexOf, suitOf, rankOf, noCards, sum, handFrom, readHand}
 use Rattle.lin_spec.specs.Writer.{ranksFrom, suitText, handText}
 use Rattle.lin_spec.proofs.Base.{picked, allBelow, below}
@@ -69,7 +70,7 @@ ranks h u (suc r) k w pre post t e =
     let l : length (pre ++ replicate r 0) ≡ u * 13 + r = length-append pre (replicate r 0) ∙ (let z : length (replicate {A = ℕ} r 0) ≡ r = length-replicate r 0 in omega arith) in
     let a : pre ++ (replicate (suc r) 0 ++ post) ≡ (pre ++ replicate r 0) ++ 0 ∷ post = ap (λ (x : List ℕ). pre ++ x) (snoc-zero r post) ∙ sym (append-assoc pre (replicate r 0) (0 ∷ post)) in
     let b : take (suc r) (drop (u * 13) h) ++ post ≡ take r (drop (u * 13) h) ++ n ∷ post =
-        ap (λ (x : List ℕ). x ++ post) (take-suc (drop (u * 13) h) r 0 (let z = length-drop (u * 13) h in omega arith) ∙ ap (λ (x : ℕ). take r (drop (u * 13) h) ++ (x ∷ [])) (getD-drop (u * 13) h r 0)) ∙ append-snoc (take r (drop (u * 13) h)) n post in
+    ap (λ (x : List ℕ). x ++ post) (take-suc (drop (u * 13) h) r 0 (let z = length-drop (u * 13) h in omega arith) ∙ ap (λ (x : ℕ). take r (drop (u * 13) h) ++ (x ∷ [])) (getD-drop (u * 13) h r 0)) ∙ append-snoc (take r (drop (u * 13) h)) n post in
     ap (λ (x : List ℕ). handFrom (some u) x (ranksFrom h (u * 13) (suc r) ++ t)) a
     ∙ ap (handFrom (some u) ((pre ++ replicate r 0) ++ 0 ∷ post)) (append-assoc (replicate n (rankLetter r)) (ranksFrom h (u * 13) r) t)
     ∙ many u r (omega arith) (pre ++ replicate r 0) post l 0 n (ranksFrom h (u * 13) r ++ t)
@@ -115,6 +116,7 @@ read-hand h l = go (eqb (sum h) 0) refl
   where
     len : (u : ℕ) → u ≤ 3 → length (take 13 (drop (u * 13) h)) ≡ 13
     len u k = simp (length-take, length-drop) (omega arith)
+
     go : (t : Bool) → eqb (sum h) 0 ≡ t → readHand (handText h) ≡ h
     go true e = simp e (unfold handFrom in sym (sum-zero h (eqb-true (sum h) 0 e) ∙ ap (λ (n : ℕ). replicate n 0) l))
     go false e =
@@ -136,3 +138,47 @@ read-hand h l = go (eqb (sum h) 0) refl
         ∙ ap (handFrom (some 2) (a ++ b ++ c ++ replicate 13 0)) (sym (append-nil (suitText h 3)))
         ∙ suit h 3 refl l (omega arith) (some 2) (a ++ b ++ c) [] [] labc
         ∙ (unfold handFrom in simp (append-nil, append-assoc) (quarters 13 h l)))
+
+-- The bytes of a hand are letters and figures from 2 to T
+
+abbrev pub Letter : ℕ → Type 0
+Letter b = (0x32 ≤ b) × (b ≤ 0x54)
+
+all-append : {A : Type 0} (P : A → Type 0) (x y : List A) → All P x → All P y → All P (x ++ y)
+all-append P [] y h k = k
+all-append P (a ∷ x) y h k = (h .0, all-append P x y (h .1) k)
+
+all-replicate : (P : ℕ → Type 0) (n b : ℕ) → P b → All P (replicate n b)
+all-replicate P zero b h = tt
+all-replicate P (suc n) b h = (h, all-replicate P n b h)
+
+rank-letter : (r : ℕ) → r < 13 → Letter (rankLetter r)
+unfolding allBelow
+rank-letter r h =
+    (leb-true 0x32 (rankLetter r) (below (λ n. leb 0x32 (rankLetter n)) 13 refl r h), leb-true (rankLetter r) 0x54 (below (λ n. leb (rankLetter n) 0x54) 13 refl r h))
+
+letters-ranks : (h : List ℕ) (first r : ℕ) → r ≤ 13 → All Letter (ranksFrom h first r)
+unfolding ranksFrom
+letters-ranks h first zero k = tt
+letters-ranks h first (suc r) k =
+    all-append Letter (replicate (getD h (first + r) 0) (rankLetter r)) (ranksFrom h first r) (all-replicate Letter (getD h (first + r) 0) (rankLetter r) (rank-letter r (omega arith)))
+    (letters-ranks h first r (omega arith))
+
+letters-suit : (h : List ℕ) (u : ℕ) → Letter (getD (ascii "SHDC") u 0) → All Letter (suitText h u)
+unfolding suitText
+letters-suit h u l = (l, letters-ranks h (u * 13) 13 (omega arith))
+
+pub letters-hand : (h : List ℕ) → All Letter (handText h)
+unfolding handText
+letters-hand h =
+    picked (All Letter) (eqb (sum h) 0) (λ _. tt)
+    (λ _.
+    all-append Letter (suitText h 0) _ (letters-suit h 0 (omega arith, omega arith))
+    (all-append Letter (suitText h 1) _ (letters-suit h 1 (omega arith, omega arith))
+    (all-append Letter (suitText h 2) _ (letters-suit h 2 (omega arith, omega arith)) (letters-suit h 3 (omega arith, omega arith)))))
+
+-- so none of them is a byte outside
+pub letters-lack : (c : ℕ) → (Letter c → ⊥) → (s : List ℕ) → All Letter s → count c s ≡ 0
+unfolding count
+letters-lack c n [] h = refl
+letters-lack c n (b ∷ s) h = simp (ne-eqb b c (λ e. n (rw e at (h .0))), letters-lack c n s (h .1))
