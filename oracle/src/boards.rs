@@ -116,7 +116,8 @@ fn text_of(x: &Option<String>) -> &[u8] {
     x.as_deref().unwrap_or("").as_bytes()
 }
 
-fn put(out: &mut Vectors, board: &LinData) {
+/// The fields of a board.
+pub(crate) fn put(out: &mut Vectors, board: &LinData) {
     out.field(&marks(board));
     board
         .player_names

@@ -8,6 +8,7 @@ pub mod error;
 pub mod lin;
 
 pub mod boards;
+pub mod files;
 pub mod random;
 pub mod records;
 pub mod texts;

@@ -1,6 +1,6 @@
 //! Writes the upstream's answers as vector files: `oracle SUBJECT DIR`.
 
-use oracle::{boards, tokens, utf8, vectors::Vectors};
+use oracle::{boards, files, tokens, utf8, vectors::Vectors};
 use std::{env, fs, io, path::Path, process::ExitCode};
 
 struct Subject {
@@ -24,6 +24,11 @@ const SUBJECTS: &[Subject] = &[
         name: "boards",
         about: "every field of one board, by parse_lin",
         vectors: boards::vectors,
+    },
+    Subject {
+        name: "files",
+        about: "every board of a file and names found in it, by parse_lin_file",
+        vectors: files::vectors,
     },
 ];
 

@@ -1,11 +1,11 @@
 // The reader's refusals, each with what it carries, beside the nearest text that is read. (01: Eight refusals, 1 to 3)
-use crate::fields::fresh;
-use crate::lent::MARK;
-use crate::lent::WORD;
-use crate::lent::refused;
-use crate::lent::untouched;
-use crate::lent::with;
+use crate::reads::with;
 use board::parse_lin_heading;
+use boardcheck::MARK;
+use boardcheck::WORD;
+use boardcheck::fresh;
+use boardcheck::refused;
+use boardcheck::untouched;
 use lin_spec::Heading;
 use lin_spec::LIMIT;
 use lin_spec::Verdict;

@@ -1,11 +1,11 @@
 // Where spans begin: names that were never set and empty pieces, texts set twice, bids and annotations.
 // (01: Board, "empty names (start 0, length 0)"; Records, "A span is ..")
-use crate::lent::MARK;
-use crate::lent::WORD;
-use crate::lent::words_left;
-use crate::rows::word_at;
 use board::parse_lin;
 use board::parse_lin_heading;
+use boardcheck::MARK;
+use boardcheck::WORD;
+use boardcheck::word_at;
+use boardcheck::words_left;
 use lin_spec::MaybeSpan;
 use lin_spec::Span;
 use vectors::Score;

@@ -41,8 +41,7 @@ fn short(rng: &mut Rng) -> String {
 }
 
 /// The record with some bytes changed, and still UTF-8.
-fn changed(rng: &mut Rng) -> String {
-    let record = short(rng);
+fn changed(rng: &mut Rng, record: String) -> String {
     loop {
         let bytes = texts::damaged(rng, record.as_bytes(), 5);
         if let Ok(text) = String::from_utf8(bytes) {
@@ -52,8 +51,7 @@ fn changed(rng: &mut Rng) -> String {
 }
 
 /// The record with a pipe dropped or doubled.
-fn repiped(rng: &mut Rng) -> String {
-    let mut record = short(rng);
+fn repiped(rng: &mut Rng, mut record: String) -> String {
     let pipes: Vec<usize> = record.match_indices('|').map(|(at, _)| at).collect();
     let at = *rng.pick(&pipes);
     if rng.once_in(2) {
@@ -65,8 +63,7 @@ fn repiped(rng: &mut Rng) -> String {
 }
 
 /// The record with a piece between pipes emptied, or two in each other's place.
-fn rearranged(rng: &mut Rng) -> String {
-    let record = short(rng);
+fn rearranged(rng: &mut Rng, record: String) -> String {
     let mut pieces: Vec<&str> = record.split('|').collect();
     let (i, k) = (rng.below(pieces.len()), rng.below(pieces.len()));
     if rng.once_in(2) {
@@ -78,8 +75,7 @@ fn rearranged(rng: &mut Rng) -> String {
 }
 
 /// The record with a token removed or put elsewhere.
-fn moved(rng: &mut Rng) -> String {
-    let record = short(rng);
+fn moved(rng: &mut Rng, record: String) -> String {
     let (mut tokens, trailing) = crate::tokens(&record);
     let token = tokens.remove(rng.below(tokens.len()));
     if rng.once_in(2) {
@@ -88,12 +84,22 @@ fn moved(rng: &mut Rng) -> String {
     joined(&tokens) + &trailing
 }
 
+/// A fault put into a record.
+pub type Fault = fn(&mut Rng, String) -> String;
+
+/// The faults, and how many records have each.
+pub const FAULTS: [(Fault, usize); 4] =
+    [(changed, 160), (repiped, 60), (rearranged, 40), (moved, 60)];
+
 pub fn damaged() -> Vec<String> {
     let rng = &mut Rng::new(6);
-    let mut all: Vec<String> = (0..160).map(|_| changed(rng)).collect();
-    all.extend((0..60).map(|_| repiped(rng)));
-    all.extend((0..40).map(|_| rearranged(rng)));
-    all.extend((0..60).map(|_| moved(rng)));
+    let mut all = Vec::new();
+    for (fault, times) in FAULTS {
+        for _ in 0..times {
+            let record = short(rng);
+            all.push(fault(rng, record));
+        }
+    }
     all
 }
 
@@ -102,7 +108,7 @@ const VALUES: &str = "| |1|0|9| +13\n|300|n|Both|\u{A0}E\u{A0}|SA|h2| ct |1SA,HK
     4,,,C2|0SA|1C|1N!|p!!|!|a,b,c,d|,é|x|5+ hearts|Jose\u{301}";
 
 /// A token: a command, known as a rule, and a value that may be another's.
-fn token(rng: &mut Rng) -> (String, String) {
+pub fn token(rng: &mut Rng) -> (String, String) {
     const BOARD: &[&str] = &["pn", "md", "sv", "mn", "qx", "ah", "mb", "an", "pc", "mc"];
     let command = match rng.below(6) {
         0 => rng.pick(COMMANDS).to_string(),

@@ -66,7 +66,8 @@ const ALIKE: &[char] = &[
     '\u{3001}',
 ];
 
-fn characters() -> impl Iterator<Item = char> {
+/// White space, and what is like it.
+pub fn characters() -> impl Iterator<Item = char> {
     WHITE.into_iter().chain(ALIKE.iter().copied())
 }
 

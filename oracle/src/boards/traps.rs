@@ -61,14 +61,14 @@ fn mixed(c: char, n: usize, i: usize) -> char {
 }
 
 /// Every way to write a word of ASCII in small letters and capitals.
-fn mixes(word: &str) -> Vec<String> {
+pub fn mixes(word: &str) -> Vec<String> {
     let letters = || word.chars().enumerate();
     let mix = |n| letters().map(|(i, c)| mixed(c, n, i)).collect();
     (0..1 << word.len()).map(mix).collect()
 }
 
 /// Words like a command, none of which is it.
-fn near(word: &str) -> Vec<String> {
+pub fn near(word: &str) -> Vec<String> {
     let (a, b) = word.split_at(1);
     vec![
         a.to_string(),

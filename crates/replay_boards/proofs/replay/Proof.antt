@@ -7,16 +7,19 @@ use Rattle.replay_boards.proofs.replay.Statement.{statement}
 use Rattle.replay_boards.proofs.replay.Tie as tie
 
 abbrev Inv-loop : tie.InvT-loop
-Inv-loop file group score₀ at₀ score at = Unit {0}
+Inv-loop file call score₀ at₀ score at = Unit {0}
 
 abbrev μ-loop : tie.MeasureT-loop
-μ-loop file group score₀ at₀ score at = length file - at
+μ-loop file call score₀ at₀ score at = length file - at
 
 fresh-requires : tie.Need-fresh-requires Inv-loop μ-loop
 fresh-requires c κs = search needs
 
 loop-holds : tie.Need-loop-holds Inv-loop μ-loop
 loop-holds c = search needs
+
+field-at-requires : tie.Need-field-at-requires Inv-loop μ-loop
+field-at-requires c κs = search needs
 
 case-at-requires : tie.Need-case-at-requires Inv-loop μ-loop
 case-at-requires c κs = search needs
@@ -53,6 +56,7 @@ replay-spec =
     μ-loop
     fresh-requires
     loop-holds
+    field-at-requires
     case-at-requires
     counted-requires
     returns

@@ -1,0 +1,30 @@
+// Boards held to the oracle's answers: what the programs share that replay them. (01: Records; Board; refusal 3)
+mod cases;
+mod fields;
+mod groups;
+mod lent;
+mod rows;
+
+pub use cases::Case;
+pub use cases::case_at;
+pub use cases::text_of;
+pub use fields::fresh;
+pub use fields::heading_holds;
+pub use fields::unset;
+pub use groups::Call;
+pub use groups::Group;
+pub use groups::Lent;
+pub use groups::answered;
+pub use groups::asked;
+pub use groups::lent_to;
+pub use lent::MARK;
+pub use lent::PLACES;
+pub use lent::WORD;
+pub use lent::WORDS;
+pub use lent::least;
+pub use lent::refusal_is;
+pub use lent::refused;
+pub use lent::untouched;
+pub use lent::words_left;
+pub use rows::span_at;
+pub use rows::word_at;
