@@ -104,7 +104,7 @@ pub struct Board<'a> {
     pub play: Vec<Card>,
 }
 
-fn flag(word: u32) -> bool {
+pub(crate) fn flag(word: u32) -> bool {
     match word {
         0 => false,
         1 => true,
@@ -220,15 +220,25 @@ pub fn calls<'a>(text: &'a [u8], rows: &[u32]) -> Vec<Call<'a>> {
     rows.chunks_exact(ROW).map(call).collect()
 }
 
-/// The board that a text is; refusals 1 and 2.
-pub fn board(text: &[u8]) -> Result<Board<'_>, Refusal> {
-    let asked = heading(text)?;
-    let mut rows = vec![0; ROW * asked.calls];
-    let mut cards = vec![0; asked.cards];
-    let heading = parse_lin_into(text, &mut rows, &mut cards)?;
+/// A board in as many rows and cards as its heading tells; `read` fills them.
+pub(crate) fn filled<'a>(
+    text: &'a [u8],
+    told: Heading,
+    read: impl FnOnce(&mut [u32], &mut [u8]) -> LinHeading,
+) -> Result<Board<'a>, Refusal> {
+    let mut rows = vec![0; ROW * told.calls];
+    let mut cards = vec![0; told.cards];
+    let heading = read(&mut rows, &mut cards).read(text)?;
     Ok(Board {
         heading,
         calls: calls(text, &rows),
         play: cards.into_iter().map(Card).collect(),
+    })
+}
+
+/// The board that a text is; refusals 1 and 2.
+pub fn board(text: &[u8]) -> Result<Board<'_>, Refusal> {
+    filled(text, heading(text)?, |rows, cards| {
+        parse_lin_numbers(text, rows, cards)
     })
 }

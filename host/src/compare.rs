@@ -2,8 +2,10 @@
 //! what differs.
 
 mod boards;
+mod files;
 
 pub use boards::board;
+pub use files::{file, name, visit, visits};
 
 use crate::{
     model,

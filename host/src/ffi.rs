@@ -77,6 +77,36 @@ pub struct LinHeading {
     pub board: LinBoard,
 }
 
+/// A board cursor: the place of the next part or line, and the number of the
+/// next board. A refusal has the cursor 0, 0, 0.
+#[repr(C)]
+#[derive(Debug, Clone, Copy, PartialEq, Eq)]
+pub struct LinBoards {
+    /// The value is 0 where nothing is refused.
+    pub answer: LinAnswer,
+    pub at: u64,
+    pub number: u64,
+    /// 1 for a file of lines, 0 for one of parts.
+    pub lines: u32,
+}
+
+/// A step of the board cursor. Without a part or a line its numbers are 0, and
+/// the cursor is as it was.
+#[repr(C)]
+#[derive(Debug, Clone, Copy, PartialEq, Eq)]
+pub struct LinSection {
+    /// 1 with a part or a line, 0 without.
+    pub found: u32,
+    /// The number that it has if it is a board.
+    pub number: u64,
+    pub start: u64,
+    pub stop: u64,
+    /// 1 for a board, 0 for none.
+    pub board: u32,
+    pub next_at: u64,
+    pub next_number: u64,
+}
+
 extern "C" {
     pub fn lin_open(text: *const u8, text_len: usize) -> LinAnswer;
     pub fn lin_next(text: *const u8, text_len: usize, at: u64) -> LinStep;
@@ -100,4 +130,29 @@ extern "C" {
         cards: *mut u8,
         cards_len: usize,
     ) -> LinHeading;
+    pub fn lin_count_boards(text: *const u8, text_len: usize) -> LinAnswer;
+    pub fn lin_file_heading(text: *const u8, text_len: usize, number: u64) -> LinHeading;
+    pub fn lin_file_board(
+        text: *const u8,
+        text_len: usize,
+        number: u64,
+        rows: *mut u32,
+        rows_len: usize,
+        cards: *mut u8,
+        cards_len: usize,
+    ) -> LinHeading;
+    pub fn lin_find_name(
+        text: *const u8,
+        text_len: usize,
+        name: *const u8,
+        name_len: usize,
+    ) -> LinAnswer;
+    pub fn lin_open_boards(text: *const u8, text_len: usize) -> LinBoards;
+    pub fn lin_next_board(
+        text: *const u8,
+        text_len: usize,
+        at: u64,
+        number: u64,
+        lines: u32,
+    ) -> LinSection;
 }

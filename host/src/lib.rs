@@ -3,6 +3,7 @@
 pub mod boards;
 pub mod compare;
 mod ffi;
+pub mod files;
 pub mod model;
 pub mod samples;
 pub mod tokens;

@@ -3,9 +3,11 @@
 
 use crate::{
     boards::{LinBoard, LinText},
+    files::LinSection,
     tokens::{Part, Span, Step},
     Refusal, LIMIT,
 };
+use oracle::texts::WHITE;
 
 pub fn open(text: &[u8]) -> Result<u64, Refusal> {
     if text.len() > LIMIT {
@@ -70,6 +72,88 @@ pub fn trailing(text: &[u8], at: u64) -> Part {
         start: at,
         len: rest(text, at).len() as u64,
     }
+}
+
+fn trim(mut bytes: &[u8]) -> &[u8] {
+    let white: Vec<String> = WHITE.iter().map(char::to_string).collect();
+    while let Some(less) = white.iter().find_map(|w| bytes.strip_prefix(w.as_bytes())) {
+        bytes = less;
+    }
+    while let Some(less) = white.iter().find_map(|w| bytes.strip_suffix(w.as_bytes())) {
+        bytes = less;
+    }
+    bytes
+}
+
+/// The step of a board cursor of any numbers, over any bytes.
+pub fn visit(text: &[u8], at: u64, number: u64, lines: u32) -> LinSection {
+    let section = if lines == 0 {
+        part(text, at)
+    } else {
+        line(text, at)
+    };
+    let Some((stop, board, next_at)) = section else {
+        return LinSection {
+            found: 0,
+            number: 0,
+            start: 0,
+            stop: 0,
+            board: 0,
+            next_at: at,
+            next_number: number,
+        };
+    };
+    LinSection {
+        found: 1,
+        number,
+        start: at,
+        stop,
+        board: board.into(),
+        next_at,
+        next_number: number.saturating_add(board.into()),
+    }
+}
+
+/// Where the line at a place ends, whether it is a board, and the next place.
+fn line(text: &[u8], at: u64) -> Option<(u64, bool, u64)> {
+    if at > text.len() as u64 {
+        return None;
+    }
+    let line = rest(text, at).split(|b| *b == b'\n').next()?;
+    let stop = at + line.len() as u64;
+    Some((stop, !trim(line).is_empty(), stop + 1))
+}
+
+/// The same of the part at a place.
+fn part(text: &[u8], at: u64) -> Option<(u64, bool, u64)> {
+    let mut tokens = Vec::new();
+    let mut end = at;
+    loop {
+        let found = step(text, end);
+        if found.found == 0 {
+            break;
+        }
+        let command = Part {
+            start: end,
+            len: found.command_len,
+        };
+        let command = trim(command.of(text));
+        tokens.push((end, command.to_ascii_lowercase()));
+        end = found.next;
+    }
+    if tokens.is_empty() {
+        return None;
+    }
+    let is = |k: usize, commands: &[&[u8]]| commands.contains(&tokens[k].1.as_slice());
+    let moved_back = |qx: usize| {
+        let led = (0..qx).rev().take_while(|k| is(*k, &[b"mn", b"pn"]));
+        qx - led.count()
+    };
+    let beginnings = (0..tokens.len()).filter(|k| is(*k, &[b"qx"]));
+    let next = beginnings.map(moved_back).find(|begin| *begin > 0);
+    let stop = next.map_or(end, |begin| tokens[begin].0);
+    let board = (0..next.unwrap_or(tokens.len())).any(|k| is(k, &[b"md"]));
+    Some((stop, board, stop))
 }
 
 pub fn write_document(

@@ -1,5 +1,5 @@
-//! Random records of one board: commands in any dress, with values that are
-//! read, nearly read or skipped.
+//! Random records of one board, and files of them: commands in any dress, with
+//! values that are read, nearly read or skipped.
 
 use oracle::{
     random::Rng,
@@ -108,6 +108,28 @@ pub fn record(rng: &mut Rng, tokens: usize) -> String {
     }
     if rng.once_in(4) {
         text += *rng.pick(&["\n", "mb", "mc|7", "é"]);
+    }
+    text
+}
+
+/// Some records one after another: parts about qx tokens, or lines.
+pub fn file(rng: &mut Rng, tokens: usize) -> String {
+    let mut text = String::new();
+    for _ in 0..rng.below(tokens + 1) {
+        if rng.once_in(6) {
+            text += *rng.pick(&["\n", "\n", "\n", " \n\n", "\r\n", "\u{2028}", "é", "|"]);
+        }
+        let command = match rng.below(4) {
+            0 => command(rng),
+            _ => *rng.pick(&["qx", "qx", "mn", "pn", "md", "md", "mb"]),
+        };
+        let value = value(rng, command);
+        let dressed = dressed(rng, command);
+        text += &format!("{dressed}|{value}|");
+    }
+    if rng.once_in(3) {
+        // no qx token is left
+        text = text.replace(['q', 'Q'], "p");
     }
     text
 }

@@ -31,3 +31,20 @@ pub use lin_spec::MaybeClaim;
 pub use lin_spec::Seat;
 pub use lin_spec::Verdict;
 pub use lin_spec::Vulnerability;
+
+// Files. (01: File; names)
+pub use file::BoardCursor;
+pub use file::BoardStep;
+pub use file::Counted;
+pub use file::OpenedBoards;
+pub use file::Section;
+pub use file::count_boards;
+pub use file::file_board;
+pub use file::file_heading;
+pub use file::find_name;
+pub use file::open_boards;
+
+// The lines of a listing. (01: Program linlist)
+pub use listing::board_line;
+pub use listing::header_line;
+pub use listing::refusal_line;

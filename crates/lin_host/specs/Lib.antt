@@ -1,1 +1,4 @@
-pub mod Numbers
+pub mod Answers
+pub mod Tokens
+pub mod Boards
+pub mod Files

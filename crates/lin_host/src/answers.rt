@@ -2,7 +2,7 @@
 use lin_spec::Refusal;
 ghost use mathlib.Core.Path.{_≡_};
 ghost use Rattle.lin_spec.specs.Refusals.Answer.{refused};
-ghost use Rattle.lin_host.specs.Numbers.{numbersOf};
+ghost use Rattle.lin_host.specs.Answers.{numbersOf};
 
 // refusal 0: accepted, with a place or a length as the value. Else 01's number, with what it carries; kind 0 for calls, 1 for cards.
 #[repr(C)]

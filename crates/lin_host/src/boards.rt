@@ -7,13 +7,12 @@ use lin_spec::Board;
 use lin_spec::Heading;
 use lin_spec::MaybeClaim;
 use lin_spec::MaybeSpan;
-use lin_spec::Seat;
 use lin_spec::Span;
 use lin_spec::Verdict;
 use lin_spec::Vulnerability;
 ghost use mathlib.Core.Path.{_≡_};
 ghost use Rattle.lin_spec.specs.Reading.{readHeading, readBoard};
-ghost use Rattle.lin_host.specs.Numbers.{seatNumber, vulnerabilityNumber, placeNumbers, textNumbers, claimNumber, claimFlag, boardNumbers, verdictNumbers, headingNumbers, Reading, readingNumbers};
+ghost use Rattle.lin_host.specs.Boards.{vulnerabilityNumber, placeNumbers, textNumbers, claimNumber, claimFlag, boardNumbers, verdictNumbers, headingNumbers, Reading, readingNumbers};
 
 // A text or its absence, which is 0, 0, 0. present is 0 or 1.
 #[repr(C)]
@@ -52,17 +51,6 @@ pub struct LinHeading {
 }
 
 // The parts of a heading as numbers.
-
-fn seat_number(s: Seat) -> u32
-    ensures { λ r. ⌜ r ≡ seatNumber s ⌝ }
-{
-    match s {
-        Seat::South => 0,
-        Seat::West => 1,
-        Seat::North => 2,
-        Seat::East => 3,
-    }
-}
 
 fn vulnerability_number(v: Vulnerability) -> u32
     ensures { λ r. ⌜ r ≡ vulnerabilityNumber v ⌝ }
@@ -158,7 +146,7 @@ fn board_numbers(b: Board) -> LinBoard
     let names = place_numbers(names);
     LinBoard {
         names,
-        dealer: seat_number(dealer),
+        dealer: dealer.number() as u32,
         vulnerability: vulnerability_number(vulnerability),
         title: text_numbers(title),
         room_board: text_numbers(room_board),
@@ -169,7 +157,7 @@ fn board_numbers(b: Board) -> LinBoard
     }
 }
 
-fn heading_numbers(h: Heading) -> LinHeading
+pub(crate) fn heading_numbers(h: Heading) -> LinHeading
     ensures { λ r. ⌜ r ≡ headingNumbers h ⌝ }
 {
     let verdict = h.verdict;

@@ -15,7 +15,8 @@ ghost use Rattle.lin_spec.specs.Cursor.{stepAt};
 ghost use Rattle.lin_spec.specs.Output.{answerOf};
 ghost use Rattle.lin_spec.specs.Document.{openText, writeDocument};
 ghost use Rattle.document.specs.Steps.{openedOf, stepOf};
-ghost use Rattle.lin_host.specs.Numbers.{numbersOf, stepNumbers, restNumbers, Outcome, outcomeNumbers};
+ghost use Rattle.lin_host.specs.Answers.{numbersOf};
+ghost use Rattle.lin_host.specs.Tokens.{stepNumbers, restNumbers, Outcome, outcomeNumbers};
 
 // found 1: a token, and the cursor after it. found 0: none, and the cursor as it was.
 #[repr(C)]

@@ -21,6 +21,7 @@ struct Counts {
     places: u64,
     documents: u64,
     boards: u64,
+    files: u64,
 }
 
 fn main() -> ExitCode {
@@ -44,8 +45,8 @@ fn main() -> ExitCode {
         }
     }
     println!(
-        "seed {seed}: {} texts, {} runs of bytes, {} places, {} documents, {} boards: all the same",
-        counts.texts, counts.bytes, counts.places, counts.documents, counts.boards
+        "seed {seed}: {} texts, {} runs of bytes, {} places, {} documents, {} boards, {} files: all the same",
+        counts.texts, counts.bytes, counts.places, counts.documents, counts.boards, counts.files
     );
     ExitCode::SUCCESS
 }
@@ -56,7 +57,7 @@ fn round(rng: &mut Rng, counts: &mut Counts) -> (String, Same) {
         counts.documents += 1;
         return long(rng);
     }
-    match rng.below(12) {
+    match rng.below(16) {
         0..=2 => {
             let text = any_text(rng);
             counts.texts += 1;
@@ -73,11 +74,17 @@ fn round(rng: &mut Rng, counts: &mut Counts) -> (String, Same) {
             counts.documents += 1;
             document(rng)
         }
-        _ => {
+        8..=11 => {
             let bytes = any_record(rng);
             counts.boards += 1;
             let outcome = compare::board(&bytes);
             (format!("board {}", bytes.escape_ascii()), outcome)
+        }
+        _ => {
+            let bytes = any_file(rng);
+            counts.files += 1;
+            let outcome = compare::file(&bytes).and_then(|()| visits(rng, counts, &bytes));
+            (format!("file {}", bytes.escape_ascii()), outcome)
         }
     }
 }
@@ -115,6 +122,20 @@ fn any_record(rng: &mut Rng) -> Vec<u8> {
     text.into_bytes()
 }
 
+/// A file of some boards, now and then another text, or with faults.
+fn any_file(rng: &mut Rng) -> Vec<u8> {
+    let text = match rng.below(16) {
+        0 => any_text(rng),
+        1 => (0..rng.below(4)).map(|_| any_text(rng)).collect(),
+        2 => samples::file(rng, 150),
+        _ => samples::file(rng, 16),
+    };
+    if rng.once_in(10) {
+        return texts::damaged(rng, text.as_bytes(), 3);
+    }
+    text.into_bytes()
+}
+
 fn any_bytes(rng: &mut Rng) -> Vec<u8> {
     if rng.once_in(2) {
         return texts::bytes(rng, 40);
@@ -132,6 +153,17 @@ fn steps(rng: &mut Rng, counts: &mut Counts, bytes: &[u8]) -> Same {
         let at = rng.below(bytes.len() + 4);
         counts.places += 1;
         compare::step(bytes, at as u64)?;
+    }
+    Ok(())
+}
+
+/// Steps of the board cursor from some places, with any number.
+fn visits(rng: &mut Rng, counts: &mut Counts, bytes: &[u8]) -> Same {
+    for _ in 0..8 {
+        let at = rng.below(bytes.len() + 4);
+        let number = *rng.pick(&[0, 1, u64::from(u32::MAX), u64::MAX - 1, u64::MAX]);
+        counts.places += 1;
+        compare::visit(bytes, at as u64, number)?;
     }
     Ok(())
 }

@@ -1,6 +1,6 @@
 -- `lin_host::board_numbers` meets its contract: each field is the numbers of its own.
 -- Assumes nothing.
-use Rattle.lin_host.specs.Numbers.{boardNumbers}
+use Rattle.lin_host.specs.Boards.{boardNumbers}
 use borrow.Author.Needs.{needs}
 use Rattle.lin_host.proofs.boards.board_numbers.Statement.{statement}
 use Rattle.lin_host.proofs.boards.board_numbers.Tie as tie
@@ -9,43 +9,47 @@ use Rattle.lin_host.proofs.boards.board_numbers.Lts as lts
 use Rattle.lin_host.proofs.boards.claim_flag.Reads as claim-flag-reads
 use Rattle.lin_host.proofs.boards.claim_number.Reads as claim-number-reads
 use Rattle.lin_host.proofs.boards.place_numbers.Reads as place-numbers-reads
-use Rattle.lin_host.proofs.boards.seat_number.Reads as seat-number-reads
 use Rattle.lin_host.proofs.boards.text_numbers.Reads as text-numbers-reads
 use Rattle.lin_host.proofs.boards.vulnerability_number.Reads as vulnerability-number-reads
+use Rattle.lin_spec.proofs.Seat.number.Reads as number-reads
 
--- src/boards.rt:158:9
+-- src/boards.rt:146:9
 place-numbers-requires : tie.Need-place-numbers-requires
 place-numbers-requires c κs = search needs
 
--- src/boards.rt:161:17
-seat-number-requires : tie.Need-seat-number-requires
-seat-number-requires c κs = search needs
+-- src/boards.rt:149:17
+number-requires : tie.Need-number-requires
+number-requires c κs = search needs
 
--- src/boards.rt:162:24
+-- src/boards.rt:149:17
+cast-t13 : tie.Need-cast-t13
+cast-t13 c = search needs
+
+-- src/boards.rt:150:24
 vulnerability-number-requires : tie.Need-vulnerability-number-requires
 vulnerability-number-requires c κs = search needs
 
--- src/boards.rt:163:16
+-- src/boards.rt:151:16
 text-numbers-requires : tie.Need-text-numbers-requires
 text-numbers-requires c κs = search needs
 
--- src/boards.rt:164:21
+-- src/boards.rt:152:21
 text-numbers-requires-2 : tie.Need-text-numbers-requires-2
 text-numbers-requires-2 c κs = search needs
 
--- src/boards.rt:165:23
+-- src/boards.rt:153:23
 text-numbers-requires-3 : tie.Need-text-numbers-requires-3
 text-numbers-requires-3 c κs = search needs
 
--- src/boards.rt:166:18
+-- src/boards.rt:154:18
 claim-flag-requires : tie.Need-claim-flag-requires
 claim-flag-requires c κs = search needs
 
--- src/boards.rt:167:16
+-- src/boards.rt:155:16
 claim-number-requires : tie.Need-claim-number-requires
 claim-number-requires c κs = search needs
 
--- src/boards.rt:146:1
+-- src/boards.rt:134:1
 returns : tie.Need-returns
 unfolding boardNumbers
 returns c = cc
@@ -55,7 +59,8 @@ board-numbers-spec =
     tie.close
     (tie.spec
     place-numbers-requires
-    seat-number-requires
+    number-requires
+    cast-t13
     vulnerability-number-requires
     text-numbers-requires
     text-numbers-requires-2

@@ -7,7 +7,7 @@ use mathlib.Core.List.{List, [], _∷_}
 use lib.ListN.{length, getD}
 use Rattle.lin_spec.specs.Records.{span}
 use Rattle.lin_spec.specs.declared.Span.{Span}
-use Rattle.lin_host.specs.Numbers.{placeNumbers}
+use Rattle.lin_host.specs.Boards.{placeNumbers}
 use borrow.Author.Needs.{needs}
 use Rattle.lin_host.proofs.boards.place_numbers.Statement.{statement}
 use Rattle.lin_host.proofs.boards.place_numbers.Tie as tie
@@ -26,23 +26,23 @@ four (s ∷ w ∷ n ∷ []) h = absurd (omega arith)
 four (s ∷ w ∷ n ∷ e ∷ []) h = refl
 four (s ∷ w ∷ n ∷ e ∷ x ∷ xs) h = absurd (omega arith)
 
--- src/boards.rt:82:13
+-- src/boards.rt:70:13
 array-copy-out-s : tie.Need-array-copy-out-s
 array-copy-out-s c = search needs
 
--- src/boards.rt:83:13
+-- src/boards.rt:71:13
 array-copy-out-w : tie.Need-array-copy-out-w
 array-copy-out-w c = search needs
 
--- src/boards.rt:84:13
+-- src/boards.rt:72:13
 array-copy-out-n : tie.Need-array-copy-out-n
 array-copy-out-n c = search needs
 
--- src/boards.rt:85:13
+-- src/boards.rt:73:13
 array-copy-out-e : tie.Need-array-copy-out-e
 array-copy-out-e c = search needs
 
--- src/boards.rt:79:1
+-- src/boards.rt:67:1
 returns : tie.Need-returns
 unfolding nth
 returns c = four _ (search needs)

@@ -7,11 +7,11 @@ use Rattle.lin_host.proofs.tokens.lin_trailing.Reads as reads
 use Rattle.lin_host.proofs.tokens.lin_trailing.Lts as lts
 use Rattle.document.proofs.trailing.Reads as trailing-reads
 
--- src/tokens.rt:114:9
+-- src/tokens.rt:115:9
 trailing-requires : tie.Need-trailing-requires
 trailing-requires c κs = search needs
 
--- src/tokens.rt:110:1
+-- src/tokens.rt:111:1
 returns : tie.Need-returns
 returns c = cc
 

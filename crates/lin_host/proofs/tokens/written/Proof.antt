@@ -7,23 +7,23 @@ use Rattle.lin_host.proofs.tokens.written.Reads as reads
 use Rattle.lin_host.proofs.tokens.written.Lts as lts
 use Rattle.lin_host.proofs.answers.refusal.Reads as refusal-reads
 
--- src/tokens.rt:56:25
+-- src/tokens.rt:57:25
 enum-known-w : tie.Need-enum-known-w
 enum-known-w c = search needs
 
--- src/tokens.rt:61:26
+-- src/tokens.rt:62:26
 enum-known-w-2 : tie.Need-enum-known-w-2
 enum-known-w-2 c = search needs
 
--- src/tokens.rt:61:32
+-- src/tokens.rt:62:32
 refusal-requires : tie.Need-refusal-requires
 refusal-requires c κs = search needs
 
--- src/tokens.rt:52:1
+-- src/tokens.rt:53:1
 returns : tie.Need-returns
 returns c = rw (c .before .w .given .1)
 
--- src/tokens.rt:52:1
+-- src/tokens.rt:53:1
 returns-2 : tie.Need-returns-2
 returns-2 c = rw (c .before .before .w2 .given .1) (c .refusal .ensures)
 

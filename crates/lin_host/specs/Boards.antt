@@ -1,77 +1,25 @@
--- The answers as the numbers that the exports give. (01: Eight refusals, "No." and "With it"; Records)
+-- A board without its rows, and a heading, as numbers. (01: Records; Board)
 use Prim.Native.Nat.{ℕ}
 use mathlib.Core.List.{List, [], _∷_}
-use lib.ListN.{length}
-use Rattle.lin_spec.specs.Cursor.{Step, remainder}
-use Rattle.lin_spec.specs.Cursor.Step.{found, ended}
-use Rattle.lin_spec.specs.Refusals.{Answer, numberOf, kindOf, carriedOf}
-use Rattle.lin_spec.specs.Refusals.Answer.{refused, accepted}
-use Rattle.lin_spec.specs.Output.{Outcome as Written}
+use Rattle.lin_spec.specs.Letters.{seatNumber}
+use Rattle.lin_spec.specs.Refusals.Answer.{refused}
 use Rattle.lin_spec.specs.Reading.{Reading as BoardReading}
 use Rattle.lin_spec.specs.declared.Span.{Span}
 use Rattle.lin_spec.specs.declared.MaybeSpan.{MaybeSpan}
 use Rattle.lin_spec.specs.declared.MaybeSpan.the-variants.{Absent, Present}
 use Rattle.lin_spec.specs.declared.MaybeClaim.{MaybeClaim}
 use Rattle.lin_spec.specs.declared.MaybeClaim.the-variants.{Absent as NoClaim, Claimed}
-use Rattle.lin_spec.specs.declared.Seat.{Seat}
-use Rattle.lin_spec.specs.declared.Seat.the-variants.{South, West, North, East}
 use Rattle.lin_spec.specs.declared.Vulnerability.{Vulnerability}
 use Rattle.lin_spec.specs.declared.Vulnerability.the-variants.{None, NorthSouth, EastWest, Both}
 use Rattle.lin_spec.specs.declared.Verdict.{Verdict}
 use Rattle.lin_spec.specs.declared.Verdict.the-variants.{Accepted, Refused}
 use Rattle.lin_spec.specs.declared.Board.{Board}
 use Rattle.lin_spec.specs.declared.Heading.{Heading}
+use Rattle.lin_host.specs.Answers.{numbersOf}
 use Rattle.lin_host.specs.declared.answers.LinAnswer.{LinAnswer}
 use Rattle.lin_host.specs.declared.boards.LinText.{LinText}
 use Rattle.lin_host.specs.declared.boards.LinBoard.{LinBoard}
 use Rattle.lin_host.specs.declared.boards.LinHeading.{LinHeading}
-use Rattle.lin_host.specs.declared.tokens.LinStep.{LinStep}
-use Rattle.lin_host.specs.declared.tokens.LinPart.{LinPart}
-
-abbrev pub numbersOf : Answer ℕ → LinAnswer
-numbersOf (accepted n) = record { refusal = 0; kind = 0; value = n }
-numbersOf (refused r) = record { refusal = numberOf r; kind = kindOf r; value = carriedOf r }
-
-abbrev pub stepNumbers : Step → LinStep
-stepNumbers (found c v n) =
-    record {
-      found = 1;
-      «command_start» = c .start;
-      «command_len» = c .len;
-      «value_start» = v .start;
-      «value_len» = v .len;
-      next = n;
-    }
-stepNumbers (ended n) =
-    record {
-      found = 0;
-      «command_start» = 0;
-      «command_len» = 0;
-      «value_start» = 0;
-      «value_len» = 0;
-      next = n;
-    }
-
--- the remainder from a place on, as a part of the text
-abbrev pub restNumbers : List ℕ → (at : ℕ) → LinPart
-restNumbers s at = record { start = at; len = length (remainder s at) }
-
--- an answer, and the output afterwards
-pub record Outcome : Type 0 where
-  pub answer : LinAnswer
-  pub output : List ℕ
-
-abbrev pub outcomeNumbers : Written → Outcome
-outcomeNumbers w = record { answer = numbersOf (w .answer); output = w .output }
-
--- Boards
-
--- "seats in LIN order S, W, N, E"
-abbrev pub seatNumber : Seat → ℕ
-seatNumber South = 0
-seatNumber West = 1
-seatNumber North = 2
-seatNumber East = 3
 
 abbrev pub vulnerabilityNumber : Vulnerability → ℕ
 vulnerabilityNumber None = 0

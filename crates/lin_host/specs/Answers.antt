@@ -1,0 +1,9 @@
+-- An answer or a refusal as three numbers. (01: Eight refusals, "No." and "With it")
+use Prim.Native.Nat.{ℕ}
+use Rattle.lin_spec.specs.Refusals.{Answer, numberOf, kindOf, carriedOf}
+use Rattle.lin_spec.specs.Refusals.Answer.{refused, accepted}
+use Rattle.lin_host.specs.declared.answers.LinAnswer.{LinAnswer}
+
+abbrev pub numbersOf : Answer ℕ → LinAnswer
+numbersOf (accepted n) = record { refusal = 0; kind = 0; value = n }
+numbersOf (refused r) = record { refusal = numberOf r; kind = kindOf r; value = carriedOf r }

@@ -1,0 +1,48 @@
+-- The board cursor and its step as numbers. (01: File)
+use Prim.Native.Nat.{ℕ}
+use mathlib.Core.Bool.{Bool, not}
+use lib.Dec.{eqb}
+use Rattle.lin_spec.specs.Base.{pick}
+use Rattle.lin_spec.specs.Refusals.{Answer}
+use Rattle.lin_spec.specs.Refusals.Answer.{refused, accepted}
+use Rattle.lin_spec.specs.File.{Standing, Visit}
+use Rattle.lin_spec.specs.File.Visit.{found, ended}
+use Rattle.lin_host.specs.Answers.{numbersOf}
+use Rattle.lin_host.specs.declared.files.LinBoards.{LinBoards}
+use Rattle.lin_host.specs.declared.files.LinSection.{LinSection}
+
+-- 1 where a test holds, else 0
+abbrev pub flag : Bool → ℕ
+flag b = pick b 1 0
+
+-- a cursor of any numbers: `lines` other than 0 counts as 1
+abbrev pub standing : (at number lines : ℕ) → Standing
+standing at number lines = record { at = at; number = number; lines = not (eqb lines 0) }
+
+-- the answer 0 with the cursor, or the refusal with 0, 0, 0
+unfoldable pub openedNumbers : Answer Standing → LinBoards
+openedNumbers (accepted c) = record { answer = numbersOf (accepted 0); at = c .at; number = c .number; lines = flag (c .lines) }
+openedNumbers (refused r) = record { answer = numbersOf (refused r); at = 0; number = 0; lines = 0 }
+
+-- without a section its numbers are 0
+unfoldable pub visitNumbers : Visit → LinSection
+visitNumbers (found n p c) =
+    record {
+      found = 1;
+      number = n;
+      start = p .start;
+      stop = p .stop;
+      board = flag (p .board);
+      «next_at» = c .at;
+      «next_number» = c .number;
+    }
+visitNumbers (ended c) =
+    record {
+      found = 0;
+      number = 0;
+      start = 0;
+      stop = 0;
+      board = 0;
+      «next_at» = c .at;
+      «next_number» = c .number;
+    }

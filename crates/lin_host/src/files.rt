@@ -1,0 +1,172 @@
+// The entries of files: how many boards, a board by its number, the name finder and the board cursor. (01: File; names)
+use crate::answers::LinAnswer;
+use crate::answers::refusal;
+use crate::boards::LinHeading;
+use crate::boards::heading_numbers;
+use file::BoardCursor;
+use file::BoardStep;
+use file::Counted;
+use file::OpenedBoards;
+use file::count_boards;
+use file::file_board;
+use file::file_heading;
+use file::find_name;
+use file::open_boards;
+ghost use mathlib.Core.Path.{_≡_};
+ghost use Rattle.lin_spec.specs.File.{countBoards, fileHeading, fileBoard, findName, openBoards, visit};
+ghost use Rattle.file.specs.Numbers.{countedOf};
+ghost use Rattle.file.specs.Sections.{openedOf, visitOf};
+ghost use Rattle.lin_host.specs.Answers.{numbersOf};
+ghost use Rattle.lin_host.specs.Boards.{headingNumbers, Reading, readingNumbers};
+ghost use Rattle.lin_host.specs.Files.{flag, standing, openedNumbers, visitNumbers};
+
+// The verdict and the cursor: the place of the next part or line, the number of the next board, lines 0 or 1. An accepted call has the value 0; a refusal
+// has the cursor 0, 0, 0.
+#[repr(C)]
+pub struct LinBoards {
+    pub answer: LinAnswer,
+    pub at: u64,
+    pub number: u64,
+    pub lines: u32,
+}
+
+// found 1: a part or a line from start up to stop, board 0 or 1, with the number that it has if it is a board, and the cursor after it.
+// found 0: none, and the cursor as it was.
+#[repr(C)]
+pub struct LinSection {
+    pub found: u32,
+    pub number: u64,
+    pub start: u64,
+    pub stop: u64,
+    pub board: u32,
+    pub next_at: u64,
+    pub next_number: u64,
+}
+
+// The answers as numbers.
+
+fn counted(n: Counted) -> LinAnswer
+    ensures { λ a. ⌜ a ≡ numbersOf (countedOf n) ⌝ }
+{
+    match n {
+        Counted::Count(n) => LinAnswer {
+            refusal: 0,
+            kind: 0,
+            value: n as u64,
+        },
+        Counted::Refused(r) => refusal(r),
+    }
+}
+
+fn flag_number(b: bool) -> u32
+    ensures { λ r. ⌜ r ≡ flag b ⌝ }
+{
+    if b {
+        return 1;
+    }
+    0
+}
+
+fn opened_numbers(o: OpenedBoards) -> LinBoards
+    ensures { λ r. ⌜ r ≡ openedNumbers (openedOf o) ⌝ }
+{
+    match o {
+        OpenedBoards::At(c) => LinBoards {
+            answer: LinAnswer {
+                refusal: 0,
+                kind: 0,
+                value: 0,
+            },
+            at: c.at as u64,
+            number: c.number as u64,
+            lines: flag_number(c.lines),
+        },
+        OpenedBoards::Refused(r) => LinBoards {
+            answer: refusal(r),
+            at: 0,
+            number: 0,
+            lines: 0,
+        },
+    }
+}
+
+fn section_numbers(s: BoardStep) -> LinSection
+    ensures { λ r. ⌜ r ≡ visitNumbers (visitOf s) ⌝ }
+{
+    match s {
+        BoardStep::Found(n, p, c) => LinSection {
+            found: 1,
+            number: n as u64,
+            start: p.start as u64,
+            stop: p.stop as u64,
+            board: flag_number(p.board),
+            next_at: c.at as u64,
+            next_number: c.number as u64,
+        },
+        BoardStep::Ended(c) => LinSection {
+            found: 0,
+            number: 0,
+            start: 0,
+            stop: 0,
+            board: 0,
+            next_at: c.at as u64,
+            next_number: c.number as u64,
+        },
+    }
+}
+
+// The exports.
+
+#[no_mangle]
+pub extern "C" fn lin_count_boards(text: &[u8]) -> LinAnswer
+    ensures { λ r. ⌜ r ≡ numbersOf (countBoards (now (text .entry))) ⌝ }
+{
+    counted(count_boards(text))
+}
+
+#[no_mangle]
+pub extern "C" fn lin_file_heading(text: &[u8], number: u64) -> LinHeading
+    ensures { λ r. ⌜ r ≡ headingNumbers (fileHeading (now (text .entry)) number) ⌝ }
+{
+    heading_numbers(file_heading(text, number as usize))
+}
+
+// Rows and cards are as for lin_parse_lin.
+#[no_mangle]
+pub extern "C" fn lin_file_board(
+    text: &[u8],
+    number: u64,
+    rows: &mut [u32],
+    cards: &mut [u8],
+) -> LinHeading
+    ensures { λ r. ⌜ _≡_ {A = Reading} (record { heading = r; rows = now (rows .exit); cards = now (cards .exit) }) (readingNumbers (fileBoard (now (text .entry)) number (now (rows .entry)) (now (cards .entry)))) ⌝ }
+{
+    heading_numbers(file_board(text, number as usize, rows, cards))
+}
+
+#[no_mangle]
+pub extern "C" fn lin_find_name(text: &[u8], name: &[u8]) -> LinAnswer
+    ensures { λ r. ⌜ r ≡ numbersOf (findName (now (text .entry)) (now (name .entry))) ⌝ }
+{
+    counted(find_name(text, name))
+}
+
+#[no_mangle]
+pub extern "C" fn lin_open_boards(text: &[u8]) -> LinBoards
+    ensures { λ r. ⌜ r ≡ openedNumbers (openBoards (now (text .entry))) ⌝ }
+{
+    opened_numbers(open_boards(text))
+}
+
+// The part or the line at a cursor of any numbers; lines other than 0 counts as 1.
+#[no_mangle]
+pub extern "C" fn lin_next_board(text: &[u8], at: u64, number: u64, lines: u32) -> LinSection
+    ensures { λ r. ⌜ r ≡ visitNumbers (visit (now (text .entry)) (standing at number lines)) ⌝ }
+{
+    let cursor = BoardCursor {
+        at: at as usize,
+        number: number as usize,
+        lines: lines != 0,
+    };
+    section_numbers(cursor.next(text))
+}

@@ -1,0 +1,176 @@
+//! Files: how many boards, a board by its number, the name finder, and the
+//! boards one after another.
+
+use crate::{
+    boards::{self, flag, Board, Heading, LinHeading},
+    ffi,
+    tokens::Part,
+    Refusal,
+};
+
+pub use ffi::{LinBoards, LinSection};
+
+/// How many boards a file has; refusals 1 and 2.
+pub fn count_boards(text: &[u8]) -> Result<u64, Refusal> {
+    // SAFETY: pointer and length are those of one slice.
+    unsafe { ffi::lin_count_boards(text.as_ptr(), text.len()) }.read()
+}
+
+/// The heading of a board as the export gives it.
+pub fn file_heading_numbers(text: &[u8], number: u64) -> LinHeading {
+    // SAFETY: pointer and length are those of one slice.
+    unsafe { ffi::lin_file_heading(text.as_ptr(), text.len(), number) }
+}
+
+/// The heading of a board as the export gives it; rows and cards are filled as
+/// by `boards::parse_lin_numbers`.
+pub fn file_board_numbers(
+    text: &[u8],
+    number: u64,
+    rows: &mut [u32],
+    cards: &mut [u8],
+) -> LinHeading {
+    // SAFETY: each pointer and length are those of one slice, and rows and
+    // cards, being borrowed alone, overlap no other.
+    unsafe {
+        ffi::lin_file_board(
+            text.as_ptr(),
+            text.len(),
+            number,
+            rows.as_mut_ptr(),
+            rows.len(),
+            cards.as_mut_ptr(),
+            cards.len(),
+        )
+    }
+}
+
+/// The heading of the board of a number; refusals 1, 2 and 4.
+pub fn file_heading(text: &[u8], number: u64) -> Result<Heading<'_>, Refusal> {
+    file_heading_numbers(text, number).read(text)
+}
+
+/// The heading, with the calls in the rows lent and the play in the cards lent;
+/// refusals 1, 2, 4 and 3.
+pub fn file_board_into<'a>(
+    text: &'a [u8],
+    number: u64,
+    rows: &mut [u32],
+    cards: &mut [u8],
+) -> Result<Heading<'a>, Refusal> {
+    file_board_numbers(text, number, rows, cards).read(text)
+}
+
+/// The board of a number; refusals 1, 2 and 4.
+pub fn file_board(text: &[u8], number: u64) -> Result<Board<'_>, Refusal> {
+    boards::filled(text, file_heading(text, number)?, |rows, cards| {
+        file_board_numbers(text, number, rows, cards)
+    })
+}
+
+/// How many boards of a file have a name at any seat; refusals 1 and 2, each
+/// of the file and then of the name.
+pub fn find_name(text: &[u8], name: &[u8]) -> Result<u64, Refusal> {
+    // SAFETY: each pointer and length are those of one slice.
+    unsafe { ffi::lin_find_name(text.as_ptr(), text.len(), name.as_ptr(), name.len()) }.read()
+}
+
+/// A place where a part or a line begins, and the number of the next board.
+#[derive(Debug, Clone, Copy, PartialEq, Eq)]
+pub struct BoardCursor {
+    pub at: u64,
+    pub number: u64,
+    /// 0 for parts; any other number for lines.
+    pub lines: u32,
+}
+
+impl BoardCursor {
+    /// The cursor as the export gives it.
+    pub fn open_numbers(text: &[u8]) -> LinBoards {
+        // SAFETY: pointer and length are those of one slice.
+        unsafe { ffi::lin_open_boards(text.as_ptr(), text.len()) }
+    }
+
+    /// A cursor at the start of a file; refusals 1 and 2.
+    pub fn open(text: &[u8]) -> Result<BoardCursor, Refusal> {
+        let opened = BoardCursor::open_numbers(text);
+        assert_eq!(opened.answer.read()?, 0, "a value beside a cursor");
+        Ok(BoardCursor {
+            at: opened.at,
+            number: opened.number,
+            lines: opened.lines,
+        })
+    }
+
+    /// The step as the export gives it.
+    pub fn step(self, text: &[u8]) -> LinSection {
+        // SAFETY: pointer and length are those of one slice.
+        unsafe { ffi::lin_next_board(text.as_ptr(), text.len(), self.at, self.number, self.lines) }
+    }
+
+    /// The cursor after a step.
+    pub fn after(self, step: LinSection) -> BoardCursor {
+        BoardCursor {
+            at: step.next_at,
+            number: step.next_number,
+            lines: self.lines,
+        }
+    }
+}
+
+/// A board of a file: its number, and its part of the caller's text.
+#[derive(Debug, Clone, Copy, PartialEq, Eq)]
+pub struct FileBoard<'a> {
+    pub number: u64,
+    pub text: &'a [u8],
+}
+
+impl<'a> FileBoard<'a> {
+    pub fn heading(self) -> Result<Heading<'a>, Refusal> {
+        boards::heading(self.text)
+    }
+
+    pub fn board(self) -> Result<Board<'a>, Refusal> {
+        boards::board(self.text)
+    }
+}
+
+/// The boards of a file, one after another: one pass over the text, however
+/// many there are.
+#[derive(Debug, Clone)]
+pub struct Boards<'a> {
+    text: &'a [u8],
+    cursor: BoardCursor,
+}
+
+impl<'a> Boards<'a> {
+    /// Refusals 1 and 2.
+    pub fn open(text: &'a [u8]) -> Result<Boards<'a>, Refusal> {
+        let cursor = BoardCursor::open(text)?;
+        Ok(Boards { text, cursor })
+    }
+}
+
+impl<'a> Iterator for Boards<'a> {
+    type Item = FileBoard<'a>;
+
+    fn next(&mut self) -> Option<FileBoard<'a>> {
+        loop {
+            let step = self.cursor.step(self.text);
+            if !flag(step.found) {
+                return None;
+            }
+            self.cursor = self.cursor.after(step);
+            if flag(step.board) {
+                let part = Part {
+                    start: step.start,
+                    len: step.stop - step.start,
+                };
+                return Some(FileBoard {
+                    number: step.number,
+                    text: part.of(self.text),
+                });
+            }
+        }
+    }
+}

@@ -1,0 +1,439 @@
+//! The file reader and the name finder against the oracle, document 01's
+//! examples of them, and the growth of their times.
+
+use lin_host_rust::{
+    boards::{Call, Seat},
+    compare,
+    files::{self, BoardCursor, Boards},
+    model, samples, Refusal, RowKind, LIMIT,
+};
+use oracle::{random::Rng, records, texts};
+use std::time::{Duration, Instant};
+
+fn compared(text: &[u8]) {
+    if let Err(difference) = compare::file(text) {
+        panic!("{difference}\nfor {:?}", String::from_utf8_lossy(text));
+    }
+}
+
+/// How many boards a text has, which is compared with upstream too.
+fn count(text: &str) -> u64 {
+    compared(text.as_bytes());
+    files::count_boards(text.as_bytes()).unwrap()
+}
+
+/// The parts of the text that are its boards.
+fn parts(text: &str) -> Vec<&str> {
+    compared(text.as_bytes());
+    let boards = Boards::open(text.as_bytes()).unwrap();
+    boards
+        .map(|b| std::str::from_utf8(b.text).unwrap())
+        .collect()
+}
+
+// Document 01's examples
+
+#[test]
+fn cases_of_files() {
+    // C13
+    let text = "md|1|qx|a|md|2|";
+    assert_eq!(count(text), 2);
+    assert_eq!(parts(text), ["md|1|", "qx|a|md|2|"]);
+    let read = |n| files::file_heading(text.as_bytes(), n).unwrap();
+    assert_eq!((read(0).dealer, read(0).room_board), (Seat::South, None));
+    assert_eq!(
+        (read(1).dealer, read(1).room_board),
+        (Seat::West, Some(&b"a"[..]))
+    );
+    // C14
+    assert_eq!(count("qx|a|"), 0);
+    assert_eq!(count("hello"), 1);
+    assert_eq!(parts("hello"), ["hello"]);
+}
+
+#[test]
+fn the_listed_board() {
+    let text = b"qx|o1|md|3SAK,SQJ,ST9|mb|1C!|pc|SA|mc|9|";
+    compared(text);
+    let board = files::file_board(text, 0).unwrap();
+    assert_eq!(board.heading.dealer, Seat::North);
+    assert_eq!(
+        Seat::ALL.map(|seat| board.heading.deal.len(seat)),
+        [2, 2, 2, 0]
+    );
+    assert_eq!((board.calls.len(), board.play.len()), (1, 1));
+    assert_eq!(board.heading.claim, Some(9));
+}
+
+#[test]
+fn no_board_of_that_number() {
+    let text = b"md|1|";
+    compared(text);
+    for number in [1, 2, 1 << 32, u64::MAX] {
+        let (mut rows, mut cards) = ([7; 12], [8; 3]);
+        let got = files::file_board_numbers(text, number, &mut rows, &mut cards);
+        let answer = got.answer;
+        assert_eq!((answer.refusal, answer.kind, answer.value), (4, 0, 1));
+        assert_eq!(got.board, model::fresh_board());
+        assert_eq!((rows, cards), ([7; 12], [8; 3]));
+        assert_eq!(files::file_heading(text, number), Err(Refusal::NoBoard(1)));
+    }
+    assert!(files::file_heading(text, 0).is_ok());
+}
+
+#[test]
+fn too_few_rows() {
+    let text = b"md|1|qx|b|md|2|mb|p|pc|SA|mb|1C!|an|x|pc|HK|pc|D2|";
+    compared(text);
+    let few = |kind, n| Some(Refusal::TooFewRows(kind, n));
+    for (words, places, refusal) in [
+        (0, 0, few(RowKind::Calls, 2)),
+        (11, 3, few(RowKind::Calls, 2)),
+        (12, 2, few(RowKind::Cards, 3)),
+        (12, 3, None),
+    ] {
+        let (mut rows, mut cards) = (vec![7; words], vec![8; places]);
+        let answer = files::file_board_into(text, 1, &mut rows, &mut cards);
+        assert_eq!(answer.err(), refusal, "{words}, {places}");
+        if refusal.is_some() {
+            assert_eq!((rows, cards), (vec![7; words], vec![8; places]));
+        }
+    }
+    let none = files::file_board_into(text, 0, &mut [], &mut []);
+    assert!(none.is_ok());
+    // the spans are those of the whole text
+    let (mut rows, mut cards) = ([7; 13], [8; 4]);
+    files::file_board_into(text, 1, &mut rows, &mut cards).unwrap();
+    assert_eq!(rows, [18, 1, 0, 0, 0, 0, 29, 2, 1, 1, 36, 1, 7]);
+    assert_eq!(cards, [12, 24, 26, 8]);
+}
+
+#[test]
+fn refusals_in_order() {
+    let refused = |text: &[u8]| {
+        compared(text);
+        files::file_board_into(text, 9, &mut [], &mut []).err()
+    };
+    let long = Some(Refusal::TextTooLong);
+    assert_eq!(refused(&vec![b' '; LIMIT + 1]), long);
+    assert_eq!(refused(&vec![0xFF; LIMIT + 1]), long);
+    assert_eq!(refused(b"mb|p|\xFF"), Some(Refusal::NotUtf8(5)));
+    // 4 comes before 3
+    assert_eq!(refused(b"mb|p|"), Some(Refusal::NoBoard(1)));
+    let few = files::file_board_into(b"mb|p|", 0, &mut [], &mut []).err();
+    assert_eq!(few, Some(Refusal::TooFewRows(RowKind::Calls, 1)));
+}
+
+#[test]
+fn an_empty_file() {
+    for text in ["", " ", "\n\n", "\u{3000}\r\n\t", "qx||", "pg||qx||"] {
+        assert_eq!(count(text), 0, "{text:?}");
+        let none = files::file_heading(text.as_bytes(), 0);
+        assert_eq!(none, Err(Refusal::NoBoard(0)));
+        assert_eq!(files::find_name(text.as_bytes(), b""), Ok(0));
+        assert_eq!(Boards::open(text.as_bytes()).unwrap().next(), None);
+    }
+}
+
+// Points of parts and lines
+
+#[test]
+fn lines() {
+    assert_eq!(parts("a\nmd|1|\r\n \n\nb"), ["a", "md|1|\r", "b"]);
+    // a qx that no token of the whole text has
+    let text = "a|b\nqx|c|d|";
+    assert_eq!(parts(text), ["a|b", "qx|c|d|"]);
+    let second = files::file_heading(text.as_bytes(), 1).unwrap();
+    assert_eq!(second.room_board, Some(&b"c"[..]));
+    for one in ["a\rb", "a\u{85}b", "a\u{2028}b", "a\u{B}b"] {
+        assert_eq!(count(one), 1, "{one:?}");
+    }
+    // no md is needed, and a blank is white space of any kind
+    assert_eq!(parts("\u{A0}\n\u{200B}\n"), ["\u{200B}"]);
+}
+
+#[test]
+fn beginnings() {
+    // moved back over mn and pn, and over none else
+    let text = "md|1|mn|t|pn|a|qx|o|md|2|";
+    assert_eq!(parts(text), ["md|1|", "mn|t|pn|a|qx|o|md|2|"]);
+    let text = "md|1|mn|t|pg||pn|a|qx|o|md|2|";
+    assert_eq!(parts(text), ["md|1|mn|t|pg||", "pn|a|qx|o|md|2|"]);
+    // not past the last beginning
+    assert_eq!(parts("mn|t|qx|a|md|1|"), ["mn|t|qx|a|md|1|"]);
+    assert_eq!(parts("qx|a|qx|b|md|1|"), ["qx|b|md|1|"]);
+    assert_eq!(parts("mn||qx|a|pn||qx|b|md|1|"), ["pn||qx|b|md|1|"]);
+    // a skipped md is one too; what trails the last token belongs to none
+    assert_eq!(parts("qx||md|0|\nqx||mb|p|md"), ["qx||md|0|"]);
+    // a value may hold LF, and commands any dress
+    let text = "md|1|\n QX\u{A0}|a\nb|Md|2|\n";
+    assert_eq!(parts(text), ["md|1|", "\n QX\u{A0}|a\nb|Md|2|"]);
+}
+
+#[test]
+fn an_annotation_stays_in_its_part() {
+    let text = "md|1|mb|p|qx|b|an|x|md|2|mb|d|an|y|";
+    compared(text.as_bytes());
+    let calls = |n| files::file_board(text.as_bytes(), n).unwrap().calls;
+    let call = |bid, annotation| Call {
+        bid,
+        alerted: false,
+        annotation,
+    };
+    assert_eq!(calls(0), [call(&b"p"[..], None)]);
+    assert_eq!(calls(1), [call(&b"d"[..], Some(&b"y"[..]))]);
+}
+
+#[test]
+fn a_part_of_the_text() {
+    let text = b"md|1|pn|Ann|qx|b|md|2|";
+    let second = Boards::open(text).unwrap().nth(1).unwrap();
+    assert_eq!(
+        (second.number, second.text.as_ptr()),
+        (1, text[5..].as_ptr())
+    );
+    let name = second.heading().unwrap().names[0];
+    assert_eq!((name, name.as_ptr()), (&b"Ann"[..], text[8..].as_ptr()));
+}
+
+// The cursor
+
+#[test]
+fn steps_from_any_place() {
+    let texts: [&[u8]; 8] = [
+        b"",
+        b"a|b|c",
+        b"md|1|mn|t|pn|a|qx|o|md|2|",
+        b"a\n\n md|1|\r\n \nb",
+        b"\xFFmd\xE2\x80|1|qx|\xC3|md||\xE2\x80\x80\n\xE2\x80",
+        "\u{3000}qx\u{2028}|\u{A0}|\nMD|é|".as_bytes(),
+        b"mn||mn||qx||mn||qx||qx||md||",
+        b"||||||\n||\n",
+    ];
+    for text in texts {
+        compare::visits(text).unwrap();
+    }
+    let rng = &mut Rng::new(31);
+    for _ in 0..300 {
+        let text = samples::file(rng, 8);
+        compare::visits(&texts::damaged(rng, text.as_bytes(), 3)).unwrap();
+    }
+}
+
+#[test]
+fn sections_follow_one_another() {
+    let rng = &mut Rng::new(32);
+    for _ in 0..2_000 {
+        let text = samples::file(rng, 20);
+        let bytes = text.as_bytes();
+        let mut cursor = BoardCursor::open(bytes).unwrap();
+        assert_eq!((cursor.at, cursor.number), (0, 0));
+        let mut last = 0;
+        loop {
+            let step = cursor.step(bytes);
+            if step.found == 0 {
+                assert_eq!(cursor.after(step), cursor);
+                break;
+            }
+            let gap = u64::from(cursor.lines);
+            assert_eq!((step.start, step.next_at), (last, step.stop + gap));
+            assert!(cursor.at < step.next_at);
+            last = step.next_at;
+            cursor = cursor.after(step);
+        }
+        assert_eq!(files::count_boards(bytes), Ok(cursor.number));
+    }
+}
+
+// The finder
+
+#[test]
+fn names() {
+    let text = "pn|Ann,Bob,,Ann|md|1|qx||pn|Zoe,Bob,Cy,Di|pn|ann,Bob|md|2|";
+    let text = format!("{text}qx||md|3|pn| Ann,José,Jose\u{301}|");
+    let found = |name: &str| {
+        compared(text.as_bytes());
+        compare::name(text.as_bytes(), name.as_bytes()).unwrap();
+        files::find_name(text.as_bytes(), name.as_bytes()).unwrap()
+    };
+    // at several seats a board counts once
+    assert_eq!(found("Ann"), 1);
+    assert_eq!(found("Bob"), 2);
+    // the last names count; nothing is trimmed, and case counts
+    assert_eq!((found("Zoe"), found("ann"), found(" Ann")), (0, 1, 1));
+    assert_eq!((found("BOB"), found("Bob "), found("Bo")), (0, 0, 0));
+    // an empty name is that of a seat never set too
+    assert_eq!(found(""), 2);
+    // other spellings are other bytes
+    assert_eq!(
+        (found("José"), found("Jose\u{301}"), found("Jose")),
+        (1, 1, 0)
+    );
+    // a part without md is no board
+    assert_eq!(files::find_name(b"qx||pn|Ann|", b"Ann"), Ok(0));
+}
+
+#[test]
+fn refusals_of_the_finder() {
+    let long = vec![b' '; LIMIT + 1];
+    let limit = vec![b' '; LIMIT];
+    let refused = |text: &[u8], name: &[u8]| {
+        compare::name(text, name).unwrap();
+        files::find_name(text, name).err()
+    };
+    assert_eq!(refused(b"a", &limit), None);
+    assert_eq!(refused(&limit, &limit), None);
+    let too_long = Some(Refusal::TextTooLong);
+    assert_eq!(refused(&long, b"\xFF"), too_long);
+    // 1 of both comes before 2 of either
+    assert_eq!(refused(b"\xFF", &long), too_long);
+    assert_eq!(refused(b"ab\xFF", b"\xFF"), Some(Refusal::NotUtf8(2)));
+    assert_eq!(refused(b"ab", b"a\xC3"), Some(Refusal::NotUtf8(1)));
+}
+
+// Against upstream
+
+#[test]
+fn stored_texts() {
+    let all = [oracle::tokens::texts(), oracle::boards::texts()].concat();
+    for text in all.iter().filter(|t| t.len() < 10_000) {
+        compared(text.as_bytes());
+    }
+    oracle::utf8::texts().iter().for_each(|t| compared(t));
+}
+
+#[test]
+fn short_files() {
+    let tokens = ["qx||", "mn|t|", "pn|a|", "md|1|", "mb|p|", "\n", " |"];
+    for text in texts::words(&tokens, 5) {
+        compared(text.as_bytes());
+    }
+}
+
+#[test]
+fn random_files() {
+    let rng = &mut Rng::new(33);
+    for _ in 0..10_000 {
+        compared(samples::file(rng, 12).as_bytes());
+    }
+    for _ in 0..40 {
+        compared(samples::file(rng, 200).as_bytes());
+    }
+}
+
+#[test]
+fn realistic_files() {
+    let rng = &mut Rng::new(34);
+    for n in 0..24 {
+        compared(records::file(rng, n).as_bytes());
+        compared(records::lines(rng, n).as_bytes());
+        let some = [records::movie(rng, n), records::file(rng, 2)];
+        compared(some.concat().as_bytes());
+    }
+}
+
+#[test]
+fn damaged_files() {
+    let rng = &mut Rng::new(35);
+    for _ in 0..500 {
+        let text = records::file(rng, 3);
+        compared(&texts::damaged(rng, text.as_bytes(), 6));
+        let text = records::lines(rng, 3);
+        compared(&texts::damaged(rng, text.as_bytes(), 3));
+        let text = samples::file(rng, 16);
+        compared(&texts::damaged(rng, text.as_bytes(), 3));
+    }
+}
+
+// Growth
+
+/// The unit so many times, then blanks up to the length.
+fn repeated(unit: &str, times: usize, len: usize) -> Vec<u8> {
+    let mut text = unit.repeat(times).into_bytes();
+    assert!(text.len() <= len);
+    text.resize(len, b' ');
+    text
+}
+
+/// Counted, walked by the cursor and searched: the boards and the sections.
+fn walk(text: &[u8]) -> (u64, u64) {
+    let boards = files::count_boards(text).unwrap();
+    assert_eq!(files::find_name(text, b""), Ok(boards));
+    let mut cursor = BoardCursor::open(text).unwrap();
+    for sections in 0.. {
+        let step = cursor.step(text);
+        if step.found == 0 {
+            assert_eq!(cursor.number, boards);
+            return (boards, sections);
+        }
+        cursor = cursor.after(step);
+    }
+    unreachable!()
+}
+
+/// The least of some times.
+fn time(text: &[u8]) -> Duration {
+    let once = || {
+        let start = Instant::now();
+        walk(text);
+        start.elapsed()
+    };
+    (0..5).map(|_| once()).min().unwrap()
+}
+
+/// A whole text within the bound, and twice the text in at most three times
+/// the time; a machine that is busy gets some tries.
+fn grows(unit: &str, times: usize, boards: u64, sections: u64) {
+    let whole = repeated(unit, times, LIMIT);
+    assert_eq!(walk(&whole), (boards, sections));
+    let half = repeated(unit, times / 2, LIMIT / 2);
+    let slack = Duration::from_millis(2);
+    let mut seen = Vec::new();
+    for _ in 0..4 {
+        let (short, long) = (time(&half), time(&whole));
+        assert!(long < Duration::from_secs(5), "{long:?}");
+        if long <= 3 * short + slack {
+            return;
+        }
+        seen.push((short, long));
+    }
+    panic!("{unit:?}: {seen:?}");
+}
+
+#[test]
+fn growth_of_lines() {
+    grows("x\n", 500_000, 500_000, 500_001);
+    grows("\n", LIMIT, 0, LIMIT as u64 + 1);
+    grows("md||", LIMIT / 4, 1, 1);
+}
+
+#[test]
+fn growth_of_parts() {
+    grows("qx||", 250_000, 0, 250_000);
+    grows("qx||md||", 125_000, 125_000, 125_000);
+    grows("mn||qx||", 125_000, 0, 125_000);
+}
+
+#[test]
+fn growth_of_moves_back() {
+    let run = |n: usize| format!("{}qx||md||", "mn||".repeat(n));
+    grows(&run(100), 2_500, 2_500, 2_500);
+    grows(&run(10_000), 26, 26, 26);
+    grows(&run(131_000), 2, 2, 2);
+}
+
+#[test]
+fn texts_at_the_limit() {
+    for unit in ["mb||", "md|1SA|", "pn|a,b,c,d|", "|", "x"] {
+        compared(&repeated(unit, LIMIT / unit.len(), LIMIT));
+    }
+    let lines = repeated("x\n", 500_000, LIMIT);
+    for number in [0, 1, 499_999] {
+        let board = files::file_board(&lines, number).unwrap();
+        assert_eq!((board.heading.dealer, board.calls.len()), (Seat::North, 0));
+    }
+    let none = files::file_heading(&lines, 500_000);
+    assert_eq!(none, Err(Refusal::NoBoard(500_000)));
+    let numbers = Boards::open(&lines).unwrap().map(|b| b.number);
+    assert!(numbers.eq(0..500_000));
+}
