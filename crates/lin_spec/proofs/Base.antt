@@ -1,5 +1,5 @@
 -- Laws of the small tools that the definitions share: tests that are joined, a choice, a test of all small numbers by computation, lists
--- that are the same, a list that begins with another.
+-- that are the same, a list that begins with another, what holds of every element.
 -- Assumes nothing.
 use Prim.Native.Nat.{ℕ, zero, suc, _<_, _≤_}
 use native.Mathlib.Nat.{not-suc-le-zero}
@@ -10,7 +10,7 @@ use mathlib.Core.List.{List, [], _∷_, _++_}
 use lib.ListN.{length, drop, length-append}
 use lib.Dec.{eqb, ltb}
 use borrow.Author.Tests.{eq-eqb, eqb-true, eqb-false, ltb-true, ltb-false}
-use Rattle.lin_spec.specs.Base.{pick, eqList, starts}
+use Rattle.lin_spec.specs.Base.{pick, All, eqList, starts}
 
 -- of two tests that both hold, the first does
 pub and-left : (a b : Bool) → (a && b) ≡ true → a ≡ true
@@ -101,3 +101,8 @@ starts-split (x ∷ w) (b ∷ s) h = go (eqb b x) refl h (starts-split w s)
 
 pub starts-most : (w s : List ℕ) → starts w s ≡ true → length w ≤ length s
 starts-most w s h = omega (arith, ap length (starts-split w s h) ∙ length-append w (drop (length w) s))
+
+-- what holds of every element of two lists holds of every element of both
+pub all-append : {A : Type 0} (P : A → Type 0) (x y : List A) → All P x → All P y → All P (x ++ y)
+all-append P [] y h k = k
+all-append P (a ∷ x) y h k = (h .0, all-append P x y (h .1) k)

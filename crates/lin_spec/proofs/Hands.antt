@@ -16,7 +16,7 @@ use Rattle.lin_spec.specs.White.{lower}
 use Rattle.lin_spec.specs.Tokens.{count}
 use Rattle.lin_spec.specs.Cards.{indexOf, suitOf, rankOf, noCards, sum, handFrom, readHand}
 use Rattle.lin_spec.specs.Writer.{ranksFrom, suitText, handText}
-use Rattle.lin_spec.proofs.Base.{picked, allBelow, below}
+use Rattle.lin_spec.proofs.Base.{picked, allBelow, below, all-append}
 
 abbrev rankLetter : ℕ → ℕ
 rankLetter r = getD (ascii "23456789TJQKA") r 0
@@ -143,10 +143,6 @@ read-hand h l = go (eqb (sum h) 0) refl
 
 abbrev pub Letter : ℕ → Type 0
 Letter b = (0x32 ≤ b) × (b ≤ 0x54)
-
-all-append : {A : Type 0} (P : A → Type 0) (x y : List A) → All P x → All P y → All P (x ++ y)
-all-append P [] y h k = k
-all-append P (a ∷ x) y h k = (h .0, all-append P x y (h .1) k)
 
 all-replicate : (P : ℕ → Type 0) (n b : ℕ) → P b → All P (replicate n b)
 all-replicate P zero b h = tt

@@ -24,7 +24,7 @@ use Rattle.lin_spec.specs.Refusals.Answer.{refused, accepted}
 use Rattle.lin_spec.specs.declared.Refusal.{Refusal}
 use Rattle.lin_spec.specs.declared.Verdict.the-variants.{Refused}
 use Rattle.lin_spec.specs.declared.Span.{Span}
-use Rattle.lin_spec.proofs.Base.{picked, split}
+use Rattle.lin_spec.proofs.Base.{picked, split, all-append}
 use Rattle.lin_spec.proofs.Tokens.{joined, Whole, joined-cut, whole-cut, cut-joined}
 use Rattle.lin_spec.proofs.Cursor.{after-piece}
 
@@ -245,10 +245,6 @@ unfolding annotated
 annotated-within s v w [] h = tt
 annotated-within s v w (c ∷ []) h = ((h .0 .0, w), tt)
 annotated-within s v w (c ∷ d ∷ cs) h = (h .0, annotated-within s v w (d ∷ cs) (h .1))
-
-all-append : {A : Type 0} (P : A → Type 0) (x y : List A) → All P x → All P y → All P (x ++ y)
-all-append P [] y h k = k
-all-append P (a ∷ x) y h k = (h .0, all-append P x y (h .1) k)
 
 call-within : (s : List ℕ) (v : Span) → Within s v → CallWithin s (callOf (spanText s) v)
 call-within s v w =
