@@ -15,4 +15,5 @@ pub mod Parts
 pub mod Decimal
 pub mod Listing
 pub mod Hands
+pub mod Deals
 pub mod Cases

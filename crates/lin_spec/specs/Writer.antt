@@ -41,7 +41,7 @@ abbrev pub sameCards : (a b : List ℕ) → Bool
 sameCards a b = eqb (sum a) (sum b) && heldIn a b
 
 -- "East is implied (empty, or as long as the remainder and each card of East in the remainder)", "when three lengths are 13"
-abbrev pub impliedEast : (deal : List ℕ) → Bool
+unfoldable pub impliedEast : (deal : List ℕ) → Bool
 impliedEast d =
     let s = handAt d South in
     let w = handAt d West in
