@@ -9,6 +9,7 @@ pub mod lin;
 
 pub mod boards;
 pub mod files;
+pub mod listing;
 pub mod random;
 pub mod records;
 pub mod texts;

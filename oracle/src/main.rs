@@ -1,6 +1,7 @@
-//! Writes the upstream's answers as vector files: `oracle SUBJECT DIR`.
+//! Writes the upstream's answers as vector files: `oracle SUBJECT DIR`; and
+//! the stored runs of linlist: `oracle runs CRATES`.
 
-use oracle::{boards, files, tokens, utf8, vectors::Vectors};
+use oracle::{boards, files, listing, tokens, utf8, vectors::Vectors};
 use std::{env, fs, io, path::Path, process::ExitCode};
 
 struct Subject {
@@ -30,28 +31,40 @@ const SUBJECTS: &[Subject] = &[
         about: "every board of a file and names found in it, by parse_lin_file",
         vectors: files::vectors,
     },
+    Subject {
+        name: "listing",
+        about: "what linlist prints, by parse_lin_file",
+        vectors: listing::vectors,
+    },
 ];
 
 fn main() -> ExitCode {
     let args: Vec<String> = env::args().skip(1).collect();
-    let found = match args.as_slice() {
-        [name, dir] => SUBJECTS.iter().find(|s| s.name == name).zip(Some(dir)),
-        _ => None,
+    let [name, dir] = args.as_slice() else {
+        return usage();
     };
-    let Some((subject, dir)) = found else {
-        eprintln!("usage: oracle SUBJECT DIR, which writes DIR/SUBJECT.bin");
-        for s in SUBJECTS {
-            eprintln!("  {:8}{}", s.name, s.about);
-        }
-        return ExitCode::from(2);
+    let path = Path::new(dir);
+    let done = match SUBJECTS.iter().find(|s| s.name == name) {
+        Some(subject) => write(subject, path),
+        None if name == "runs" => write_runs(path),
+        None => return usage(),
     };
-    match write(subject, Path::new(dir)) {
+    match done {
         Ok(()) => ExitCode::SUCCESS,
         Err(fault) => {
             eprintln!("{dir}: {fault}");
             ExitCode::FAILURE
         }
     }
+}
+
+fn usage() -> ExitCode {
+    eprintln!("usage: oracle SUBJECT DIR, which writes DIR/SUBJECT.bin");
+    for s in SUBJECTS {
+        eprintln!("  {:8}{}", s.name, s.about);
+    }
+    eprintln!("or oracle runs CRATES, which writes the runs of linlist below CRATES");
+    ExitCode::from(2)
 }
 
 fn write(subject: &Subject, dir: &Path) -> io::Result<()> {
@@ -67,9 +80,20 @@ fn write(subject: &Subject, dir: &Path) -> io::Result<()> {
     Ok(())
 }
 
+/// What linlist and replay_listing are run on, and what they must print.
+fn write_runs(crates: &Path) -> io::Result<()> {
+    for (name, bytes) in listing::runs::files() {
+        let file = crates.join(&name);
+        fs::create_dir_all(file.parent().expect("a folder"))?;
+        fs::write(file, &bytes)?;
+        println!("{name}: {} bytes", bytes.len());
+    }
+    Ok(())
+}
+
 #[cfg(test)]
 mod tests {
-    use super::SUBJECTS;
+    use super::{listing, SUBJECTS};
     use std::{fs, path::Path};
 
     /// The vectors that the replay programs have are those of the generator.
@@ -80,6 +104,15 @@ mod tests {
             let file = crates.join(format!("replay_{0}/data/{0}.bin", s.name));
             let stored = fs::read(&file).unwrap();
             assert!(stored == (s.vectors)().bytes(), "{}", file.display());
+        }
+    }
+    /// The stored runs and what is expected of them are those of the generator.
+    #[test]
+    fn stored_runs_are_fresh() {
+        let crates = Path::new(env!("CARGO_MANIFEST_DIR")).join("../crates");
+        for (name, bytes) in listing::runs::files() {
+            let stored = fs::read(crates.join(&name)).unwrap();
+            assert!(stored == bytes, "{name}");
         }
     }
 }

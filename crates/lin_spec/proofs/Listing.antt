@@ -9,11 +9,12 @@ use Rattle.lin_spec.specs.Tokens.{cut}
 use Rattle.lin_spec.specs.Refusals.{unless}
 use Rattle.lin_spec.specs.Cards.{indexOf, suitOf, rankOf, readCard, sum, handFrom, readHand, field, remainder, eastOf, dealOf}
 use Rattle.lin_spec.specs.Board.{named, dealerOf, readMd, readSv, endsIn, only, withoutEnd, allDigits, valueFrom, numberIn, over, undealt, boardFrom}
-use Rattle.lin_spec.specs.Reading.{placed, stream, parseSpans, readHeading}
+use Rattle.lin_spec.specs.Reading.{placed, stream}
+use Rattle.lin_spec.specs.File.{boardIn, holds, partsFrom, linesFrom, sections, boardsOf, fileSpans}
 use Rattle.lin_spec.specs.Decimal.{digitsOf, decimal}
-use Rattle.lin_spec.specs.Listing.{spaced, line, boardLine}
+use Rattle.lin_spec.specs.Listing.{spaced, line, header, boardLine, boardLines, listing}
 
 -- "For `qx|o1|md|3SAK,SQJ,ST9|mb|1C!|pc|SA|mc|9|` it prints .."
-pub example : boardLine 0 (readHeading (ascii "qx|o1|md|3SAK,SQJ,ST9|mb|1C!|pc|SA|mc|9|")) ≡ ascii "0 N 0 2 2 2 0 1 1 9\n"
-unfolding cut placed stream parseSpans readHeading unless first utfStep utf utf8 boardFrom over undealt named isCommand sameWord lower trim trimEnd trimStart skipWhite blank whiteAt front whiteSpace encode starts eqList any readMd dealerOf dealOf eastOf field readHand handFrom suitOf rankOf indexOf sum remainder readSv numberIn allDigits valueFrom readCard withoutEnd only endsIn part boardLine line spaced decimal digitsOf
+pub example : listing (ascii "qx|o1|md|3SAK,SQJ,ST9|mb|1C!|pc|SA|mc|9|") ≡ ascii "board dealer vul S W N E calls cards claim\n0 N 0 2 2 2 0 1 1 9\n"
+unfolding cut placed stream unless first utfStep utf utf8 boardFrom over undealt named isCommand sameWord lower trim trimEnd trimStart skipWhite blank whiteAt front whiteSpace encode starts eqList any readMd dealerOf dealOf eastOf field readHand handFrom suitOf rankOf indexOf sum remainder readSv numberIn allDigits valueFrom readCard withoutEnd only endsIn part boardIn holds partsFrom linesFrom sections boardsOf fileSpans header boardLine boardLines listing line spaced decimal digitsOf
 example = refl

@@ -1,16 +1,24 @@
--- The lines that the program linlist prints. (01: Program linlist)
-use Prim.Native.Nat.{ℕ}
+-- The lines that the program linlist prints, and all that it prints for an input. (01: Program linlist)
+use Prim.Native.Nat.{ℕ, _+_}
 use mathlib.Core.List.{List, [], _∷_, _++_}
+use mathlib.Core.Option.{Option}
 use lib.ListN.{length}
+use lib.Dec.{ltb}
 use Rattle.lin_spec.specs.Base.{ascii}
 use Rattle.lin_spec.specs.Decimal.{decimal}
 use Rattle.lin_spec.specs.Letters.{seatLetter, svLetter, handLength}
-use Rattle.lin_spec.specs.Refusals.{numberOf, tooSmall}
+use Rattle.lin_spec.specs.Refusals.{Answer, refuseIf, unless, numberOf, notUtf8, tooSmall}
+use Rattle.lin_spec.specs.Refusals.Answer.{refused, accepted}
 use Rattle.lin_spec.specs.Output.{Outcome, room, fill}
+use Rattle.lin_spec.specs.Board.{BoardOf}
+use Rattle.lin_spec.specs.Reading.{headingOf}
+use Rattle.lin_spec.specs.File.{fileSpans}
 use Rattle.lin_spec.specs.declared.Seat.the-variants.{South, West, North, East}
 use Rattle.lin_spec.specs.declared.MaybeClaim.{MaybeClaim}
 use Rattle.lin_spec.specs.declared.MaybeClaim.the-variants.{Absent, Claimed}
+use Rattle.lin_spec.specs.declared.Span.{Span}
 use Rattle.lin_spec.specs.declared.Refusal.{Refusal}
+use Rattle.lin_spec.specs.declared.Refusal.the-variants.{TextTooLong}
 use Rattle.lin_spec.specs.declared.Heading.{Heading}
 
 -- words with a space between
@@ -58,3 +66,25 @@ refusalLine r = line (spaced (ascii "refused" ∷ decimal (numberOf r) ∷ []))
 -- a line as an entry's answer: refused by 7, or from the first byte of the output on
 unfoldable pub writeLine : (text out : List ℕ) → Outcome
 writeLine t o = fill (tooSmall (room o) (length t) ∷ []) o t
+
+-- a line for each of the boards, the first of which has this number
+unfoldable pub boardLines : (number : ℕ) → List (BoardOf Span) → List ℕ
+boardLines k [] = []
+boardLines k (b ∷ bs) = boardLine k (headingOf b) ++ boardLines (k + 1) bs
+
+-- "Program linlist reads standard input, at most 65,536 bytes."
+abbrev pub listLimit : ℕ
+listLimit = 65536
+
+-- "over 65,536 bytes is refusal 1"
+abbrev pub overLimit : List ℕ → Option Refusal
+overLimit s = refuseIf (ltb listLimit (length s)) TextTooLong
+
+-- "A refusal prints one line, .. alone"; else it is the header and the boards, "numbered from 0"
+abbrev pub printed : Answer (List (BoardOf Span)) → List ℕ
+printed (refused r) = refusalLine r
+printed (accepted bs) = header ++ boardLines 0 bs
+
+-- what linlist prints for an input
+unfoldable pub listing : (input : List ℕ) → List ℕ
+listing s = printed (unless (overLimit s ∷ notUtf8 s ∷ []) (fileSpans s))

@@ -1,2 +1,4 @@
 pub mod LineLaws
 pub mod Answers
+pub mod FileLaws
+pub mod FitLaws
