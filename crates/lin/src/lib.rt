@@ -47,4 +47,5 @@ pub use file::open_boards;
 // The lines of a listing. (01: Program linlist)
 pub use listing::board_line;
 pub use listing::header_line;
+pub use listing::list_file;
 pub use listing::refusal_line;
