@@ -1,19 +1,15 @@
 -- The board cursor and its step as numbers. (01: File)
 use Prim.Native.Nat.{ℕ}
-use mathlib.Core.Bool.{Bool, not}
+use mathlib.Core.Bool.{not}
 use lib.Dec.{eqb}
-use Rattle.lin_spec.specs.Base.{pick}
 use Rattle.lin_spec.specs.Refusals.{Answer}
 use Rattle.lin_spec.specs.Refusals.Answer.{refused, accepted}
+use Rattle.lin_spec.specs.Reading.{flag}
 use Rattle.lin_spec.specs.File.{Standing, Visit}
 use Rattle.lin_spec.specs.File.Visit.{found, ended}
 use Rattle.lin_host.specs.Answers.{numbersOf}
 use Rattle.lin_host.specs.declared.files.LinBoards.{LinBoards}
 use Rattle.lin_host.specs.declared.files.LinSection.{LinSection}
-
--- 1 where a test holds, else 0
-abbrev pub flag : Bool → ℕ
-flag b = pick b 1 0
 
 -- a cursor of any numbers: `lines` other than 0 counts as 1
 abbrev pub standing : (at number lines : ℕ) → Standing

@@ -13,12 +13,13 @@ use file::file_heading;
 use file::find_name;
 use file::open_boards;
 ghost use mathlib.Core.Path.{_≡_};
+ghost use Rattle.lin_spec.specs.Reading.{flag};
 ghost use Rattle.lin_spec.specs.File.{countBoards, fileHeading, fileBoard, findName, openBoards, visit};
 ghost use Rattle.file.specs.Numbers.{countedOf};
 ghost use Rattle.file.specs.Sections.{openedOf, visitOf};
 ghost use Rattle.lin_host.specs.Answers.{numbersOf};
 ghost use Rattle.lin_host.specs.Boards.{headingNumbers, Reading, readingNumbers};
-ghost use Rattle.lin_host.specs.Files.{flag, standing, openedNumbers, visitNumbers};
+ghost use Rattle.lin_host.specs.Files.{standing, openedNumbers, visitNumbers};
 
 // The verdict and the cursor: the place of the next part or line, the number of the next board, lines 0 or 1. An accepted call has the value 0; a refusal
 // has the cursor 0, 0, 0.
