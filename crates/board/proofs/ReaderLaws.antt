@@ -50,7 +50,7 @@ use Rattle.board.specs.Play.{before, cardsFrom, Gives as Card·Gives}
 use Rattle.board.specs.Reader.{boardAt}
 use Rattle.board.specs.declared.heading.Head.{Head}
 use Rattle.board.specs.declared.dealing.Dealt.{Dealt}
-use Rattle.board.specs.declared.calls.Call.{Call}
+use Rattle.lin_spec.specs.declared.Call.{Call}
 use Rattle.board.specs.declared.calls.NextCall.{NextCall}
 use Rattle.board.specs.declared.play.NextCard.{NextCard}
 use Rattle.board.proofs.DealingLaws.{dealt-last}

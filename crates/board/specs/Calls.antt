@@ -12,7 +12,7 @@ use Rattle.lin_spec.specs.Tokens.TokenOf.{token}
 use Rattle.lin_spec.specs.Board.{CallOf, callOf}
 use Rattle.lin_spec.specs.Reading.{spanText, stream, flag}
 use Rattle.lin_spec.specs.declared.Span.{Span}
-use Rattle.board.specs.declared.calls.Call.{Call}
+use Rattle.lin_spec.specs.declared.Call.{Call}
 use Rattle.board.specs.declared.calls.Bid.{Bid}
 use Rattle.board.specs.declared.calls.Bid.the-variants.{Made, Ended as NoBid}
 use Rattle.board.specs.declared.calls.Note.{Note}

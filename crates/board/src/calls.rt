@@ -6,6 +6,7 @@ use commands::next_known;
 use commands::on_present;
 use commands::shown;
 use document::Cursor;
+use lin_spec::Call;
 use lin_spec::MaybeSpan;
 use lin_spec::Span;
 ghost use mathlib.Core.Path.{_≡_};
@@ -16,14 +17,6 @@ ghost use Rattle.lin_spec.specs.Board.{withoutEnd, callOf};
 ghost use Rattle.lin_spec.specs.Records.{optionOf, endOf};
 ghost use Rattle.lin_spec.specs.Reading.{spanText, flag};
 ghost use Rattle.board.specs.Calls.{with, rowOf, Bids, Notes, Gives};
-
-// A call as six numbers: alerted and annotated are 0 or 1, and an absent annotation is at 0, 0.
-pub struct Call {
-    pub bid: Span,
-    pub alerted: u32,
-    pub annotated: u32,
-    pub annotation: Span,
-}
 
 // A call with the cursor after it, or no call.
 pub enum NextCall {

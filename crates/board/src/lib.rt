@@ -5,7 +5,6 @@ mod heading;
 mod play;
 mod reader;
 
-pub use calls::Call;
 pub use calls::NextCall;
 pub use calls::next_call;
 pub use play::NextCard;

@@ -1,5 +1,4 @@
 // The entries of `parse_lin`, and what they share with the reader of a file. (01: Board; File, "A heading call ..")
-use crate::calls::Call;
 use crate::calls::NextCall;
 use crate::calls::next_call;
 use crate::dealing::dealt_by;
@@ -10,6 +9,7 @@ use document::Cursor;
 use document::Opened;
 use document::open;
 use lin_spec::Board;
+use lin_spec::Call;
 use lin_spec::Heading;
 use lin_spec::Refusal;
 use lin_spec::RowKind;

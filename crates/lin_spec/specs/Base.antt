@@ -30,6 +30,12 @@ unfoldable pub concat : List (List ℕ) → List ℕ
 concat [] = []
 concat (x ∷ xs) = x ++ concat xs
 
+-- lists one after the other, with `between` between each two
+unfoldable pub joinBy : (between : List ℕ) → List (List ℕ) → List ℕ
+joinBy w [] = []
+joinBy w (x ∷ []) = x
+joinBy w (x ∷ y ∷ r) = x ++ (w ++ joinBy w (y ∷ r))
+
 -- two lists are the same
 unfoldable pub eqList : List ℕ → List ℕ → Bool
 eqList [] [] = true

@@ -16,3 +16,8 @@ pub mod Decimal
 pub mod Letters
 pub mod Listing
 pub mod Writer
+pub mod Lent
+pub mod Append
+pub mod Book
+pub mod Play
+pub mod Equality

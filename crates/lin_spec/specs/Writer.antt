@@ -6,7 +6,7 @@ use mathlib.Core.List.{List, [], _∷_, _++_, map}
 use mathlib.Core.Option.{Option, none, some}
 use lib.ListN.{length, getD, take, drop, replicate}
 use lib.Dec.{eqb, ltb}
-use Rattle.lin_spec.specs.Base.{pick, null, ascii}
+use Rattle.lin_spec.specs.Base.{pick, null, concat, joinBy, ascii}
 use Rattle.lin_spec.specs.Tokens.{pipe}
 use Rattle.lin_spec.specs.Cards.{sum, remainder, thirteens}
 use Rattle.lin_spec.specs.Decimal.{decimal}
@@ -81,12 +81,6 @@ abbrev pub orEmpty : Option (List ℕ) → List ℕ
 orEmpty none = []
 orEmpty (some s) = s
 
--- names with a comma between
-unfoldable pub commas : List (List ℕ) → List ℕ
-commas [] = []
-commas (x ∷ []) = x
-commas (x ∷ y ∷ r) = x ++ (ascii "," ++ commas (y ∷ r))
-
 abbrev pub optional : (before : List ℕ) → Option (List ℕ) → List ℕ
 optional w none = []
 optional w (some s) = w ++ (s ++ ascii "|")
@@ -107,13 +101,20 @@ cardLetters c = getD (ascii "SHDC") (c / 13) 0 ∷ getD (ascii "23456789TJQKA") 
 abbrev pub cardText : ℕ → List ℕ
 cardText c = ascii "pc|" ++ (cardLetters c ++ ascii "|")
 
--- "`pg||` with LF" after every four cards and after the last
+-- the play by tricks, `chunks(4)`: four cards each, and those that are left
+unfoldable pub tricks : List ℕ → List (List ℕ)
+tricks [] = []
+tricks (a ∷ []) = (a ∷ []) ∷ []
+tricks (a ∷ b ∷ []) = (a ∷ b ∷ []) ∷ []
+tricks (a ∷ b ∷ c ∷ []) = (a ∷ b ∷ c ∷ []) ∷ []
+tricks (a ∷ b ∷ c ∷ d ∷ r) = (a ∷ b ∷ c ∷ d ∷ []) ∷ tricks r
+
+-- "`pg||` with LF" after each
+abbrev pub trickText : List ℕ → List ℕ
+trickText t = concat (map cardText t) ++ ascii "pg||\n"
+
 unfoldable pub tricksText : List ℕ → List ℕ
-tricksText [] = []
-tricksText (a ∷ []) = cardText a ++ ascii "pg||\n"
-tricksText (a ∷ b ∷ []) = cardText a ++ (cardText b ++ ascii "pg||\n")
-tricksText (a ∷ b ∷ c ∷ []) = cardText a ++ (cardText b ++ (cardText c ++ ascii "pg||\n"))
-tricksText (a ∷ b ∷ c ∷ d ∷ r) = cardText a ++ (cardText b ++ (cardText c ++ (cardText d ++ (ascii "pg||\n" ++ tricksText r))))
+tricksText cs = concat (map trickText (tricks cs))
 
 abbrev pub claimText : Option ℕ → List ℕ
 claimText none = []
@@ -124,7 +125,7 @@ written p q b =
     ascii "mn|"
     ++ (clean p q (orEmpty (b .title))
     ++ (ascii "|pn|"
-    ++ (commas (map (cleanName p q) (b .names))
+    ++ (joinBy (ascii ",") (map (cleanName p q) (b .names))
     ++ (ascii "|qx|"
     ++ (clean p q (orEmpty (b .room))
     ++ (ascii "|rh||"

@@ -216,6 +216,14 @@ impl Board {
     }
 }
 
+// A call as six numbers: alerted and annotated are 0 or 1, and an absent annotation is at 0, 0.
+pub struct Call {
+    pub bid: Span,
+    pub alerted: u32,
+    pub annotated: u32,
+    pub annotation: Span,
+}
+
 // Whether a call was accepted, or the refusal that met it.
 pub enum Verdict {
     Accepted,
@@ -244,4 +252,11 @@ impl Heading {
             cards: 0,
         }
     }
+}
+
+// Whether a board equals another, or why the call was refused.
+pub enum Equality {
+    Equal,
+    Different,
+    Refused(Refusal),
 }
