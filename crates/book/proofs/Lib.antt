@@ -1,0 +1,5 @@
+pub mod Clean
+pub mod Written
+pub mod Sound
+pub mod Fields
+pub mod Boards
