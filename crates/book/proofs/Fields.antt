@@ -47,7 +47,7 @@ skip f C e [] h x = refl
 skip f C e (token c v ∷ ts) h x = ap (λ y. over f y ts) (e c v x (h .0)) ∙ skip f C e ts (h .1) x
 
 -- a fold that acts on the command w alone
-abbrev Unlike : (w : List ℕ) → List ℕ → Type 0
+abbrev pub Unlike : (w : List ℕ) → List ℕ → Type 0
 Unlike w c = isCommand c w ≡ false
 
 pub pass : {A B : Type 0} (w : List ℕ) (g : A → B → B) (ts : List (TokenOf A)) → All (CommandOf (Unlike w)) ts → (x : B) → over (λ c v y. on c w (g v y) y) x ts ≡ x
@@ -229,18 +229,19 @@ claim-option (some n) h = simp (mc-is, pg-other, claim-read n h)
 
 -- The fields
 
-module _ (p q : ℕ) (b : BoardOf (List ℕ)) (v : Valid b) where
+module _ (p q : ℕ) (b : BoardOf (List ℕ)) where
   abbrev pub after : List Token
   after = callTokens p q (b .calls) ++ pg ∷ (playTokens (tricks (b .play)) ++ claimTokens (b .claim))
 
   -- the tokens from the calls on, where neither mb, an, pc nor mc is meant
-  after-commands : (C : List ℕ → Type 0) → C (ascii "mb") → C (ascii "an") → C (ascii "pg") → C (ascii "\npc") → C (ascii "pc") → C (ascii "\nmc") → All (CommandOf C) after
+  pub after-commands : (C : List ℕ → Type 0) → C (ascii "mb") → C (ascii "an") → C (ascii "pg") → C (ascii "\npc") → C (ascii "pc") → C (ascii "\nmc") → All (CommandOf C) after
   after-commands C mb an g lf pc mc =
       all-append (CommandOf C) (callTokens p q (b .calls)) _ (call-commands p q C mb an (b .calls)) (
         g,
         all-append (CommandOf C) (playTokens (tricks (b .play))) _ (play-commands C lf pc g (tricks (b .play))) (claim-commands C mc g (b .claim)),
       )
 
+module _ (p q : ℕ) (b : BoardOf (List ℕ)) (v : Valid b) where
   names-field : over (onNames bytesText) (replicate 4 []) (boardTokens p q [] b) ≡ map (cleanName p q) (b .names)
   unfolding boardTokens over isCommand sameWord lower trim trimEnd trimStart skipWhite blank whiteAt front whiteSpace encode starts eqList
   names-field =
@@ -268,20 +269,20 @@ module _ (p q : ℕ) (b : BoardOf (List ℕ)) (v : Valid b) where
   unfolding boardTokens bodyTokens over isCommand sameWord lower trim trimEnd trimStart skipWhite blank whiteAt front whiteSpace encode starts eqList
   header-field =
       over-append (onHeader bytesText) none (headerTokens p q (b .header)) _
-      ∙ pass (ascii "ah") (λ v y. some v) after (after-commands (Unlike (ascii "ah")) refl refl refl refl refl refl) _
+      ∙ pass (ascii "ah") (λ v y. some v) (after p q b) (after-commands p q b (Unlike (ascii "ah")) refl refl refl refl refl refl) _
       ∙ header-option (b .header)
 
   dealt-value : over (onDealt bytesText) undealt (boardTokens p q [] b) ≡ readMd (trim (mdText (b .dealt))) undealt
   unfolding boardTokens bodyTokens over isCommand sameWord lower trim trimEnd trimStart skipWhite blank whiteAt front whiteSpace encode starts eqList
   dealt-value =
       past (ascii "md") (λ v y. readMd (trim v) y) (headerTokens p q (b .header)) _ (header-commands p q (Unlike (ascii "md")) refl (b .header)) undealt
-      ∙ pass (ascii "md") (λ v y. readMd (trim v) y) after (after-commands (Unlike (ascii "md")) refl refl refl refl refl refl) _
+      ∙ pass (ascii "md") (λ v y. readMd (trim v) y) (after p q b) (after-commands p q b (Unlike (ascii "md")) refl refl refl refl refl refl) _
 
   sv-value : over (onVulnerability bytesText) None (boardTokens p q [] b) ≡ readSv (trim (svLetter (b .vulnerability) ∷ []))
   unfolding boardTokens bodyTokens over isCommand sameWord lower trim trimEnd trimStart skipWhite blank whiteAt front whiteSpace encode starts eqList
   sv-value =
       past (ascii "sv") (λ v y. readSv (trim v)) (headerTokens p q (b .header)) _ (header-commands p q (Unlike (ascii "sv")) refl (b .header)) None
-      ∙ pass (ascii "sv") (λ v y. readSv (trim v)) after (after-commands (Unlike (ascii "sv")) refl refl refl refl refl refl) _
+      ∙ pass (ascii "sv") (λ v y. readSv (trim v)) (after p q b) (after-commands p q b (Unlike (ascii "sv")) refl refl refl refl refl refl) _
 
   abbrev Uncalled : List ℕ → Type 0
   Uncalled c = (isCommand c (ascii "mb") ≡ false) × (isCommand c (ascii "an") ≡ false)
@@ -293,7 +294,7 @@ module _ (p q : ℕ) (b : BoardOf (List ℕ)) (v : Valid b) where
   unfolding boardTokens bodyTokens over isCommand sameWord lower trim trimEnd trimStart skipWhite blank whiteAt front whiteSpace encode starts eqList
   calls-field =
       over-append (onCalls bytesText) [] (headerTokens p q (b .header)) _
-      ∙ ap (λ (x : List (CallOf (List ℕ))). over (onCalls bytesText) x after) (uncalled (headerTokens p q (b .header)) (header-commands p q Uncalled (refl, refl) (b .header)) [])
+      ∙ ap (λ (x : List (CallOf (List ℕ))). over (onCalls bytesText) x (after p q b)) (uncalled (headerTokens p q (b .header)) (header-commands p q Uncalled (refl, refl) (b .header)) [])
       ∙ over-append (onCalls bytesText) [] (callTokens p q (b .calls)) _
       ∙ uncalled (pg ∷ (playTokens (tricks (b .play)) ++ claimTokens (b .claim))) ((refl, refl), all-append (CommandOf Uncalled) (playTokens (tricks (b .play))) _ (play-commands Uncalled (refl, refl) (refl, refl) (refl, refl) (tricks (b .play))) (claim-commands Uncalled (refl, refl) (refl, refl) (b .claim))) _
       ∙ calls-read p q (b .calls) []

@@ -3,3 +3,6 @@ pub mod Written
 pub mod Sound
 pub mod Fields
 pub mod Boards
+pub mod Wellformed
+pub mod Settled
+pub mod Shape

@@ -77,7 +77,7 @@ sv-visible Both = ((omega arith, omega arith), tt)
 
 -- what holds of visible bytes and of the texts holds of every value
 module _ (p q : ℕ) (P : List ℕ → Type 0) (seen : (s : List ℕ) → All Visible s → P s) where
-  values-by : (b : BoardOf (List ℕ)) → Valid b → P (clean p q (orEmpty (b .title))) → P (namesText p q b) → P (clean p q (orEmpty (b .room)))
+  pub values-by : (b : BoardOf (List ℕ)) → Valid b → P (clean p q (orEmpty (b .title))) → P (namesText p q b) → P (clean p q (orEmpty (b .room)))
       → Present (λ (s : List ℕ). P (clean p q s)) (b .header)
       → All (λ (c : CallOf (List ℕ)). P (bidText p q c) × Present (λ (s : List ℕ). P (clean p q s)) (c .annotation)) (b .calls)
       → Values p q P b
