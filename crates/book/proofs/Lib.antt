@@ -6,3 +6,5 @@ pub mod Boards
 pub mod Wellformed
 pub mod Settled
 pub mod Shape
+pub mod Accepted
+pub mod ThirdDemand

@@ -1,0 +1,75 @@
+-- The third demand, as one claim about a list of append calls on one output. (01: Writer, "For the third demand ..")
+use Prim.Native.Nat.{ℕ, _*_, _/_, _≤_, _<_}
+use mathlib.Core.Path.{_≡_}
+use mathlib.Core.Bool.{Bool, true, false}
+use mathlib.Core.List.{List, [], _∷_, map}
+use lib.ListN.{length, take, getD}
+use Rattle.lin_spec.specs.Base.{All}
+use Rattle.lin_spec.specs.Refusals.{Answer}
+use Rattle.lin_spec.specs.Refusals.Answer.{refused, accepted}
+use Rattle.lin_spec.specs.Output.{room}
+use Rattle.lin_spec.specs.Board.{BoardOf, Present}
+use Rattle.lin_spec.specs.Reading.{Reading}
+use Rattle.lin_spec.specs.File.{countBoards, fileBoard, countIf}
+use Rattle.lin_spec.specs.Lent.{Lent, lent, claimOf, meaning}
+use Rattle.lin_spec.specs.Append.{Filing, plain}
+use Rattle.lin_spec.specs.Book.{State, Event, events, final, usedBytes, Book, emptyBook, bookOf, verdicts}
+use Rattle.lin_spec.specs.declared.Refusal.{Refusal}
+use Rattle.lin_spec.specs.declared.Verdict.the-variants.{Accepted}
+
+-- what the types of append's parameters say of a board: four names, 208 counts, a claim of one byte
+pub record Typed (x : Lent) : Type 0 where
+  pub names : length (x .board .names) ≡ 4
+  pub counts : length (x .board .deal .counts) ≡ 208
+  pub claim : Present (λ (n : ℕ). n ≤ 255) (claimOf (x .board .claim))
+
+abbrev pub accepts : {A : Type 0} → Answer A → Bool
+accepts (refused r) = false
+accepts (accepted a) = true
+
+-- "a refused call leaves both as they were"
+abbrev pub Stays : Event → Type 0
+Stays e = (r : Refusal) → e .answer ≡ refused r → e .next ≡ e .before
+
+-- a reader's answer over the bytes t "isn't refused and gives exactly" the board b: lent again, with as many rows and cards as it names, it means b
+pub record Gives (t : List ℕ) (b : BoardOf (List ℕ)) (r : Reading) : Type 0 where
+  pub verdict : r .heading .verdict ≡ Accepted
+  pub calls : r .heading .calls ≡ length (b .calls)
+  pub cards : r .heading .cards ≡ length (b .play)
+  pub board : meaning (lent t (r .heading .board) (take (r .heading .calls * 6) (r .rows)) (take (r .heading .cards) (r .cards))) ≡ b
+
+-- The calls fs on an output that holds o at first, with used count 0. `T` and `L` are the plain book's.
+module _ (o : List ℕ) (fs : List Filing) where
+  abbrev pub start : State
+  start = record { output = o; used = 0 }
+
+  abbrev pub used : List ℕ
+  used = usedBytes (final start fs)
+
+  abbrev pub book : Book
+  book = bookOf (room o) emptyBook fs
+
+  abbrev pub T : List ℕ
+  T = book .bytes
+
+  abbrev pub L : List (BoardOf (List ℕ))
+  L = book .boards
+
+  pub record Kept : Type 0 where
+    -- a refused call changes nothing
+    pub stays : All Stays (events start fs)
+    -- "A call is refused when a numbered refusal meets it": the accepted are those that none meets
+    pub decided : map (λ e. accepts (e .answer)) (events start fs) ≡ verdicts (room o) emptyBook fs
+    -- the used bytes "equal T"
+    pub bytes : used ≡ T
+    -- "and the file reader finds L in them": as many boards as calls were accepted
+    pub many : length L ≡ countIf (λ e. accepts (e .answer)) (events start fs)
+    pub counted : countBoards used ≡ accepted (length L)
+    -- and each by its number. "Enough rows means as many as the board has calls, and as many places for cards as its play has."
+    pub found : (n : ℕ) → n < length L → (d : BoardOf (List ℕ)) (rows cards : List ℕ)
+        → length (getD L n d .calls) ≤ length rows / 6 → length (getD L n d .play) ≤ length cards
+        → Gives used (getD L n d) (fileBoard used n rows cards)
+
+-- the calls of `append`
+abbrev pub ThirdDemand : (o : List ℕ) (xs : List Lent) → Type 0
+ThirdDemand o xs = Kept o (map plain xs)
