@@ -17,3 +17,13 @@ pub mod Listing
 pub mod Hands
 pub mod Deals
 pub mod Cases
+pub mod Clean
+pub mod BoardTokens
+pub mod Sound
+pub mod Fields
+pub mod Shape
+pub mod Settled
+pub mod RoundTrip
+pub mod Wellformed
+pub mod Accepted
+pub mod ThirdDemand

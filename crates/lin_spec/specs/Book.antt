@@ -1,7 +1,7 @@
 -- A list of append calls on one output, and the plain book that is kept of it. (01: Writer, "For the third demand the list of appends is kept by a plain
 -- book ..")
 use Prim.Native.Nat.{ℕ, _+_}
-use mathlib.Core.Bool.{Bool, true, false, _||_, not}
+use mathlib.Core.Bool.{Bool, false, _||_, not}
 use mathlib.Core.List.{List, [], _∷_, _++_}
 use lib.ListN.{length, take}
 use lib.Dec.{ltb}
@@ -9,7 +9,6 @@ use Rattle.lin_spec.specs.Base.{pick, any}
 use Rattle.lin_spec.specs.Records.{limit}
 use Rattle.lin_spec.specs.Refusals.{Answer, passesEnd, illSpan}
 use Rattle.lin_spec.specs.Refusals.Answer.{refused, accepted}
-use Rattle.lin_spec.specs.Output.{Outcome}
 use Rattle.lin_spec.specs.Board.{BoardOf}
 use Rattle.lin_spec.specs.Lent.{lentSpans, badNumber}
 use Rattle.lin_spec.specs.Append.{Filing, writtenForm, settledForm, appended}

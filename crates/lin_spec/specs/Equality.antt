@@ -8,7 +8,7 @@ use Rattle.lin_spec.specs.Base.{eqList}
 use Rattle.lin_spec.specs.Refusals.{Answer, refuseIf, unless, tooLong, pastEnd, spanNotUtf8}
 use Rattle.lin_spec.specs.Refusals.Answer.{refused, accepted}
 use Rattle.lin_spec.specs.Letters.{seatNumber, svLetter, handAt}
-use Rattle.lin_spec.specs.Board.{CallOf, Dealt, BoardOf}
+use Rattle.lin_spec.specs.Board.{CallOf, BoardOf}
 use Rattle.lin_spec.specs.Writer.{sameCards}
 use Rattle.lin_spec.specs.Lent.{Lent, lentSpans, meaning, badNumber}
 use Rattle.lin_spec.specs.declared.Seat.the-variants.{South, West, North, East}

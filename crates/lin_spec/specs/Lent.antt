@@ -1,7 +1,7 @@
 -- A board that is lent to a call: its text, its record, its rows and its cards; what it means, and the checks that it is put to. (01: Records;
 -- Eight refusals)
 use Prim.Native.Nat.{ℕ}
-use mathlib.Core.Bool.{Bool, true, false, _||_, not}
+use mathlib.Core.Bool.{Bool, _||_, not}
 use mathlib.Core.List.{List, [], _∷_, _++_, map}
 use mathlib.Core.Option.{Option, none, some}
 use lib.Dec.{eqb, ltb}

@@ -21,3 +21,4 @@ pub mod Append
 pub mod Book
 pub mod Play
 pub mod Equality
+pub mod ThirdDemand

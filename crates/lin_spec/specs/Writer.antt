@@ -1,17 +1,17 @@
 -- The bytes that a board is written as, and its settled form. (01: Writer and settled form)
 use Prim.Native.Nat.{ℕ, zero, suc, _+_, _*_, _/_, _%_}
 use Prim.Native.Char.{code}
-use mathlib.Core.Bool.{Bool, true, false, _&&_, _||_, not}
+use mathlib.Core.Bool.{Bool, true, _&&_, _||_, not}
 use mathlib.Core.List.{List, [], _∷_, _++_, map}
 use mathlib.Core.Option.{Option, none, some}
-use lib.ListN.{length, getD, take, drop, replicate}
-use lib.Dec.{eqb, ltb}
+use lib.ListN.{getD, replicate}
+use lib.Dec.{eqb}
 use Rattle.lin_spec.specs.Base.{pick, null, concat, joinBy, ascii}
 use Rattle.lin_spec.specs.Tokens.{pipe}
 use Rattle.lin_spec.specs.Cards.{sum, remainder, thirteens}
 use Rattle.lin_spec.specs.Decimal.{decimal}
 use Rattle.lin_spec.specs.Letters.{svLetter, handAt}
-use Rattle.lin_spec.specs.Board.{CallOf, Dealt, BoardOf, endsIn, withoutEnd, mapOption, mapCall, mapBoard}
+use Rattle.lin_spec.specs.Board.{CallOf, Dealt, BoardOf, endsIn, withoutEnd, mapOption, mapCall}
 use Rattle.lin_spec.specs.declared.Seat.{Seat}
 use Rattle.lin_spec.specs.declared.Seat.the-variants.{South, West, North, East}
 

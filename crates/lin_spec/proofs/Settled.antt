@@ -1,26 +1,25 @@
 -- Settling a settled board changes nothing. (01: Writer and settled form)
 -- Assumes nothing.
-use Prim.Native.Nat.{ℕ, zero, suc, _+_, _*_, _≤_, _<_}
+use Prim.Native.Nat.{ℕ, _+_, _*_, _≤_}
 use native.Mathlib.Omega.{arith}
 use mathlib.Core.Path.{_≡_, refl, ap, sym, subst, _∙_}
 use mathlib.Core.Bool.{Bool, true, false, _&&_, _||_, not, or-false}
-use mathlib.Core.List.{List, [], _∷_, _++_, map, append-assoc, append-nil}
+use mathlib.Core.List.{List, [], _∷_, _++_, map, append-assoc}
 use mathlib.Core.Option.{Option, none, some}
 use lib.ListN.{length, take, drop, length-append, length-take, length-drop}
 use lib.Seq.{take-at, drop-at, take-length}
 use lib.Dec.{eqb}
 use borrow.Author.Tests.{eq-eqb}
-use Rattle.lin_spec.specs.Base.{pick, All, null}
 use Rattle.lin_spec.specs.Records.{part}
 use Rattle.lin_spec.specs.Letters.{handAt}
 use Rattle.lin_spec.specs.Cards.{sum, remainder, thirteens}
-use Rattle.lin_spec.specs.Board.{CallOf, BoardOf, withoutEnd, endsIn, mapOption, mapCall}
-use Rattle.lin_spec.specs.Writer.{clean, cleanName, heldIn, sameCards, impliedEast, orEmpty, present, settledDeal, settledCall, cleaned, settled}
+use Rattle.lin_spec.specs.Board.{CallOf, BoardOf, withoutEnd, mapOption, mapCall}
+use Rattle.lin_spec.specs.Writer.{clean, cleanName, heldIn, impliedEast, present, settledDeal, settledCall, cleaned, settled}
 use Rattle.lin_spec.specs.declared.Seat.the-variants.{South, West, North, East}
 use Rattle.lin_spec.proofs.Base.{and-left}
 use Rattle.lin_spec.proofs.Cards.{remainder-length}
 use Rattle.lin_spec.proofs.Reading.{board-eq}
-use Rattle.book.proofs.Clean.{Fit, Free, free-clean, clean-same, clean-clean, name-name, all-withoutEnd, without-same-end, without-ends}
+use Rattle.lin_spec.proofs.Clean.{Fit, Free, free-clean, clean-same, clean-clean, name-name, all-withoutEnd, without-same-end, without-ends}
 
 -- The deal
 

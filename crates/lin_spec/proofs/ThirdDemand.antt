@@ -4,37 +4,37 @@
 use Prim.Native.Nat.{ℕ, zero, suc, _+_, _*_, _/_, _≤_, _<_, min}
 use native.Mathlib.Nat.{le-of-suc-le-suc}
 use native.Mathlib.Omega.{arith}
-use mathlib.Core.Path.{_≡_, refl, ap, sym, subst, _∙_}
-use mathlib.Core.Bool.{Bool, true, false, _&&_, _||_, not, false≢true}
+use mathlib.Core.Path.{_≡_, refl, ap, sym, _∙_}
+use mathlib.Core.Bool.{Bool, true, false, _||_, not, false≢true}
 use mathlib.Core.List.{List, [], _∷_, _++_, map, append-assoc, append-nil}
-use mathlib.Core.Option.{Option, none, some}
+use mathlib.Core.Option.{Option, none}
 use lib.ListN.{length, take, drop, getD, length-append, length-take, length-drop, length-map, List·getD-map}
-use lib.Seq.{take-append-seam, take-at, drop-at}
-use lib.Dec.{eqb, ltb, leb}
+use lib.Seq.{take-at}
+use lib.Dec.{ltb, leb}
 use borrow.Author.Tests.{ltb-false, le-ltb, lt-leb}
 use Rattle.lin_spec.specs.Base.{pick, All, any, concat}
 use Rattle.lin_spec.specs.Records.{bytesAt, limit}
-use Rattle.lin_spec.specs.Refusals.{Answer, refuseIf, unless, tooLong, notUtf8, passesEnd, illSpan, sat}
+use Rattle.lin_spec.specs.Refusals.{Answer, refuseIf, unless, passesEnd, illSpan, sat}
 use Rattle.lin_spec.specs.Refusals.Answer.{refused, accepted}
 use Rattle.lin_spec.specs.Utf8.{utf8}
-use Rattle.lin_spec.specs.Output.{overlay, room, Outcome}
+use Rattle.lin_spec.specs.Output.{overlay, room}
 use Rattle.lin_spec.specs.Board.{BoardOf, mapCall, mapBoard, EachText}
 use Rattle.lin_spec.specs.Lent.{Lent, lent, meaning, lentSpans, badNumber, lentChecks}
 use Rattle.lin_spec.specs.Append.{Filing, plain, writtenForm, settledForm, tooSmallAfter, extended, appended}
-use Rattle.lin_spec.specs.Reading.{headingOf, callWords, stored, fewRows, Reading, parseLin}
-use Rattle.lin_spec.specs.File.{section, boardIn, parseLinFile, fileSpans, countBoards, noBoard, numbered, fileBoard, countIf}
+use Rattle.lin_spec.specs.Reading.{headingOf, callWords, stored}
+use Rattle.lin_spec.specs.File.{section, boardIn, parseLinFile, fileSpans, countBoards, numbered, fileBoard, countIf}
 use Rattle.lin_spec.specs.Book.{State, usedAfter, Event, event, events, final, usedBytes, Book, emptyBook, meets, entered, bookOf, verdicts}
 use Rattle.lin_spec.specs.declared.Span.{Span}
 use Rattle.lin_spec.specs.declared.Refusal.{Refusal}
 use Rattle.lin_spec.specs.declared.Refusal.the-variants.{TextTooLong, SpanPastEnd, SpanNotUtf8, OutputTooSmall, OutOfRange}
-use Rattle.lin_spec.proofs.Base.{picked, or-none, all-append}
+use Rattle.lin_spec.proofs.Base.{or-none, all-append}
 use Rattle.lin_spec.proofs.Checks.{unless-same}
 use Rattle.lin_spec.proofs.FileMeaning.{file-out}
-use Rattle.book.specs.ThirdDemand.{Typed, accepts, Stays, Gives, Kept, ThirdDemand}
-use Rattle.book.proofs.Clean.{Fit}
-use Rattle.book.proofs.Boards.{Item, Good, form, settle, forms, round-trip}
-use Rattle.book.proofs.Wellformed.{Utf8, forms-utf8}
-use Rattle.book.proofs.Accepted.{accepted-valid, accepted-utf8, words-length, lent-back}
+use Rattle.lin_spec.specs.ThirdDemand.{Typed, accepts, Stays, Gives, Kept, ThirdDemand}
+use Rattle.lin_spec.proofs.Clean.{Fit}
+use Rattle.lin_spec.proofs.RoundTrip.{Item, Good, form, settle, forms, round-trip}
+use Rattle.lin_spec.proofs.Wellformed.{Utf8, forms-utf8}
+use Rattle.lin_spec.proofs.Accepted.{accepted-valid, accepted-utf8, words-length, lent-back}
 
 -- One call
 

@@ -2,20 +2,20 @@
 use Prim.Native.Nat.{ℕ, _*_, _/_, _≤_, _<_}
 use mathlib.Core.Path.{_≡_}
 use mathlib.Core.Bool.{Bool, true, false}
-use mathlib.Core.List.{List, [], _∷_, map}
+use mathlib.Core.List.{List, map}
 use lib.ListN.{length, take, getD}
 use Rattle.lin_spec.specs.Base.{All}
 use Rattle.lin_spec.specs.Refusals.{Answer}
 use Rattle.lin_spec.specs.Refusals.Answer.{refused, accepted}
 use Rattle.lin_spec.specs.Output.{room}
 use Rattle.lin_spec.specs.Board.{BoardOf, Present}
 use Rattle.lin_spec.specs.Reading.{Reading}
 use Rattle.lin_spec.specs.File.{countBoards, fileBoard, countIf}
 use Rattle.lin_spec.specs.Lent.{Lent, lent, claimOf, meaning}
 use Rattle.lin_spec.specs.Append.{Filing, plain}
 use Rattle.lin_spec.specs.Book.{State, Event, events, final, usedBytes, Book, emptyBook, bookOf, verdicts}
 use Rattle.lin_spec.specs.declared.Refusal.{Refusal}
 use Rattle.lin_spec.specs.declared.Verdict.the-variants.{Accepted}
 
 -- what the types of append's parameters say of a board: four names, 208 counts, a claim of one byte
 pub record Typed (x : Lent) : Type 0 where

@@ -1,41 +1,39 @@
 -- The board that the tokens of a written board give is its settled form, field by field. (01: Writer and settled form; Board)
 -- Assumes nothing.
-use Prim.Native.Nat.{ℕ, zero, suc, _+_, _*_, _/_, _%_, _≤_, _<_}
+use Prim.Native.Nat.{ℕ, _+_, _*_, _/_, _%_, _≤_, _<_}
 use native.Mathlib.Omega.{arith}
-use mathlib.Core.Path.{_≡_, refl, ap, sym, subst, _∙_}
-use mathlib.Core.Bool.{Bool, true, false, _&&_, _||_, not}
+use mathlib.Core.Path.{_≡_, refl, ap, sym, _∙_}
+use mathlib.Core.Bool.{Bool, true, false}
 use mathlib.Core.List.{List, [], _∷_, _++_, map, append-assoc, append-nil}
 use mathlib.Core.Option.{Option, none, some}
-use lib.ListN.{length, take, drop, getD, replicate, length-append}
-use lib.Seq.{append-snoc, take-append-seam, take-length}
-use lib.Dec.{eqb, leb}
-use Rattle.lin_spec.specs.Base.{pick, All, any, null, eqList, starts, concat, joinBy, ascii}
+use lib.ListN.{length, take, drop, replicate}
+use lib.Seq.{take-append-seam, take-length}
+use Rattle.lin_spec.specs.Base.{pick, All, eqList, starts, concat, joinBy, ascii}
 use Rattle.lin_spec.specs.Records.{part}
 use Rattle.lin_spec.specs.Utf8.{encode}
 use Rattle.lin_spec.specs.White.{isCommand, sameWord, lower, trim, trimEnd, trimStart, skipWhite, blank, whiteAt, front, whiteSpace}
-use Rattle.lin_spec.specs.Tokens.{Pieces, cut, count, Token, TokenOf}
-use Rattle.lin_spec.specs.Tokens.Pieces.{end, piece}
+use Rattle.lin_spec.specs.Tokens.{cut, Token, TokenOf}
 use Rattle.lin_spec.specs.Tokens.TokenOf.{token}
 use Rattle.lin_spec.specs.Decimal.{decimal}
 use Rattle.lin_spec.specs.Letters.{svLetter}
-use Rattle.lin_spec.specs.Cards.{cardOf, suitOf, rankOf, readCard}
-use Rattle.lin_spec.specs.Board.{CallOf, Dealt, BoardOf, Text, named, readMd, readSv, nonEmpty, endsIn, withoutEnd, callOf, annotated, played, numberIn, over, on, undealt, onNames, onDealt, onVulnerability, onTitle, onRoom, onHeader, onCalls, onPlay, onClaim, boardFrom, mapOption, mapCall, Present}
+use Rattle.lin_spec.specs.Cards.{readCard}
+use Rattle.lin_spec.specs.Board.{CallOf, BoardOf, named, readMd, readSv, nonEmpty, callOf, annotated, played, numberIn, over, on, undealt, onNames, onDealt, onVulnerability, onTitle, onRoom, onHeader, onCalls, onPlay, onClaim, boardFrom, mapOption, mapCall, Present}
 use Rattle.lin_spec.specs.Reading.{bytesText}
-use Rattle.lin_spec.specs.Writer.{clean, cleanName, orEmpty, cardLetters, tricks, mdText, present, settledDeal, settledCall, cleaned, settled}
+use Rattle.lin_spec.specs.Writer.{clean, cleanName, orEmpty, cardLetters, tricks, mdText, present, settledCall, cleaned, settled}
 use Rattle.lin_spec.specs.declared.Vulnerability.{Vulnerability}
 use Rattle.lin_spec.specs.declared.Vulnerability.the-variants.{None, NorthSouth, EastWest, Both}
-use Rattle.lin_spec.proofs.Base.{picked, all-append}
-use Rattle.lin_spec.proofs.White.{Visible, trim-visible}
+use Rattle.lin_spec.proofs.Base.{all-append}
+use Rattle.lin_spec.proofs.White.{trim-visible}
 use Rattle.lin_spec.proofs.Tokens.{cut-piece, cut-none}
 use Rattle.lin_spec.proofs.Cursor.{after-piece}
 use Rattle.lin_spec.proofs.Rules.{over-append}
 use Rattle.lin_spec.proofs.Decimal.{decimal-read}
 use Rattle.lin_spec.proofs.Cards.{suit-letter, rank-letter}
 use Rattle.lin_spec.proofs.Deals.{md-read}
 use Rattle.lin_spec.proofs.Reading.{board-eq}
-use Rattle.book.proofs.Clean.{name-comma, without-mark, ends-mark, without-front}
-use Rattle.book.proofs.Written.{pg, headerTokens, noteTokens, bidText, callTokens, cardTokens, trickTokens, playTokens, claimTokens, namesText, bodyTokens, boardTokens, CommandOf, header-commands, call-commands, play-commands, claim-commands, Commands, body-commands, all-tricks}
-use Rattle.book.proofs.Sound.{Valid, card-visible, decimal-visible, sv-visible}
+use Rattle.lin_spec.proofs.Clean.{name-comma, without-mark, ends-mark, without-front}
+use Rattle.lin_spec.proofs.BoardTokens.{pg, headerTokens, noteTokens, bidText, callTokens, cardTokens, trickTokens, playTokens, claimTokens, namesText, bodyTokens, boardTokens, CommandOf, header-commands, call-commands, play-commands, claim-commands, body-commands, all-tricks}
+use Rattle.lin_spec.proofs.Sound.{Valid, card-visible, decimal-visible, sv-visible}
 
 -- Folds
 

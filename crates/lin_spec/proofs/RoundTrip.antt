@@ -1,38 +1,35 @@
 -- The round trip of any list of boards: the file reader finds, in their written forms back to back, their settled forms. (01: Writer and settled form;
 -- File)
 -- Assumes nothing.
-use Prim.Native.Nat.{ℕ, zero, suc, _+_, _-_, _≤_, _<_}
+use Prim.Native.Nat.{ℕ, _+_, _-_, _<_}
 use native.Mathlib.Omega.{arith}
-use mathlib.Core.Path.{_≡_, refl, ap, sym, subst, _∙_}
-use mathlib.Core.Bool.{Bool, true, false, _&&_, _||_, not}
-use mathlib.Core.List.{List, [], _∷_, _++_, map, append-assoc, append-nil}
+use mathlib.Core.Path.{_≡_, refl, ap, sym, _∙_}
+use mathlib.Core.Bool.{Bool, true, false, _||_}
+use mathlib.Core.List.{List, [], _∷_, _++_, map, append-nil}
 use mathlib.Core.Option.{Option, none, some}
 use lib.ListN.{length, take, drop, length-append}
 use lib.Seq.{take-append-seam}
-use lib.Dec.{eqb, ltb, leb}
+use lib.Dec.{ltb}
 use borrow.Author.Tests.{lt-ltb}
-use Rattle.lin_spec.specs.Base.{pick, All, any, null, eqList, starts, concat, ascii}
+use Rattle.lin_spec.specs.Base.{pick, All, any, eqList, starts, concat, ascii}
 use Rattle.lin_spec.specs.Records.{span, endOf, part, bytesAt}
 use Rattle.lin_spec.specs.Utf8.{encode}
 use Rattle.lin_spec.specs.White.{isCommand, sameWord, lower, trim, trimEnd, trimStart, skipWhite, blank, whiteAt, front, whiteSpace}
-use Rattle.lin_spec.specs.Tokens.{Pieces, pipe, cut, count, Token, TokenOf, tokens, paired, write, NoPipes}
-use Rattle.lin_spec.specs.Tokens.Pieces.{end, piece}
+use Rattle.lin_spec.specs.Tokens.{pipe, cut, count, Token, TokenOf, tokens, paired, write, NoPipes}
 use Rattle.lin_spec.specs.Tokens.TokenOf.{token}
-use Rattle.lin_spec.specs.Board.{BoardOf, boardFrom, mapBoard}
+use Rattle.lin_spec.specs.Board.{BoardOf, boardFrom}
 use Rattle.lin_spec.specs.Reading.{bytesText, placed, stream, parseLin}
-use Rattle.lin_spec.specs.File.{Section, section, tokensIn, holds, leads, partAt, partsFrom, linesFrom, sections, boardsOf, parseLinFile, fileSpans}
+use Rattle.lin_spec.specs.File.{Section, section, holds, leads, partAt, partsFrom, linesFrom, sections, boardsOf, parseLinFile}
 use Rattle.lin_spec.specs.Writer.{clean, orEmpty, mdText, written, settled}
 use Rattle.lin_spec.specs.declared.Span.{Span}
-use Rattle.lin_spec.proofs.Base.{or-none}
-use Rattle.lin_spec.proofs.Tokens.{cut-piece, cut-none, joined-cut, tokens-write}
+use Rattle.lin_spec.proofs.Tokens.{cut-piece, joined-cut, tokens-write}
 use Rattle.lin_spec.proofs.Cursor.{after-piece}
 use Rattle.lin_spec.proofs.Reading.{mapToken, placed-from}
 use Rattle.lin_spec.proofs.File.{drop-take}
-use Rattle.lin_spec.proofs.FileMeaning.{file-out}
-use Rattle.book.proofs.Clean.{Fit}
-use Rattle.book.proofs.Written.{headerTokens, namesText, bodyTokens, boardTokens, write-after, written-after, CommandOf, body-commands}
-use Rattle.book.proofs.Sound.{Valid, no-pipes}
-use Rattle.book.proofs.Fields.{first-command, board-read}
+use Rattle.lin_spec.proofs.Clean.{Fit}
+use Rattle.lin_spec.proofs.BoardTokens.{headerTokens, namesText, bodyTokens, boardTokens, write-after, written-after, CommandOf, body-commands}
+use Rattle.lin_spec.proofs.Sound.{Valid, no-pipes}
+use Rattle.lin_spec.proofs.Fields.{first-command, board-read}
 
 -- Tokens by their places
 

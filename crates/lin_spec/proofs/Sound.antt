@@ -1,37 +1,32 @@
 -- A written board reads back as its tokens: no command or value holds a pipe; there is one md and one qx, before the qx stand mn and pn alone, and the
 -- trailing text is one LF. And it is UTF-8 if its texts are. (01: Writer and settled form)
 -- Assumes nothing.
-use Prim.Native.Nat.{ℕ, zero, suc, _+_, _/_, _%_, _≤_, _<_}
+use Prim.Native.Nat.{ℕ, zero, _+_, _≤_, _<_}
 use native.Mathlib.Omega.{arith}
-use mathlib.Core.Path.{_≡_, refl, ap, sym, subst, _∙_}
-use mathlib.Core.Bool.{Bool, true, false, _&&_, _||_, not}
-use mathlib.Core.List.{List, [], _∷_, _++_, map, append-nil}
+use mathlib.Core.Path.{_≡_, refl, sym, subst, _∙_}
+use mathlib.Core.Bool.{Bool, true, _&&_}
+use mathlib.Core.List.{List, [], _∷_, _++_, map}
 use mathlib.Core.Option.{Option, none, some}
-use lib.ListN.{length, getD}
-use lib.Dec.{eqb, leb}
-use borrow.Author.Tests.{leb-true, le-leb, eqb-true}
-use Rattle.lin_spec.specs.Base.{pick, All, any, eqList, starts, joinBy, ascii}
-use Rattle.lin_spec.specs.Utf8.{Utf, utf8, utf, utfStep, first, encode}
-use Rattle.lin_spec.specs.Utf8.Utf.{whole, needs, ill}
-use Rattle.lin_spec.specs.White.{isCommand, sameWord, lower, trim, trimEnd, trimStart, skipWhite, blank, whiteAt, front, whiteSpace}
-use Rattle.lin_spec.specs.Tokens.{pipe, count, Token, TokenOf, tokens, trailing, write, NoPipes, cut, paired, left}
+use lib.ListN.{length}
+use lib.Dec.{leb}
+use borrow.Author.Tests.{leb-true}
+use Rattle.lin_spec.specs.Base.{All, joinBy, ascii}
+use Rattle.lin_spec.specs.Tokens.{pipe, count, Token, tokens, trailing, NoPipes}
 use Rattle.lin_spec.specs.Tokens.TokenOf.{token}
 use Rattle.lin_spec.specs.Decimal.{decimal}
 use Rattle.lin_spec.specs.Letters.{svLetter}
-use Rattle.lin_spec.specs.Board.{CallOf, BoardOf, Present, allDigits, isDigit, EachText}
-use Rattle.lin_spec.specs.File.{countIf, leads}
-use Rattle.lin_spec.specs.Writer.{clean, without, cleanName, orEmpty, cardLetters, tricks, mdText, written}
+use Rattle.lin_spec.specs.Board.{CallOf, BoardOf, Present, allDigits, isDigit}
+use Rattle.lin_spec.specs.Writer.{clean, cleanName, orEmpty, cardLetters, mdText, written}
 use Rattle.lin_spec.specs.declared.Vulnerability.{Vulnerability}
 use Rattle.lin_spec.specs.declared.Vulnerability.the-variants.{None, NorthSouth, EastWest, Both}
-use Rattle.lin_spec.proofs.Base.{picked, and-left, and-right, all-append, allBelow, below}
-use Rattle.lin_spec.proofs.Utf8.{utf-ill, utf8-whole, whole-utf8, utf8-append, Ascii, utf8-ascii, utf8-cut}
+use Rattle.lin_spec.proofs.Base.{picked, and-left, and-right, allBelow, below}
 use Rattle.lin_spec.proofs.White.{Visible}
-use Rattle.lin_spec.proofs.Tokens.{count-append, ReadsBack, Plain, read-written}
+use Rattle.lin_spec.proofs.Tokens.{count-append, ReadsBack, read-written}
 use Rattle.lin_spec.proofs.Decimal.{decimal-digits}
 use Rattle.lin_spec.proofs.Reading.{ValueOf}
 use Rattle.lin_spec.proofs.Deals.{md-visible}
-use Rattle.book.proofs.Clean.{Fit, lack, Free, free-clean, free-name, free-pipe}
-use Rattle.book.proofs.Written.{pg, headerTokens, noteTokens, bidText, callTokens, playTokens, claimTokens, namesText, bodyTokens, boardTokens, written-tokens, CommandOf, Commands, body-commands, Values, board-values}
+use Rattle.lin_spec.proofs.Clean.{Fit, lack, free-clean, free-name, free-pipe}
+use Rattle.lin_spec.proofs.BoardTokens.{bidText, namesText, boardTokens, written-tokens, CommandOf, body-commands, Values, board-values}
 
 -- what the types of a board say, and that its cards are cards
 pub record Valid (b : BoardOf (List ℕ)) : Type 0 where

@@ -1,24 +1,20 @@
 -- The tokens of a written board. What stands before its first command is a parameter, since the LF after the board before it goes there. No command or
 -- value holds a pipe, there is one md and one qx, before the qx stand mn and pn alone, and the trailing text is one LF. (01: Writer and settled form)
 -- Assumes nothing.
-use Prim.Native.Nat.{ℕ, zero, suc, _+_, _/_, _%_, _≤_, _<_}
-use native.Mathlib.Omega.{arith}
-use mathlib.Core.Path.{_≡_, refl, ap, sym, subst, _∙_}
-use mathlib.Core.Bool.{Bool, true, false, _&&_, _||_, not}
-use mathlib.Core.List.{List, [], _∷_, _++_, map, append-assoc, append-nil}
+use Prim.Native.Nat.{ℕ, zero, _+_}
+use mathlib.Core.Path.{_≡_, refl, ap, _∙_}
+use mathlib.Core.Bool.{_||_}
+use mathlib.Core.List.{List, [], _∷_, _++_, map, append-assoc}
 use mathlib.Core.Option.{Option, none, some}
-use lib.ListN.{length, getD}
-use lib.Dec.{eqb}
 use Rattle.lin_spec.specs.Base.{pick, All, concat, joinBy, ascii}
-use Rattle.lin_spec.specs.Tokens.{pipe, count, TokenOf, Token, write, NoPipes}
+use Rattle.lin_spec.specs.Tokens.{pipe, TokenOf, Token, write}
 use Rattle.lin_spec.specs.Tokens.TokenOf.{token}
 use Rattle.lin_spec.specs.Decimal.{decimal}
 use Rattle.lin_spec.specs.Letters.{svLetter}
 use Rattle.lin_spec.specs.Board.{CallOf, BoardOf, mapOption, Present}
 use Rattle.lin_spec.specs.Writer.{clean, cleanName, orEmpty, optional, callText, callsText, cardLetters, cardText, tricks, trickText, tricksText, claimText, mdText, written}
-use Rattle.lin_spec.specs.declared.Vulnerability.{Vulnerability}
 use Rattle.lin_spec.proofs.Base.{all-append}
 use Rattle.lin_spec.proofs.Reading.{ValueOf}
 
 abbrev pub pg : Token
 pg = token (ascii "pg") []

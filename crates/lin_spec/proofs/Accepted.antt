@@ -1,31 +1,28 @@
 -- A call that no refusal meets has a board that reads back: its cards are cards and its texts are UTF-8. And what a reader gives, lent again, means the
 -- board that was read. (01: Eight refusals; Writer; Reading)
 -- Assumes nothing.
-use Prim.Native.Nat.{ℕ, zero, suc, _+_, _*_, _/_, _≤_, _<_}
+use Prim.Native.Nat.{ℕ, suc, _+_, _*_, _<_}
 use native.Mathlib.Omega.{arith}
-use mathlib.Core.Path.{_≡_, refl, ap, sym, subst, _∙_}
-use mathlib.Core.Bool.{Bool, true, false, _&&_, _||_, not, false≢true}
-use mathlib.Core.List.{List, [], _∷_, _++_, map, append-nil}
+use mathlib.Core.Path.{_≡_, refl, ap, sym, _∙_}
+use mathlib.Core.Bool.{Bool, true, false, not, false≢true}
+use mathlib.Core.List.{List, [], _∷_, _++_, map}
 use mathlib.Core.Option.{Option, none, some}
-use lib.ListN.{length, take, drop, length-append, length-map}
-use lib.Seq.{take-append-seam}
-use lib.Dec.{eqb, ltb}
+use lib.ListN.{length, length-map}
+use lib.Dec.{ltb}
 use borrow.Author.Tests.{ltb-false}
-use Rattle.lin_spec.specs.Base.{pick, All, any}
-use Rattle.lin_spec.specs.Records.{span, bytesAt, optionOf, limit}
-use Rattle.lin_spec.specs.Refusals.{illSpan, passesEnd}
+use Rattle.lin_spec.specs.Base.{All, any}
+use Rattle.lin_spec.specs.Records.{bytesAt, optionOf}
+use Rattle.lin_spec.specs.Refusals.{illSpan}
 use Rattle.lin_spec.specs.Utf8.{utf8}
-use Rattle.lin_spec.specs.Output.{overlay}
 use Rattle.lin_spec.specs.Board.{CallOf, BoardOf, mapOption, mapCall, mapBoard, Present, EachText}
 use Rattle.lin_spec.specs.Reading.{maybeOf, claimedOf, headingOf, flag, annotationWords, callWords}
-use Rattle.lin_spec.specs.Lent.{Lent, lent, callRows, callIn, claimOf, lentBoard, meaning, spanIn, callSpans, lentSpans, badFlag, badCards, badNumber}
+use Rattle.lin_spec.specs.Lent.{Lent, lent, callRows, callIn, claimOf, lentBoard, meaning, spanIn, callSpans, lentSpans, badCards, badNumber}
 use Rattle.lin_spec.specs.declared.Span.{Span}
-use Rattle.lin_spec.specs.declared.Call.{Call}
-use Rattle.lin_spec.proofs.Base.{picked, or-none}
+use Rattle.lin_spec.proofs.Base.{or-none}
 use Rattle.lin_spec.proofs.Reading.{board-eq}
-use Rattle.book.specs.ThirdDemand.{Typed}
-use Rattle.book.proofs.Sound.{Valid}
-use Rattle.book.proofs.Wellformed.{Utf8}
+use Rattle.lin_spec.specs.ThirdDemand.{Typed}
+use Rattle.lin_spec.proofs.Sound.{Valid}
+use Rattle.lin_spec.proofs.Wellformed.{Utf8}
 
 -- Tests that hold of no element
 

@@ -1,24 +1,23 @@
 -- "Every written board has one md and one qx token, before the qx none but mn and pn", and its trailing text is one LF. (01: Writer and settled form)
 -- Assumes nothing.
-use Prim.Native.Nat.{ℕ, zero, suc, _+_}
-use native.Mathlib.Omega.{arith}
-use mathlib.Core.Path.{_≡_, refl, ap, sym, _∙_}
-use mathlib.Core.Bool.{Bool, true, false, _||_}
+use Prim.Native.Nat.{ℕ, _+_}
+use mathlib.Core.Path.{_≡_, refl, ap, _∙_}
+use mathlib.Core.Bool.{Bool}
 use mathlib.Core.List.{List, [], _∷_, _++_}
 use mathlib.Core.Option.{Option, none, some}
-use Rattle.lin_spec.specs.Base.{pick, All, any, eqList, starts, ascii}
+use Rattle.lin_spec.specs.Base.{All, eqList, starts, ascii}
 use Rattle.lin_spec.specs.Utf8.{encode}
 use Rattle.lin_spec.specs.White.{isCommand, sameWord, lower, trim, trimEnd, trimStart, skipWhite, blank, whiteAt, front, whiteSpace}
-use Rattle.lin_spec.specs.Tokens.{Token, TokenOf, tokens, trailing}
+use Rattle.lin_spec.specs.Tokens.{Token, tokens, trailing}
 use Rattle.lin_spec.specs.Tokens.TokenOf.{token}
 use Rattle.lin_spec.specs.Letters.{svLetter}
 use Rattle.lin_spec.specs.Board.{BoardOf}
 use Rattle.lin_spec.specs.File.{countIf}
 use Rattle.lin_spec.specs.Writer.{clean, orEmpty, mdText, written}
-use Rattle.book.proofs.Clean.{Fit}
-use Rattle.book.proofs.Written.{headerTokens, namesText, bodyTokens, boardTokens, CommandOf, body-commands}
-use Rattle.book.proofs.Sound.{Valid, written-reads}
-use Rattle.book.proofs.Fields.{Unlike, after, after-commands}
+use Rattle.lin_spec.proofs.Clean.{Fit}
+use Rattle.lin_spec.proofs.BoardTokens.{headerTokens, namesText, bodyTokens, boardTokens, CommandOf, body-commands}
+use Rattle.lin_spec.proofs.Sound.{Valid, written-reads}
+use Rattle.lin_spec.proofs.Fields.{Unlike, after, after-commands}
 
 -- how many tokens have the command w
 abbrev pub has : (w : List ℕ) → Token → Bool

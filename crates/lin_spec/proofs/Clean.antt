@@ -1,20 +1,19 @@
 -- Laws of clean, for any two bytes that it may put: what is left holds no pipe and no line break, and is cleaned already; names hold no comma. And of
 -- the exclamation marks at the end of a bid. (01: Writer and settled form; Board, mb)
 -- Assumes nothing.
-use Prim.Native.Nat.{ℕ, zero, suc, _+_, _≤_, _<_}
+use Prim.Native.Nat.{ℕ, _+_, _≤_}
 use native.Mathlib.Omega.{arith}
-use mathlib.Core.Path.{_≡_, refl, ap, sym, subst, _∙_}
-use mathlib.Core.Bool.{Bool, true, false, _&&_, _||_, not, and-true, and-false, false≢true}
+use mathlib.Core.Path.{_≡_, refl, ap, subst, _∙_}
+use mathlib.Core.Bool.{Bool, true, false, _||_, and-true, and-false}
 use mathlib.Core.List.{List, [], _∷_, _++_, append-nil}
 use lib.ListN.{length, take}
 use lib.Dec.{eqb}
 use borrow.Author.Tests.{ne-eqb, eqb-false, eqb-true, eq-eqb}
-use Rattle.lin_spec.specs.Base.{pick, All, null}
-use Rattle.lin_spec.specs.Records.{part}
+use Rattle.lin_spec.specs.Base.{pick, All}
 use Rattle.lin_spec.specs.Tokens.{pipe, count}
 use Rattle.lin_spec.specs.Board.{endsIn, only, withoutEnd}
 use Rattle.lin_spec.specs.Writer.{clean, without, cleanName}
 use Rattle.lin_spec.proofs.Base.{picked, or-none}
 
 -- the bytes that clean may put: "one byte from 20 to 7E hex other than 7C", which `/` and space are
 pub record Fit (p q : ℕ) : Type 0 where
@@ -40,8 +39,8 @@ unfolding clean
 free-clean p q f [] = tt
 free-clean p q f (b ∷ s) = (
   picked Free (eqb b pipe) (λ e. (f .p-pipe, (λ z. (let l = f .p-low in omega arith)), (λ z. (let l = f .p-low in omega arith)))) λ n.
-  picked Free (eqb b 0x0D || eqb b 0x0A) (λ e. (f .q-pipe, (λ z. (let l = f .q-low in omega arith)), (λ z. (let l = f .q-low in omega arith)))) λ m.
-  (let k = or-none (eqb b 0x0D) (eqb b 0x0A) m in (eqb-false b pipe n, eqb-false b 0x0D (k .0), eqb-false b 0x0A (k .1))),
+      picked Free (eqb b 0x0D || eqb b 0x0A) (λ e. (f .q-pipe, (λ z. (let l = f .q-low in omega arith)), (λ z. (let l = f .q-low in omega arith)))) λ m.
+      (let k = or-none (eqb b 0x0D) (eqb b 0x0A) m in (eqb-false b pipe n, eqb-false b 0x0D (k .0), eqb-false b 0x0A (k .1))),
   free-clean p q f s,
 )
 

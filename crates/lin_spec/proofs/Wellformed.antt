@@ -1,27 +1,27 @@
 -- What is written is UTF-8 if the texts are. (01: "UTF-8 (RFC 3629)"; Writer)
 -- Assumes nothing.
-use Prim.Native.Nat.{ℕ, zero, suc, _+_, _≤_, _<_}
+use Prim.Native.Nat.{ℕ, _+_}
 use native.Mathlib.Omega.{arith}
-use mathlib.Core.Path.{_≡_, refl, ap, sym, subst, _∙_}
+use mathlib.Core.Path.{_≡_, refl, ap, sym, _∙_}
 use mathlib.Core.Bool.{Bool, true, false, _&&_, _||_}
-use mathlib.Core.List.{List, [], _∷_, _++_, map, append-assoc, append-nil}
+use mathlib.Core.List.{List, [], _∷_, _++_, map, append-assoc}
 use mathlib.Core.Option.{Option, none, some}
 use lib.Dec.{eqb}
 use borrow.Author.Tests.{eqb-true}
-use Rattle.lin_spec.specs.Base.{pick, All, joinBy, concat, ascii}
+use Rattle.lin_spec.specs.Base.{All, joinBy, concat, ascii}
 use Rattle.lin_spec.specs.Utf8.{utf8, utf, utfStep, first}
-use Rattle.lin_spec.specs.Tokens.{pipe, Token, TokenOf, write}
+use Rattle.lin_spec.specs.Tokens.{pipe, Token, write}
 use Rattle.lin_spec.specs.Tokens.TokenOf.{token}
 use Rattle.lin_spec.specs.Board.{CallOf, BoardOf, Present, EachText}
 use Rattle.lin_spec.specs.Writer.{clean, without, cleanName, orEmpty, written}
-use Rattle.lin_spec.proofs.Base.{picked, and-left, and-right, or-none}
+use Rattle.lin_spec.proofs.Base.{picked, and-left, and-right}
 use Rattle.lin_spec.proofs.Utf8.{utf8-append, Ascii, utf8-ascii, utf8-cut}
 use Rattle.lin_spec.proofs.White.{Visible}
 use Rattle.lin_spec.proofs.Reading.{ValueOf}
-use Rattle.book.proofs.Clean.{Fit}
-use Rattle.book.proofs.Written.{bidText, namesText, boardTokens, written-tokens, CommandOf, body-commands, board-values}
-use Rattle.book.proofs.Sound.{Valid, values-by}
-use Rattle.book.proofs.Boards.{Item, Good, form, forms}
+use Rattle.lin_spec.proofs.Clean.{Fit}
+use Rattle.lin_spec.proofs.BoardTokens.{bidText, boardTokens, written-tokens, CommandOf, body-commands, board-values}
+use Rattle.lin_spec.proofs.Sound.{Valid, values-by}
+use Rattle.lin_spec.proofs.RoundTrip.{Item, Good, form, forms}
 
 abbrev pub Utf8 : List ℕ → Type 0
 Utf8 s = utf8 s ≡ true
@@ -64,8 +64,8 @@ module _ (p q : ℕ) (f : Fit p q) where
   without-utf8 c k (b ∷ s) x h =
       picked (λ (t : List ℕ). Utf8 (x ++ t)) (eqb b c)
       (λ e.
-        let g : (utf8 x && utf8 s) ≡ true = sym (utf8-cut x c s k) ∙ ap (λ (d : ℕ). utf8 (x ++ d ∷ s)) (sym (eqb-true b c e)) ∙ h in
-        utf8-append x (without c s) (and-left (utf8 x) (utf8 s) g) (without-utf8 c k s [] (and-right (utf8 x) (utf8 s) g)))
+      let g : (utf8 x && utf8 s) ≡ true = sym (utf8-cut x c s k) ∙ ap (λ (d : ℕ). utf8 (x ++ d ∷ s)) (sym (eqb-true b c e)) ∙ h in
+      utf8-append x (without c s) (and-left (utf8 x) (utf8 s) g) (without-utf8 c k s [] (and-right (utf8 x) (utf8 s) g)))
       (λ _. ap utf8 (sym (append-assoc x (b ∷ []) (without c s))) ∙ without-utf8 c k s (x ++ b ∷ []) (ap utf8 (append-assoc x (b ∷ []) s) ∙ h))
 
   utf8-name : (s : List ℕ) → Utf8 s → Utf8 (cleanName p q s)
