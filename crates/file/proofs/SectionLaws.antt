@@ -25,13 +25,13 @@ use Rattle.lin_spec.specs.Tokens.TokenOf.{token}
 use Rattle.lin_spec.specs.Cards.{field}
 use Rattle.lin_spec.specs.Cursor.{findFrom}
 use Rattle.lin_spec.specs.Reading.{stream}
-use Rattle.lin_spec.specs.File.{Section as Part, section, tokensIn, holds, leads, partAt, lineAt, partEnd, Standing, Visit, after, visit, openBoards}
+use Rattle.lin_spec.specs.File.{Section as Part, section, tokensIn, holds, leads, partAt, Standing, Visit, after, visit, openBoards}
 use Rattle.lin_spec.specs.File.Visit.{found, ended}
 use Rattle.lin_spec.specs.declared.Span.{Span}
 use Rattle.lin_spec.proofs.Base.{and-left, and-right, picked, split}
 use Rattle.lin_spec.proofs.Records.{part-length, part-rest}
 use Rattle.lin_spec.proofs.Cursor.{find-within, find-after, cut-at, cut-end}
-use Rattle.lin_spec.proofs.File.{upTo, none-yet, stream-take}
+use Rattle.lin_spec.proofs.File.{lineAt, partEnd, visit-is, upTo, none-yet, stream-take}
 use Rattle.lin_spec.proofs.File.{line-stops, part-later}
 use Rattle.file.specs.Sections.{sectionOf, standingOf}
 use Rattle.file.specs.declared.sections.Section.{Section}
@@ -189,11 +189,11 @@ module _ (s : List ℕ) (c : BoardCursor) where
         (λ q. absurd (differ l q))
 
     pub line-passed : c .at ≤ length s → (p : Section) → sectionOf p ≡ lineAt s (c .at) → {r : Visit} → r ≡ after (standingOf c) (sectionOf p) (p .stop + 1) → r ≡ visit s (standingOf c)
-    unfolding visit
     line-passed h p e {r} f =
-        picked (λ (x : Visit). r ≡ x) (c .lines)
+        subst (λ (x : Visit). r ≡ x) (sym (visit-is s (standingOf c)))
+        (picked (λ (x : Visit). r ≡ x) (c .lines)
         (λ _. picked (λ (x : Visit). r ≡ x) (ltb (length s) (c .at)) (λ q. absurd (differ q (le-ltb (length s) (c .at) h))) (λ _. f ∙ ap (λ (q : Part). after (standingOf c) q (q .stop + 1)) e))
-        (λ q. absurd (differ l q))
+        (λ q. absurd (differ l q)))
 
   module _ (l : c .lines ≡ false) (p : Section) (e : sectionOf p ≡ partAt s (c .at) (partEnd (c .at) (c .at) (c .at) (stream s (c .at)))) where
     stop-is : p .stop ≡ partEnd (c .at) (c .at) (c .at) (stream s (c .at))
@@ -206,13 +206,14 @@ module _ (s : List ℕ) (c : BoardCursor) where
         (λ _. picked (λ (x : Visit). ended (standingOf c) ≡ x) (null (stream s (c .at))) (λ _. refl) (λ q. absurd (let z = part-later s (c .at) q .0 in let y = stop-is in let x : ⊥ = omega arith in x)))
 
     pub part-passed : c .at < p .stop → {r : Visit} → r ≡ after (standingOf c) (sectionOf p) (p .stop) → r ≡ visit s (standingOf c)
-    unfolding visit partEnd
+    unfolding partEnd
     part-passed h {r} f =
-        picked (λ (x : Visit). r ≡ x) (c .lines) (λ q. absurd (differ q l))
+        subst (λ (x : Visit). r ≡ x) (sym (visit-is s (standingOf c)))
+        (picked (λ (x : Visit). r ≡ x) (c .lines) (λ q. absurd (differ q l))
         (λ _.
         picked (λ (x : Visit). r ≡ x) (null (stream s (c .at)))
         (λ q. absurd (let y : p .stop ≡ c .at = stop-is ∙ ap (partEnd (c .at) (c .at) (c .at)) (null-nil (stream s (c .at)) q) in let x : ⊥ = omega arith in x))
-        (λ _. f ∙ ap (λ (u : Part). after (standingOf c) u (u .stop)) e))
+        (λ _. f ∙ ap (λ (u : Part). after (standingOf c) u (u .stop)) e)))
 
 -- Opening, by the answer of `open`
 module _ (s : List ℕ) (o : Opened) (e : openedAt o ≡ openText s) where

@@ -19,7 +19,8 @@ ghost use lib.Dec.{eqb};
 ghost use Rattle.lin_spec.specs.Base.{pick, ascii};
 ghost use Rattle.lin_spec.specs.Refusals.{sat};
 ghost use Rattle.lin_spec.specs.Reading.{stream};
-ghost use Rattle.lin_spec.specs.File.{holds, lineAt, partAt, partEnd, after, visit, openBoards};
+ghost use Rattle.lin_spec.specs.File.{holds, partAt, after, visit, openBoards};
+ghost use Rattle.lin_spec.proofs.File.{lineAt, partEnd};
 ghost use Rattle.file.specs.Sections.{sectionOf, standingOf, openedOf, visitOf};
 
 // A part or a line of a file, from one place up to another, and whether it is a board.

@@ -18,7 +18,7 @@ use Rattle.lin_spec.specs.Tokens.Pieces.{end, piece}
 use Rattle.lin_spec.specs.Tokens.TokenOf.{token}
 use Rattle.lin_spec.specs.Cards.{field}
 use Rattle.lin_spec.specs.Reading.{placed, stream}
-use Rattle.lin_spec.specs.File.{Section, section, tokensIn, holds, leads, partAt, partsFrom, linesFrom, sections, Standing, Visit, lineAt, partEnd, after, visit, openBoards}
+use Rattle.lin_spec.specs.File.{Section, section, tokensIn, holds, leads, partAt, partsFrom, linesFrom, sections, Standing, Visit, firstOf, after, visit, openBoards}
 use Rattle.lin_spec.specs.Refusals.{sat, tooLong, notUtf8}
 use Rattle.lin_spec.specs.Refusals.Answer.{accepted}
 use Rattle.lin_spec.specs.File.Visit.{found, ended}
@@ -53,6 +53,43 @@ chain-by s at (piece x (piece y r)) e w =
 
 pub chain : (s : List ℕ) (at : ℕ) → Chain s at
 chain s at = chain-by s at (cut pipe (drop at s)) (sym (joined-cut pipe (drop at s))) (whole-cut pipe (drop at s))
+
+-- The first section from a place on: the line there, and the part by the place where it ends
+
+abbrev pub lineAt : (s : List ℕ) (at : ℕ) → Section
+lineAt s at = let x = field 0 (cut 0x0A (drop at s)) in section at (at + length x) (not (blank x))
+
+unfoldable pub partEnd : (begin back at : ℕ) → List (TokenOf Span) → ℕ
+partEnd begin back at [] = at
+partEnd begin back at (token c v ∷ ts) =
+    let next = endOf v + 1 in
+    pick (isCommand c (ascii "qx")) (pick (ltb begin back) back (partEnd begin next next ts)) (partEnd begin (pick (leads c) back next) next ts)
+
+line-first : (at : ℕ) (p : Pieces) → firstOf (linesFrom at p) ≡ section at (at + length (field 0 p)) (not (blank (field 0 p)))
+unfolding linesFrom field
+line-first at (end x) = refl
+line-first at (piece x r) = refl
+
+part-first : (s : List ℕ) (begin back at : ℕ) (ts : List (TokenOf Span)) → firstOf (partsFrom s begin back at ts) ≡ partAt s begin (partEnd begin back at ts)
+unfolding partsFrom partEnd
+part-first s begin back at [] = refl
+part-first s begin back at (token c v ∷ ts) = go (isCommand c (ascii "qx")) (ltb begin back) (λ b k. part-first s b k (endOf v + 1) ts)
+  where
+    go : (q t : Bool) → ((b k : ℕ) → firstOf (partsFrom s b k (endOf v + 1) ts) ≡ partAt s b (partEnd b k (endOf v + 1) ts))
+        → firstOf (pick q (pick t (partAt s begin back ∷ partsFrom s back (endOf v + 1) (endOf v + 1) ts) (partsFrom s begin (endOf v + 1) (endOf v + 1) ts)) (partsFrom s begin (pick (leads c) back (endOf v + 1)) (endOf v + 1) ts))
+        ≡ partAt s begin (pick q (pick t back (partEnd begin (endOf v + 1) (endOf v + 1) ts)) (partEnd begin (pick (leads c) back (endOf v + 1)) (endOf v + 1) ts))
+    go true true ih = refl
+    go true false ih = ih begin (endOf v + 1)
+    go false t ih = ih begin (pick (leads c) back (endOf v + 1))
+
+pub visit-is : (s : List ℕ) (c : Standing) → visit s c
+    ≡ pick (c .lines) (pick (ltb (length s) (c .at)) (ended c) (after c (lineAt s (c .at)) (lineAt s (c .at) .stop + 1)))
+    (pick (null (stream s (c .at))) (ended c) (after c (partAt s (c .at) (partEnd (c .at) (c .at) (c .at) (stream s (c .at)))) (partEnd (c .at) (c .at) (c .at) (stream s (c .at)))))
+unfolding visit
+visit-is s c =
+    let a = c .at in
+    let f : Section → Section → Visit = λ p q. pick (c .lines) (pick (ltb (length s) a) (ended c) (after c p (p .stop + 1))) (pick (null (stream s a)) (ended c) (after c q (q .stop))) in
+    ap (λ (p : Section). f p (firstOf (partsFrom s a a a (stream s a)))) (line-first a (cut 0x0A (drop a s))) ∙ ap (f (lineAt s a)) (part-first s a a a (stream s a))
 
 -- The parts from a place on where one begins
 
@@ -274,8 +311,7 @@ line-stops s at h =
     omega arith
 
 pub visited : (s : List ℕ) (c : Standing) → Visited s c (visit s c)
-unfolding visit
-visited s c = picked (Visited s c) (c .lines) (λ l. lines (ltb (length s) (c .at)) l refl) (λ l. parts (null (stream s (c .at))) l refl)
+visited s c = subst (Visited s c) (sym (visit-is s c)) (picked (Visited s c) (c .lines) (λ l. lines (ltb (length s) (c .at)) l refl) (λ l. parts (null (stream s (c .at))) l refl))
   where
     lines : (t : Bool) → c .lines ≡ true → ltb (length s) (c .at) ≡ t → Visited s c (pick t (ended c) (after c (lineAt s (c .at)) (lineAt s (c .at) .stop + 1)))
     lines true l e = (refl, (unfold linesAt in simp (l, e)))

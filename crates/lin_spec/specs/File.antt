@@ -12,7 +12,6 @@ use Rattle.lin_spec.specs.Tokens.{Pieces, cut, TokenOf}
 use Rattle.lin_spec.specs.Tokens.Pieces.{end, piece}
 use Rattle.lin_spec.specs.Tokens.TokenOf.{token}
 use Rattle.lin_spec.specs.Refusals.{Answer, refuseIf, unless, tooLong, notUtf8, sat}
-use Rattle.lin_spec.specs.Cards.{field}
 use Rattle.lin_spec.specs.Board.{BoardOf, boardFrom}
 use Rattle.lin_spec.specs.Reading.{spanText, stream, parseLin, headed, fewRows, Reading, stored}
 use Rattle.lin_spec.specs.declared.Span.{Span}
@@ -83,26 +82,21 @@ pub data Visit : Type 0 where
   found : (number : ℕ) → Section → Standing → Visit
   ended : Standing → Visit
 
--- the line at a place, and the place where the part that begins at `begin` ends
-abbrev pub lineAt : (s : List ℕ) (at : ℕ) → Section
-lineAt s at = let x = field 0 (cut 0x0A (drop at s)) in section at (at + length x) (not (blank x))
-
-unfoldable pub partEnd : (begin back at : ℕ) → List (TokenOf Span) → ℕ
-partEnd begin back at [] = at
-partEnd begin back at (token c v ∷ ts) =
-    let next = endOf v + 1 in
-    pick (isCommand c (ascii "qx")) (pick (ltb begin back) back (partEnd begin next next ts)) (partEnd begin (pick (leads c) back next) next ts)
+-- the first of some sections
+abbrev pub firstOf : List Section → Section
+firstOf [] = section 0 0 false
+firstOf (p ∷ ps) = p
 
 abbrev pub after : Standing → Section → (next : ℕ) → Visit
 after c p next = found (c .number) p (record { at = next; number = pick (p .board) (sat (c .number + 1)) (c .number); lines = c .lines })
 
--- a step over any bytes, from any place: the next line, or the next part
+-- a step over any bytes, from any place: the first of the lines, or of the parts, that begin there
 unfoldable pub visit : (s : List ℕ) → Standing → Visit
 visit s c =
     let a = c .at in
-    let p = lineAt s a in
-    let e = partEnd a a a (stream s a) in
-    pick (c .lines) (pick (ltb (length s) a) (ended c) (after c p (p .stop + 1))) (pick (null (stream s a)) (ended c) (after c (partAt s a e) e))
+    let line = firstOf (linesFrom a (cut 0x0A (drop a s))) in
+    let next = firstOf (partsFrom s a a a (stream s a)) in
+    pick (c .lines) (pick (ltb (length s) a) (ended c) (after c line (line .stop + 1))) (pick (null (stream s a)) (ended c) (after c next (next .stop)))
 
 -- opening one gives refusals 1 and 2; it then stands at the first byte
 unfoldable pub openBoards : List ℕ → Answer Standing
