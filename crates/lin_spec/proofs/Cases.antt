@@ -1,12 +1,12 @@
--- The reference cases that are shown so far, C1 to C10, C13 and C14, proved of the definitions as a group. (01: Reference cases)
+-- The reference cases, C1 to C14, proved of the definitions as a group. (01: Reference cases)
 -- Assumes nothing.
 use Prim.Native.Nat.{ℕ, _+_, _*_}
 use mathlib.Core.Path.{_≡_, refl}
 use mathlib.Core.Bool.{true, false}
-use mathlib.Core.List.{List, [], _∷_}
+use mathlib.Core.List.{List, [], _∷_, _++_}
 use mathlib.Core.Option.{none, some}
 use lib.ListN.{replicate, set}
-use Rattle.lin_spec.specs.Base.{ascii, any, starts, eqList}
+use Rattle.lin_spec.specs.Base.{ascii, any, starts, eqList, joinBy}
 use Rattle.lin_spec.specs.Records.{part}
 use Rattle.lin_spec.specs.Utf8.{first, utfStep, utf, utf8, longest, reach, encode}
 use Rattle.lin_spec.specs.White.{whiteSpace, front, whiteAt, skipWhite, trimStart, blank, trimEnd, trim, lower, sameWord, isCommand}
@@ -18,13 +18,14 @@ use Rattle.lin_spec.specs.Reading.{parseLin, stream, placed}
 use Rattle.lin_spec.specs.Refusals.{unless}
 use Rattle.lin_spec.specs.Refusals.Answer.{accepted}
 use Rattle.lin_spec.specs.File.{holds, partsFrom, linesFrom, sections, boardsOf, fileSpans, countBoards}
+use Rattle.lin_spec.specs.Annotation.{noteOf, run, partLength, partsUpTo, annotationParts, nagWord, partWord, wordsOf, annotationText}
 use Rattle.lin_spec.specs.declared.Seat.the-variants.{South, West, North, East}
 use Rattle.lin_spec.specs.declared.Vulnerability.the-variants.{None, NorthSouth, EastWest, Both}
 use Rattle.lin_spec.proofs.Tokens.{ReadsBack}
 
 -- C1 empty: no token. C2 `a|b`: no token, trailing `a|b`. C3 `a|b|c|`: one, trailing `c|`. C4 `md|1|`: South deals, hands empty.
 -- C5 `md|3SA|md|0SK|`: North, South holds SA. C6 `mc|9|mc|x|`: no claim. C7 `mc|+009|`: 9. C8 `pc|SA|pc|S|pc|!SA|`: one card.
--- C9 `sv|b|sv|x|`: none. C10 `mb|1C!!|`: 1C, alerted. C13 `md|1|qx|a|md|2|`: two boards. C14 `qx|a|`: none; `hello`: one.
+-- C9 `sv|b|sv|x|`: none. C10 `mb|1C!!|`: 1C, alerted. C11 `=1=$2z`, note 1 `weak`: `weak ?`. C12 `==`: `==`. C13 `md|1|qx|a|md|2|`: two boards. C14 `qx|a|`: none; `hello`: one.
 pub record Cases : Type 0 where
   pub C1 : ReadsBack [] (ascii "") (ascii "")
   pub C2 : ReadsBack [] (ascii "a|b") (ascii "a|b")
@@ -36,11 +37,13 @@ pub record Cases : Type 0 where
   pub C8 : parseLin (ascii "pc|SA|pc|S|pc|!SA|") .play ≡ 12 ∷ []
   pub C9 : parseLin (ascii "sv|b|sv|x|") .vulnerability ≡ None
   pub C10 : parseLin (ascii "mb|1C!!|") .calls ≡ record { bid = ascii "1C"; alerted = true; annotation = none } ∷ []
+  pub C11 : annotationText (ascii "=1=$2zweak") (replicate 3 0 ++ (1 ∷ 6 ∷ 4 ∷ replicate 762 0)) (ascii "=1=$2z") ≡ some (ascii "weak ?")
+  pub C12 : annotationText [] (replicate 768 0) (ascii "==") ≡ some (ascii "==")
   pub C13 : countBoards (ascii "md|1|qx|a|md|2|") ≡ accepted 2
   pub C14 : (countBoards (ascii "qx|a|") ≡ accepted 0) × (countBoards (ascii "hello") ≡ accepted 1)
 
 pub cases : Cases
-unfolding countBoards unless utf8 utf utfStep first fileSpans sections boardsOf holds partsFrom linesFrom stream placed tokens trailing cut paired left parseLin boardFrom over undealt isCommand sameWord lower trim trimEnd trimStart skipWhite blank whiteAt front whiteSpace encode starts eqList any readMd dealerOf dealOf eastOf field readHand handFrom suitOf rankOf indexOf sum remainder readSv numberIn allDigits valueFrom readCard withoutEnd only endsIn part
+unfolding countBoards unless utf8 utf utfStep first fileSpans sections boardsOf holds partsFrom linesFrom stream placed tokens trailing cut paired left parseLin boardFrom over undealt isCommand sameWord lower trim trimEnd trimStart skipWhite blank whiteAt front whiteSpace encode starts eqList any readMd dealerOf dealOf eastOf field readHand handFrom suitOf rankOf indexOf sum remainder readSv numberIn allDigits valueFrom readCard withoutEnd only endsIn part annotationText annotationParts partsUpTo partLength run wordsOf partWord nagWord noteOf joinBy
 cases =
     record {
       C1 = record { toks = refl; rest = refl };
@@ -53,6 +56,8 @@ cases =
       C8 = refl;
       C9 = refl;
       C10 = refl;
+      C11 = refl;
+      C12 = refl;
       C13 = refl;
       C14 = (refl, refl);
     }

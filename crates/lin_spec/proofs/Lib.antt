@@ -27,3 +27,5 @@ pub mod RoundTrip
 pub mod Wellformed
 pub mod Accepted
 pub mod ThirdDemand
+pub mod Annotation
+pub mod Pbn

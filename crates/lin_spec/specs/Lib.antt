@@ -22,3 +22,5 @@ pub mod Book
 pub mod Play
 pub mod Equality
 pub mod ThirdDemand
+pub mod Annotation
+pub mod Pbn

@@ -260,3 +260,55 @@ pub enum Equality {
     Different,
     Refused(Refusal),
 }
+
+// A dealer, a board number and a result of a PBN record, each or none.
+pub enum MaybeSeat {
+    Absent,
+    Given(Seat),
+}
+
+pub enum MaybeNumber {
+    Absent,
+    Number(u32),
+}
+
+pub enum MaybeResult {
+    Absent,
+    Tricks(i32),
+}
+
+// A call of a PBN record as six numbers. kind is 0 to 5: pass, double, redouble, bid, continue, blank; level is 1 to 7 and strain 0 to 4 for
+// C D H S N, of a bid; annotated is 0 or 1.
+pub struct PbnCall {
+    pub kind: u32,
+    pub level: u32,
+    pub strain: u32,
+    pub annotated: u32,
+    pub annotation: Span,
+}
+
+// A PBN record. Its calls, its play and its notes stand in lists lent beside it. The names are in the order of LIN.
+pub struct PbnBoard {
+    pub names: [MaybeSpan; 4],
+    pub event: MaybeSpan,
+    pub date: MaybeSpan,
+    pub id: MaybeSpan,
+    pub number: MaybeNumber,
+    pub dealer: MaybeSeat,
+    pub deal: Deal,
+    pub vulnerability: Vulnerability,
+    pub result: MaybeResult,
+}
+
+// What an annotation's writer answers: no word, how many bytes it wrote, or why it wrote none.
+pub enum AnnotationWritten {
+    Absent,
+    Length(usize),
+    Refused(Refusal),
+}
+
+// A board made from a PBN record, and how many bytes its texts have.
+pub struct Converted {
+    pub heading: Heading,
+    pub len: usize,
+}
