@@ -26,16 +26,16 @@ use Rattle.lin_spec.proofs.Wellformed.{Utf8}
 
 -- Tests that hold of no element
 
-none-any : {A : Type 0} (f : A → Bool) (xs : List A) → any f xs ≡ false → All (λ (x : A). f x ≡ false) xs
+pub none-any : {A : Type 0} (f : A → Bool) (xs : List A) → any f xs ≡ false → All (λ (x : A). f x ≡ false) xs
 unfolding any
 none-any f [] h = tt
 none-any f (x ∷ xs) h = let k = or-none (f x) (any f xs) h in (k .0, none-any f xs (k .1))
 
-all-left : {A : Type 0} (P : A → Type 0) (x y : List A) → All P (x ++ y) → All P x
+pub all-left : {A : Type 0} (P : A → Type 0) (x y : List A) → All P (x ++ y) → All P x
 all-left P [] y h = tt
 all-left P (a ∷ x) y h = (h .0, all-left P x y (h .1))
 
-all-right : {A : Type 0} (P : A → Type 0) (x y : List A) → All P (x ++ y) → All P y
+pub all-right : {A : Type 0} (P : A → Type 0) (x y : List A) → All P (x ++ y) → All P y
 all-right P [] y h = h
 all-right P (a ∷ x) y h = all-right P x y (h .1)
 

@@ -30,8 +30,15 @@ Utf8 s = utf8 s ≡ true
 swap-ascii : (x : List ℕ) (b c : ℕ) (s t : List ℕ) → Ascii b → Ascii c → utf8 s ≡ utf8 t → utf8 (x ++ b ∷ s) ≡ utf8 (x ++ c ∷ t)
 swap-ascii x b c s t h k e = utf8-cut x b s h ∙ ap (λ (u : Bool). utf8 x && u) e ∙ sym (utf8-cut x c t k)
 
-around : (x : List ℕ) (b : ℕ) (y : List ℕ) → Ascii b → Utf8 x → Utf8 y → Utf8 (x ++ b ∷ y)
+pub around : (x : List ℕ) (b : ℕ) (y : List ℕ) → Ascii b → Utf8 x → Utf8 y → Utf8 (x ++ b ∷ y)
 around x b y k g h = utf8-cut x b y k ∙ simp (g, h)
+
+visible-ascii : (s : List ℕ) → All Visible s → All Ascii s
+visible-ascii [] h = tt
+visible-ascii (b ∷ s) h = (let l = h .0 .1 in omega arith, visible-ascii s (h .1))
+
+pub visible-utf8 : (s : List ℕ) → All Visible s → Utf8 s
+visible-utf8 s h = utf8-ascii s (visible-ascii s h)
 
 line-ascii : (b : ℕ) → (eqb b 0x0D || eqb b 0x0A) ≡ true → Ascii b
 line-ascii b e = go (eqb b 0x0D) refl e
@@ -54,7 +61,7 @@ module _ (p q : ℕ) (f : Fit p q) where
       (λ e. swap-ascii x q b (clean p q s) s (omega arith) (line-ascii b e) (clean-utf8 s []))
       (λ _. ap utf8 (sym (append-assoc x (b ∷ []) (clean p q s))) ∙ clean-utf8 s (x ++ b ∷ []) ∙ ap utf8 (append-assoc x (b ∷ []) s))
 
-  utf8-clean : (s : List ℕ) → Utf8 s → Utf8 (clean p q s)
+  pub utf8-clean : (s : List ℕ) → Utf8 s → Utf8 (clean p q s)
   utf8-clean s h = clean-utf8 s [] ∙ h
 
   -- nor does a byte of ASCII that is left out
@@ -68,7 +75,7 @@ module _ (p q : ℕ) (f : Fit p q) where
       utf8-append x (without c s) (and-left (utf8 x) (utf8 s) g) (without-utf8 c k s [] (and-right (utf8 x) (utf8 s) g)))
       (λ _. ap utf8 (sym (append-assoc x (b ∷ []) (without c s))) ∙ without-utf8 c k s (x ++ b ∷ []) (ap utf8 (append-assoc x (b ∷ []) s) ∙ h))
 
-  utf8-name : (s : List ℕ) → Utf8 s → Utf8 (cleanName p q s)
+  pub utf8-name : (s : List ℕ) → Utf8 s → Utf8 (cleanName p q s)
   utf8-name s h = without-utf8 0x2C (omega arith) (clean p q s) [] (utf8-clean s h)
 
   utf8-names : (ns : List (List ℕ)) → All Utf8 ns → Utf8 (joinBy (ascii ",") (map (cleanName p q) ns))
@@ -96,14 +103,7 @@ module _ (p q : ℕ) (f : Fit p q) where
   utf8-values : (b : BoardOf (List ℕ)) → Valid b → EachText Utf8 b → All (ValueOf Utf8) (boardTokens p q [] b)
   utf8-values b v h =
       board-values p q Utf8 [] b
-      (values-by p q Utf8 seen b v (utf8-text (b .title) (h .title)) (utf8-names (b .names) (h .names)) (utf8-text (b .room) (h .room)) (utf8-option (b .header) (h .header)) (utf8-calls (b .calls) (h .calls)))
-    where
-      low : (s : List ℕ) → All Visible s → All Ascii s
-      low [] h = tt
-      low (b ∷ s) h = (let l = h .0 .1 in omega arith, low s (h .1))
-
-      seen : (s : List ℕ) → All Visible s → Utf8 s
-      seen s h = utf8-ascii s (low s h)
+      (values-by p q Utf8 visible-utf8 b v (utf8-text (b .title) (h .title)) (utf8-names (b .names) (h .names)) (utf8-text (b .room) (h .room)) (utf8-option (b .header) (h .header)) (utf8-calls (b .calls) (h .calls)))
 
   utf8-commands : (b : BoardOf (List ℕ)) → All (CommandOf Utf8) (boardTokens p q [] b)
   unfolding boardTokens utf8 utf utfStep first
