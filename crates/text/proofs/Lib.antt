@@ -1,4 +1,5 @@
 pub mod DigitLaws
+pub mod ListLaws
 pub mod PartLaws
 pub mod Utf8Laws
 pub mod WhiteLaws

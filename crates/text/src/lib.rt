@@ -10,6 +10,7 @@ pub use parts::Fault;
 pub use parts::faulty;
 pub use parts::find_byte;
 pub use parts::part;
+pub use parts::same_bytes;
 pub use utf8::is_utf8;
 pub use utf8::well_formed_len;
 pub use white::is_blank;

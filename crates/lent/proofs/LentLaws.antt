@@ -1,0 +1,221 @@
+-- Laws of a lent board: one call off the front of the rows, the spans that it names, the checks. (01: Records; Eight refusals)
+-- Assumes nothing.
+use Prim.Native.Nat.{ℕ, suc, _+_, _-_, _≤_, _<_}
+use native.Mathlib.Omega.{arith}
+use mathlib.Core.Path.{_≡_, refl, ap, sym, _∙_}
+use mathlib.Core.Bool.{Bool, true, false, _||_, or-assoc}
+use mathlib.Core.List.{List, [], _∷_, _++_, map}
+use mathlib.Core.Option.{Option}
+use lib.ListN.{length, getD, drop, length-drop}
+use lib.Seq.{drop-cons}
+use borrow.Author.Tests.{eq-eqb, ne-eqb, lt-ltb, le-ltb, ltb-false}
+use Rattle.lin_spec.specs.Base.{any}
+use Rattle.lin_spec.specs.Records.{limit, optionOf}
+use Rattle.lin_spec.specs.Refusals.{unless, passesEnd, illSpan}
+use Rattle.lin_spec.specs.Refusals.Answer.{refused, accepted}
+use Rattle.lin_spec.specs.Lent.{callRows, callIn, Lent, lent, lentBoard, spanIn, callSpans, lentSpans, badFlag, badCards, badNumber, lentChecks}
+use Rattle.lin_spec.specs.declared.Span.{Span}
+use Rattle.lin_spec.specs.declared.MaybeSpan.{MaybeSpan}
+use Rattle.lin_spec.specs.declared.MaybeSpan.the-variants.{Absent, Present}
+use Rattle.lin_spec.specs.declared.Call.{Call}
+use Rattle.lin_spec.specs.declared.Board.{Board}
+use Rattle.lin_spec.specs.declared.Verdict.{Verdict}
+use Rattle.lin_spec.specs.declared.Verdict.the-variants.{Accepted, Refused}
+use Rattle.lin_spec.specs.declared.Refusal.{Refusal}
+use Rattle.lin_spec.specs.declared.Refusal.the-variants.{TextTooLong, OutOfRange, SpanPastEnd, SpanNotUtf8}
+use Rattle.lin_spec.proofs.Base.{or-none}
+use Rattle.lin_spec.proofs.Checks.{unmet, unless-refused, unless-passed}
+use Rattle.lent.specs.Calls.{callAt, spansOf}
+use Rattle.lent.specs.Checks.{verdictOf, checked}
+
+-- The rows
+
+next-word : (ws : List ℕ) (i j : ℕ) → j ≡ i + 1 → i < length ws → drop i ws ≡ getD ws i 0 ∷ drop j ws
+next-word ws i j e h = drop-cons ws i 0 h ∙ ap (λ (m : ℕ). getD ws i 0 ∷ drop m ws) (let z : suc i ≡ j = omega arith in z)
+
+-- one call off the front
+pub rows-cons : (ws : List ℕ) (i : ℕ) → 6 ≤ length ws - i → callRows (drop i ws) ≡ callAt ws i ∷ callRows (drop (i + 6) ws)
+unfolding callRows
+rows-cons ws i h =
+    let a = next-word ws i (i + 1) refl (omega arith) in
+    let b = next-word ws (i + 1) (i + 2) (omega arith) (omega arith) in
+    let c = next-word ws (i + 2) (i + 3) (omega arith) (omega arith) in
+    let d = next-word ws (i + 3) (i + 4) (omega arith) (omega arith) in
+    let e = next-word ws (i + 4) (i + 5) (omega arith) (omega arith) in
+    let f = next-word ws (i + 5) (i + 6) (omega arith) (omega arith) in
+    rw (a, b, c, d, e, f)
+
+few-words : (us : List ℕ) → length us < 6 → callRows us ≡ []
+unfolding callRows
+few-words [] k = refl
+few-words (a ∷ []) k = refl
+few-words (a ∷ b ∷ []) k = refl
+few-words (a ∷ b ∷ c ∷ []) k = refl
+few-words (a ∷ b ∷ c ∷ d ∷ []) k = refl
+few-words (a ∷ b ∷ c ∷ d ∷ e ∷ []) k = refl
+few-words (a ∷ b ∷ c ∷ d ∷ e ∷ f ∷ us) k = absurd (let z : ⊥ = omega arith in z)
+
+-- a rest is no row
+pub rows-end : (ws : List ℕ) (i : ℕ) → length ws - i < 6 → callRows (drop i ws) ≡ []
+rows-end ws i h = few-words (drop i ws) (rw (length-drop i ws) h)
+
+-- Whether a call passes a test: none of those before word i does
+
+module _ (f : Call → Bool) (ws : List ℕ) (i : ℕ) (v : any f (callRows (drop i ws)) ≡ any f (callRows ws)) where
+  pub any-row-end : length ws - i < 6 → false ≡ any f (callRows ws)
+  unfolding any
+  any-row-end h = (let z = rw (rows-end ws i h) at v in z)
+
+  module _ (h : 6 ≤ length ws - i) (c : Call) (q : c ≡ callAt ws i) (t : Bool) (e : t ≡ f c) where
+    any-row-cons : any f (callRows (drop i ws)) ≡ (t || any f (callRows (drop (i + 6) ws)))
+    unfolding any
+    any-row-cons = rw (rows-cons ws i h, ← q, e) refl
+
+    pub any-row-found : t ≡ true → true ≡ any f (callRows ws)
+    any-row-found k = sym (sym v ∙ any-row-cons ∙ simp k)
+
+    pub any-row-next : t ≡ false → any f (callRows (drop (i + 6) ws)) ≡ any f (callRows ws)
+    any-row-next k = (let z : any f (callRows (drop (i + 6) ws)) ≡ (t || any f (callRows (drop (i + 6) ws))) = simp k in z) ∙ sym any-row-cons ∙ v
+
+or-false : (t : Bool) → (t || false) ≡ t
+or-false true = refl
+or-false false = refl
+
+-- A text that may be absent
+
+module _ (f : Span → Bool) (x : MaybeSpan) where
+  pub absent-none : x ≡ Absent → false ≡ any f (spanIn (optionOf x))
+  unfolding any
+  absent-none e = rw e refl
+
+  pub present-one : (y : Span) → x ≡ Present y → f y ≡ any f (spanIn (optionOf x))
+  unfolding any
+  present-one y e = rw e (sym (or-false (f y)))
+
+-- One call: the span of its bid, and that of its annotation where there is one
+
+module _ (f : Span → Bool) (c : Call) where
+  pub call-bid : f (c .bid) ≡ true → true ≡ any f (spansOf c)
+  unfolding any
+  call-bid h = simp h
+
+  module _ (h : f (c .bid) ≡ false) where
+    pub call-bare : c .annotated ≡ 0 → false ≡ any f (spansOf c)
+    unfolding any
+    call-bare e = simp (h, eq-eqb _ _ e)
+
+    pub call-annotated : (c .annotated ≡ 0 → ⊥) → f (c .annotation) ≡ any f (spansOf c)
+    unfolding any
+    call-annotated e = simp (h, ne-eqb _ _ e, or-false)
+
+-- All spans: the names, the texts that may be absent, and those of the calls
+
+any-append : {A : Type 0} (f : A → Bool) (x y : List A) → any f (x ++ y) ≡ (any f x || any f y)
+unfolding any
+any-append f [] y = refl
+any-append f (a ∷ x) y = ap (λ (t : Bool). f a || t) (any-append f x y) ∙ sym (or-assoc (f a) (any f x) (any f y))
+
+calls-any : (f : Span → Bool) (cs : List Call) → any f (callSpans (map callIn cs)) ≡ any (λ c. any f (spansOf c)) cs
+unfolding any callSpans
+calls-any f [] = refl
+calls-any f (c ∷ cs) = any-append f (spansOf c) (callSpans (map callIn cs)) ∙ ap (λ (t : Bool). any f (spansOf c) || t) (calls-any f cs)
+
+-- the cards name none
+pub spans-alike : (s : List ℕ) (b : Board) (ws cs ds : List ℕ) → lentSpans (lent s b ws cs) ≡ lentSpans (lent s b ws ds)
+unfolding lentSpans lentBoard
+spans-alike s b ws cs ds = refl
+
+module _ (f : Span → Bool) (s : List ℕ) (b : Board) (ws cs : List ℕ) where
+  spans-any : any f (lentSpans (lent s b ws cs))
+      ≡ (any f (b .names)
+      || (any f (spanIn (optionOf (b .title)))
+      || (any f (spanIn (optionOf (b .«room_board»)))
+      || (any f (spanIn (optionOf (b .«board_header»))) || any (λ c. any f (spansOf c)) (callRows ws)))))
+  unfolding lentSpans lentBoard
+  spans-any = simp (any-append, calls-any)
+
+  module _ (t : Bool) (et : t ≡ any f (b .names)) where
+    pub in-names : t ≡ true → true ≡ any f (lentSpans (lent s b ws cs))
+    in-names h = sym (spans-any ∙ simp (← et, h))
+
+    module _ (ht : t ≡ false) (u : Bool) (eu : u ≡ any f (spanIn (optionOf (b .title)))) where
+      pub in-title : u ≡ true → true ≡ any f (lentSpans (lent s b ws cs))
+      in-title h = sym (spans-any ∙ simp (← et, ht, ← eu, h))
+
+      module _ (hu : u ≡ false) (w : Bool) (ew : w ≡ any f (spanIn (optionOf (b .«room_board»)))) where
+        pub in-room : w ≡ true → true ≡ any f (lentSpans (lent s b ws cs))
+        in-room h = sym (spans-any ∙ simp (← et, ht, ← eu, hu, ← ew, h))
+
+        module _ (hw : w ≡ false) (x : Bool) (ex : x ≡ any f (spanIn (optionOf (b .«board_header»)))) where
+          pub in-header : x ≡ true → true ≡ any f (lentSpans (lent s b ws cs))
+          in-header h = sym (spans-any ∙ simp (← et, ht, ← eu, hu, ← ew, hw, ← ex, h))
+
+          pub in-calls : x ≡ false → (y : Bool) → y ≡ any (λ c. any f (spansOf c)) (callRows ws) → y ≡ any f (lentSpans (lent s b ws cs))
+          in-calls h y ey = sym (spans-any ∙ simp (← et, ht, ← eu, hu, ← ew, hw, ← ex, h, ← ey))
+
+-- a card or a flag outside its range, whatever the board
+pub number-is : (s : List ℕ) (b : Board) (ws cs : List ℕ) → badNumber (lent s b ws cs) ≡ (badCards cs || any badFlag (callRows ws))
+unfolding badNumber
+number-is s b ws cs = refl
+
+-- The verdict, by the tests that led there
+
+module _ (other : Bool) (s : List ℕ) (b : Board) (ws cs : List ℕ) where
+  pub check-long : limit < length s → refused TextTooLong ≡ checked other (lent s b ws cs)
+  unfolding unless lentChecks
+  check-long h = simp (lt-ltb limit (length s) h)
+
+  module _ (h : length s ≤ limit) where
+    pub check-other : other ≡ true → refused OutOfRange ≡ checked other (lent s b ws cs)
+    unfolding unless lentChecks
+    check-other o = simp (le-ltb limit (length s) h, o)
+
+    module _ (o : other ≡ false) (t : Bool) (et : t ≡ (badCards cs || any badFlag (callRows ws))) where
+      pub check-number : t ≡ true → refused OutOfRange ≡ checked other (lent s b ws cs)
+      unfolding unless lentChecks badNumber
+      check-number k = simp (le-ltb limit (length s) h, o, ← et, k)
+
+      module _ (k : t ≡ false) (u : Bool) (eu : u ≡ any (passesEnd s) (lentSpans (lent s b ws []))) where
+        pub check-past : u ≡ true → refused SpanPastEnd ≡ checked other (lent s b ws cs)
+        unfolding unless lentChecks badNumber
+        check-past l = simp (le-ltb limit (length s) h, o, ← et, k, spans-alike s b ws cs [], ← eu, l)
+
+        module _ (l : u ≡ false) (w : Bool) (ew : w ≡ any (illSpan s) (lentSpans (lent s b ws []))) where
+          pub check-ill : w ≡ true → refused SpanNotUtf8 ≡ checked other (lent s b ws cs)
+          unfolding unless lentChecks badNumber
+          check-ill m = simp (le-ltb limit (length s) h, o, ← et, k, spans-alike s b ws cs [], ← eu, l, ← ew, m)
+
+          pub check-good : w ≡ false → accepted tt ≡ checked other (lent s b ws cs)
+          unfolding unless lentChecks badNumber
+          check-good m = simp (le-ltb limit (length s) h, o, ← et, k, spans-alike s b ws cs [], ← eu, l, ← ew, m)
+
+-- What a caller has of it
+
+-- no check meets the board
+pub record Passed (other : Bool) (x : Lent) : Type 0 where
+  pub short : length (x .text) ≤ limit
+  pub others : other ≡ false
+  pub numbers : badNumber x ≡ false
+  pub within : any (passesEnd (x .text)) (lentSpans x) ≡ false
+  pub utf8 : any (illSpan (x .text)) (lentSpans x) ≡ false
+
+pub passed : {A : Type 0} (other : Bool) (x : Lent) (a b : A) → unless (lentChecks other x) a ≡ accepted b → Passed other x
+unfolding lentChecks
+passed other x a b h =
+    let p = unmet _ _ _ _ _ h in
+    let q = unmet _ _ _ _ _ (p .1) in
+    let r = unmet _ _ _ _ _ (q .1) in
+    let u = unmet _ _ _ _ _ (r .1) in
+    let n = or-none other (badNumber x) (q .0) in
+    record { short = ltb-false limit (length (x .text)) (p .0); others = n .0; numbers = n .1; within = r .0; utf8 = u .0 }
+
+-- the call's answer, whatever checks follow and whatever its result would be
+module _ (other : Bool) (x : Lent) (v : Verdict) (e : verdictOf v ≡ checked other x) where
+  pub check-refuses : {B : Type 0} (ds : List (Option Refusal)) (b : B) (r : Refusal) → v ≡ Refused r → unless (lentChecks other x ++ ds) b ≡ refused r
+  check-refuses ds b r f = unless-refused (lentChecks other x) ds tt b r (sym e ∙ ap verdictOf f)
+
+  pub check-passes : {B : Type 0} (ds : List (Option Refusal)) (b : B) → v ≡ Accepted → unless (lentChecks other x ++ ds) b ≡ unless ds b
+  check-passes ds b f = unless-passed (lentChecks other x) ds tt tt b (sym e ∙ ap verdictOf f)
+
+  pub check-passed : v ≡ Accepted → Passed other x
+  check-passed f = passed other x tt tt (sym e ∙ ap verdictOf f)

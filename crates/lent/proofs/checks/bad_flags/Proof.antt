@@ -1,0 +1,60 @@
+-- `lent::bad_flags` meets its contract: a turn passes a row whose flags are 0 or 1.
+-- Assumes nothing.
+use Prim.Native.Nat.{_-_, _≤_}
+use native.Mathlib.Omega.{arith}
+use mathlib.Core.Path.{_≡_, refl}
+use lib.ListN.{length, drop}
+use Rattle.lin_spec.specs.Base.{any}
+use Rattle.lin_spec.specs.Lent.{callRows, badFlag}
+use Rattle.lent.proofs.LentLaws.{any-row-end, any-row-found, any-row-next}
+use Rattle.lent.proofs.checks.bad_flags.Statement.{statement}
+use Rattle.lent.proofs.checks.bad_flags.Tie as tie
+
+abbrev Inv-loop : tie.InvT-loop
+Inv-loop rows i₀ i = (i ≤ length rows) × (any badFlag (callRows (drop i rows)) ≡ any badFlag (callRows rows))
+
+abbrev μ-loop : tie.MeasureT-loop
+μ-loop rows i₀ i = length rows - i
+
+loop-holds : tie.Need-loop-holds Inv-loop μ-loop
+loop-holds c = (omega arith, refl)
+
+sub-loop : tie.Need-sub-loop Inv-loop μ-loop
+sub-loop c = omega arith
+
+call-at-requires : tie.Need-call-at-requires Inv-loop μ-loop
+call-at-requires c κs = omega arith
+
+bad-flag-requires : tie.Need-bad-flag-requires Inv-loop μ-loop
+bad-flag-requires c κs = tt
+
+returns : tie.Need-returns Inv-loop μ-loop
+returns c = any-row-found badFlag _ _ (c .before .before .before .before .loop .inv .1) (c .before .before .before .loop-test .taken) _ (c .before .before .call-at .ensures) _ (c .before .bad-flag .ensures) (c .if1 .taken)
+
+add-i : tie.Need-add-i Inv-loop μ-loop
+add-i c = omega arith
+
+loop-less : tie.Need-loop-less Inv-loop μ-loop
+loop-less c = omega arith
+
+loop-again : tie.Need-loop-again Inv-loop μ-loop
+loop-again c = (omega arith, any-row-next badFlag _ _ (c .before .before .before .before .loop .inv .1) (c .before .before .before .loop-test .taken) _ (c .before .before .call-at .ensures) _ (c .before .bad-flag .ensures) (c .if1 .left))
+
+returns-2 : tie.Need-returns-2 Inv-loop μ-loop
+returns-2 c = any-row-end badFlag _ _ (c .before .loop .inv .1) (c .loop-test .left)
+
+pub bad-flags-spec : {M : Type 1} → statement M
+bad-flags-spec =
+    tie.close
+    (tie.spec
+    Inv-loop
+    μ-loop
+    loop-holds
+    sub-loop
+    call-at-requires
+    bad-flag-requires
+    returns
+    add-i
+    loop-less
+    loop-again
+    returns-2)

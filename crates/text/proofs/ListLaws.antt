@@ -1,0 +1,54 @@
+-- Laws of tests over lists, as a loop goes through them: some element passes, and two texts are the same. (01: names)
+-- Assumes nothing.
+use Prim.Native.Nat.{ℕ, _+_, _≤_, _<_}
+use native.Mathlib.Numerals.{add-one}
+use native.Mathlib.Omega.{arith}
+use mathlib.Core.Path.{_≡_, refl, sym, _∙_}
+use mathlib.Core.Bool.{Bool, true, false, _&&_, _||_}
+use mathlib.Core.List.{List}
+use lib.ListN.{length, getD, drop, drop-of-length-le}
+use lib.Seq.{drop-cons}
+use lib.Dec.{eqb}
+use borrow.Author.Tests.{eq-eqb, ne-eqb}
+use Rattle.lin_spec.specs.Base.{any, eqList}
+use Rattle.lin_spec.proofs.Base.{eq-length}
+
+-- Whether an element passes a test: none of the first i does
+
+module _ {A : Type 0} (f : A → Bool) (d : A) (xs : List A) (i : ℕ) (v : any f (drop i xs) ≡ any f xs) where
+  pub any-end : length xs ≤ i → false ≡ any f xs
+  unfolding any
+  any-end h = (let z = rw (drop-of-length-le xs h) at v in z)
+
+  module _ (h : i < length xs) (t : Bool) (e : t ≡ f (getD xs i d)) where
+    any-cons : any f (drop i xs) ≡ (t || any f (drop (i + 1) xs))
+    unfolding any
+    any-cons = rw (add-one, drop-cons xs i d h, e) refl
+
+    pub any-found : t ≡ true → true ≡ any f xs
+    any-found q = sym (sym v ∙ any-cons ∙ simp q)
+
+    pub any-next : t ≡ false → any f (drop (i + 1) xs) ≡ any f xs
+    any-next q = (let z : any f (drop (i + 1) xs) ≡ (t || any f (drop (i + 1) xs)) = simp q in z) ∙ sym any-cons ∙ v
+
+-- Two texts, byte by byte
+
+module _ (a b : List ℕ) where
+  pub same-length : (length a ≡ length b → ⊥) → false ≡ eqList a b
+  same-length h = sym (eq-length a b h)
+
+  module _ (l : length a ≡ length b) (i : ℕ) (v : eqList (drop i a) (drop i b) ≡ eqList a b) where
+    pub same-end : length a ≤ i → true ≡ eqList a b
+    unfolding eqList
+    same-end h = (let z = rw (drop-of-length-le a h, drop-of-length-le b (let k : length b ≤ i = omega arith in k)) at v in z)
+
+    module _ (h : i < length a) where
+      same-cons : eqList (drop i a) (drop i b) ≡ (eqb (getD a i 0) (getD b i 0) && eqList (drop (i + 1) a) (drop (i + 1) b))
+      unfolding eqList
+      same-cons = rw (add-one, drop-cons a i 0 h, drop-cons b i 0 (let k : i < length b = omega arith in k)) refl
+
+      pub same-differ : (getD a i 0 ≡ getD b i 0 → ⊥) → false ≡ eqList a b
+      same-differ d = sym (sym v ∙ same-cons ∙ simp (ne-eqb _ _ d))
+
+      pub same-next : getD a i 0 ≡ getD b i 0 → eqList (drop (i + 1) a) (drop (i + 1) b) ≡ eqList a b
+      same-next e = (let z : eqList (drop (i + 1) a) (drop (i + 1) b) ≡ (eqb (getD a i 0) (getD b i 0) && eqList (drop (i + 1) a) (drop (i + 1) b)) = simp (eq-eqb _ _ e) in z) ∙ sym same-cons ∙ v
