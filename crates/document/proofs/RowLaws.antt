@@ -1,30 +1,21 @@
 -- Laws of rows: one row off the front of the words, what is left to write, to count and to check. (01: Tokens)
 -- Assumes nothing.
-use Prim.Native.Nat.{ℕ, zero, suc, _+_, _-_, _^_, _≤_, _<_}
-use native.Mathlib.Nat.{not-suc-le-zero, le-of-suc-le-suc}
-use native.Mathlib.Numerals.{add-one}
+use Prim.Native.Nat.{ℕ, _+_, _-_, _≤_, _<_}
 use native.Mathlib.Omega.{arith}
 use mathlib.Core.Path.{_≡_, refl, ap, sym, _∙_}
-use mathlib.Core.Bool.{Bool, true, false, _||_}
-use mathlib.Core.List.{List, [], _∷_, _++_, map, append-assoc, append-nil}
-use lib.ListN.{length, getD, drop, length-append, length-drop}
-use lib.Seq.{drop-cons}
+use mathlib.Core.Bool.{Bool, true, false, _||_, or-false}
+use mathlib.Core.List.{List, [], _∷_, _++_, append-assoc, append-nil}
+use lib.ListN.{length, drop, length-append, length-drop}
 use Rattle.lin_spec.specs.Base.{any}
 use Rattle.lin_spec.specs.Records.{bytesAt}
 use Rattle.lin_spec.specs.Refusals.{sat}
 use Rattle.lin_spec.specs.Tokens.{write}
-use Rattle.lin_spec.specs.Document.{rowsIn, spansOf, tokenAt, documentText}
+use Rattle.lin_spec.specs.Document.{rowsIn, spansOf, documentText}
 use Rattle.lin_spec.specs.declared.Span.{Span}
+use Rattle.text.proofs.ListLaws.{next-word}
 use Rattle.output.proofs.Laws.{Left}
 use Rattle.document.specs.declared.writer.Row.{Row}
 use Rattle.document.specs.Rows.{rowAt, rowOf, rowText}
-
-or-false : (t : Bool) → (t || false) ≡ t
-or-false true = refl
-or-false false = refl
-
-next-word : (ws : List ℕ) (i j : ℕ) → j ≡ i + 1 → i < length ws → drop i ws ≡ getD ws i 0 ∷ drop j ws
-next-word ws i j e h = drop-cons ws i 0 h ∙ ap (λ (m : ℕ). getD ws i 0 ∷ drop m ws) (let z : suc i ≡ j = omega arith in z)
 
 -- one row off the front
 pub rows-cons : (ws : List ℕ) (i : ℕ) → 4 ≤ length ws - i → rowsIn (drop i ws) ≡ rowAt ws i ∷ rowsIn (drop (i + 4) ws)

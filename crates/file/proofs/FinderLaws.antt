@@ -1,75 +1,30 @@
--- Laws of the name finder: equal names, the names of a board, and the boards counted. (01: names)
+-- Laws of the name finder: a section with the name, and the boards counted. (01: names)
 -- Assumes nothing.
-use Prim.Native.Nat.{ℕ, zero, suc, _+_, _-_, _^_, _≤_, _<_}
-use native.Mathlib.Numerals.{add-one}
+use Prim.Native.Nat.{ℕ, _+_, _^_, _≤_, _<_}
 use native.Mathlib.Omega.{arith}
-use mathlib.Core.Path.{_≡_, refl, ap, sym, subst, _∙_}
-use mathlib.Core.Bool.{Bool, true, false, _&&_, _||_, not, false≢true}
-use mathlib.Core.List.{List, [], _∷_, map}
-use mathlib.Core.Option.{Option}
-use lib.ListN.{length, getD, take, drop, drop-of-length-le}
-use lib.Seq.{drop-cons}
-use lib.Dec.{eqb, ltb}
-use borrow.Author.Tests.{eq-eqb, ne-eqb, lt-ltb, le-ltb}
-use Rattle.lin_spec.specs.Base.{pick, any, eqList, ascii}
-use Rattle.lin_spec.specs.Records.{span, limit, bytesAt}
-use Rattle.lin_spec.specs.Utf8.{utf8, longest}
-use Rattle.lin_spec.specs.Refusals.{Answer, unless}
+use mathlib.Core.Path.{_≡_, refl, ap, sym, _∙_}
+use mathlib.Core.Bool.{Bool, true, false, _&&_, not, false≢true}
+use mathlib.Core.List.{List, [], map}
+use lib.ListN.{length, take}
+use borrow.Author.Tests.{lt-ltb, le-ltb}
+use Rattle.lin_spec.specs.Base.{pick, any, ascii}
+use Rattle.lin_spec.specs.Records.{limit, bytesAt}
+use Rattle.lin_spec.specs.Utf8.{longest}
+use Rattle.lin_spec.specs.Refusals.{unless}
 use Rattle.lin_spec.specs.Refusals.Answer.{refused, accepted}
 use Rattle.lin_spec.specs.Reading.{stream}
-use Rattle.lin_spec.specs.Board.{BoardOf}
 use Rattle.lin_spec.specs.File.{Section as Part, holds, Standing, sections, boardsOf, boardIn, fileSpans, sameName, hasName, countIf, findName}
 use Rattle.lin_spec.specs.declared.Span.{Span}
 use Rattle.lin_spec.specs.declared.Refusal.the-variants.{TextTooLong, NotUtf8}
-use Rattle.lin_spec.proofs.Base.{picked, eq-length}
+use Rattle.lin_spec.proofs.Base.{picked}
 use Rattle.lin_spec.proofs.Utf8.{short, whole-text}
 use Rattle.lin_spec.proofs.File.{remaining, Found, all-remain}
 use Rattle.board.specs.Reader.{boardAt}
 use Rattle.file.specs.Sections.{sectionOf, standingOf}
-use Rattle.file.specs.Numbers.{Ready, Holds, Finds}
+use Rattle.file.specs.Numbers.{Ready, Finds}
 use Rattle.file.specs.declared.sections.Section.{Section}
 use Rattle.file.specs.declared.sections.BoardCursor.{BoardCursor}
 use Rattle.file.proofs.NumberLaws.{Way, way-begin, number-board, number-other, way-on}
-
--- Two names, byte by byte
-
-module _ (a b : List ℕ) where
-  pub names-length : (length a ≡ length b → ⊥) → false ≡ sameName a b
-  names-length h = sym (eq-length a b h)
-
-  module _ (l : length a ≡ length b) (i : ℕ) (v : eqList (drop i a) (drop i b) ≡ eqList a b) where
-    pub names-end : length a ≤ i → true ≡ sameName a b
-    unfolding eqList
-    names-end h = (let z = rw (drop-of-length-le a h, drop-of-length-le b (let k : length b ≤ i = omega arith in k)) at v in z)
-
-    module _ (h : i < length a) where
-      names-cons : eqList (drop i a) (drop i b) ≡ (eqb (getD a i 0) (getD b i 0) && eqList (drop (i + 1) a) (drop (i + 1) b))
-      unfolding eqList
-      names-cons = rw (add-one, drop-cons a i 0 h, drop-cons b i 0 (let k : i < length b = omega arith in k)) refl
-
-      pub names-differ : (getD a i 0 ≡ getD b i 0 → ⊥) → false ≡ sameName a b
-      names-differ d = sym (sym v ∙ names-cons ∙ simp (ne-eqb _ _ d))
-
-      pub names-next : getD a i 0 ≡ getD b i 0 → eqList (drop (i + 1) a) (drop (i + 1) b) ≡ eqList a b
-      names-next e = (let z : eqList (drop (i + 1) a) (drop (i + 1) b) ≡ (eqb (getD a i 0) (getD b i 0) && eqList (drop (i + 1) a) (drop (i + 1) b)) = simp (eq-eqb _ _ e) in z) ∙ sym names-cons ∙ v
-
--- The seats
-
-module _ (f : Span → Bool) (names : List Span) (i : ℕ) (v : any f (drop i names) ≡ any f names) where
-  pub seats-end : length names ≡ 4 → 4 ≤ i → false ≡ any f names
-  unfolding any
-  seats-end l h = (let z = rw (drop-of-length-le names (let k : length names ≤ i = omega arith in k)) at v in z)
-
-  module _ (h : i < length names) (t : Bool) (e : t ≡ f (getD names i (span 0 0))) where
-    seats-cons : any f (drop i names) ≡ (t || any f (drop (i + 1) names))
-    unfolding any
-    seats-cons = rw (add-one, drop-cons names i (span 0 0) h, e) refl
-
-    pub seats-found : t ≡ true → true ≡ any f names
-    seats-found q = sym (sym v ∙ seats-cons ∙ simp q)
-
-    pub seats-next : t ≡ false → any f (drop (i + 1) names) ≡ any f names
-    seats-next q = (let z : any f (drop (i + 1) names) ≡ (t || any f (drop (i + 1) names)) = simp q in z) ∙ sym seats-cons ∙ v
 
 -- One section
 

@@ -9,6 +9,7 @@ use lin_spec::LIMIT;
 use lin_spec::Refusal;
 use lin_spec::Span;
 use text::part;
+use text::same_bytes;
 use text::well_formed_len;
 ghost use mathlib.Core.Path.{_≡_};
 ghost use lib.ListN.{length};
@@ -21,17 +22,7 @@ ghost use Rattle.file.specs.Numbers.{countedOf, Finds, Holds, Ready};
 fn same_name(a: &[u8], b: &[u8]) -> bool
     ensures { λ r. ⌜ r ≡ sameName (now (a .entry)) (now (b .entry)) ⌝ }
 {
-    if a.len() != b.len() {
-        return false;
-    }
-    let mut i = 0;
-    while i < a.len() {
-        if a[i] != b[i] {
-            return false;
-        }
-        i += 1;
-    }
-    true
+    same_bytes(a, b)
 }
 
 // Whether one of the names is the one looked for.

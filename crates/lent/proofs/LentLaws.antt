@@ -1,13 +1,12 @@
 -- Laws of a lent board: one call off the front of the rows, the spans that it names, the checks. (01: Records; Eight refusals)
 -- Assumes nothing.
-use Prim.Native.Nat.{ℕ, suc, _+_, _-_, _≤_, _<_}
+use Prim.Native.Nat.{ℕ, _+_, _-_, _/_, _≤_, _<_}
 use native.Mathlib.Omega.{arith}
 use mathlib.Core.Path.{_≡_, refl, ap, sym, _∙_}
-use mathlib.Core.Bool.{Bool, true, false, _||_, or-assoc}
+use mathlib.Core.Bool.{Bool, true, false, _||_, or-assoc, or-false}
 use mathlib.Core.List.{List, [], _∷_, _++_, map}
 use mathlib.Core.Option.{Option}
-use lib.ListN.{length, getD, drop, length-drop}
-use lib.Seq.{drop-cons}
+use lib.ListN.{length, drop, length-drop}
 use borrow.Author.Tests.{eq-eqb, ne-eqb, lt-ltb, le-ltb, ltb-false}
 use Rattle.lin_spec.specs.Base.{any}
 use Rattle.lin_spec.specs.Records.{limit, optionOf}
@@ -25,13 +24,11 @@ use Rattle.lin_spec.specs.declared.Refusal.{Refusal}
 use Rattle.lin_spec.specs.declared.Refusal.the-variants.{TextTooLong, OutOfRange, SpanPastEnd, SpanNotUtf8}
 use Rattle.lin_spec.proofs.Base.{or-none}
 use Rattle.lin_spec.proofs.Checks.{unmet, unless-refused, unless-passed}
+use Rattle.text.proofs.ListLaws.{next-word}
 use Rattle.lent.specs.Calls.{callAt, spansOf}
 use Rattle.lent.specs.Checks.{verdictOf, checked}
 
 -- The rows
-
-next-word : (ws : List ℕ) (i j : ℕ) → j ≡ i + 1 → i < length ws → drop i ws ≡ getD ws i 0 ∷ drop j ws
-next-word ws i j e h = drop-cons ws i 0 h ∙ ap (λ (m : ℕ). getD ws i 0 ∷ drop m ws) (let z : suc i ≡ j = omega arith in z)
 
 -- one call off the front
 pub rows-cons : (ws : List ℕ) (i : ℕ) → 6 ≤ length ws - i → callRows (drop i ws) ≡ callAt ws i ∷ callRows (drop (i + 6) ws)
@@ -45,19 +42,24 @@ rows-cons ws i h =
     let f = next-word ws (i + 5) (i + 6) (omega arith) (omega arith) in
     rw (a, b, c, d, e, f)
 
-few-words : (us : List ℕ) → length us < 6 → callRows us ≡ []
+-- how many there are
+pub rows-count : (ws : List ℕ) → length (callRows ws) ≡ length ws / 6
 unfolding callRows
-few-words [] k = refl
-few-words (a ∷ []) k = refl
-few-words (a ∷ b ∷ []) k = refl
-few-words (a ∷ b ∷ c ∷ []) k = refl
-few-words (a ∷ b ∷ c ∷ d ∷ []) k = refl
-few-words (a ∷ b ∷ c ∷ d ∷ e ∷ []) k = refl
-few-words (a ∷ b ∷ c ∷ d ∷ e ∷ f ∷ us) k = absurd (let z : ⊥ = omega arith in z)
+rows-count [] = refl
+rows-count (a ∷ []) = refl
+rows-count (a ∷ b ∷ []) = refl
+rows-count (a ∷ b ∷ c ∷ []) = refl
+rows-count (a ∷ b ∷ c ∷ d ∷ []) = refl
+rows-count (a ∷ b ∷ c ∷ d ∷ e ∷ []) = refl
+rows-count (a ∷ b ∷ c ∷ d ∷ e ∷ f ∷ ws) = let z = rows-count ws in omega arith
+
+pub no-rows : (cs : List Call) → length cs ≡ 0 → cs ≡ []
+no-rows [] h = refl
+no-rows (c ∷ cs) h = absurd (let z : ⊥ = omega arith in z)
 
 -- a rest is no row
 pub rows-end : (ws : List ℕ) (i : ℕ) → length ws - i < 6 → callRows (drop i ws) ≡ []
-rows-end ws i h = few-words (drop i ws) (rw (length-drop i ws) h)
+rows-end ws i h = no-rows (callRows (drop i ws)) (omega (arith, rows-count (drop i ws), length-drop i ws))
 
 -- Whether a call passes a test: none of those before word i does
 
@@ -76,10 +78,6 @@ module _ (f : Call → Bool) (ws : List ℕ) (i : ℕ) (v : any f (callRows (dro
 
     pub any-row-next : t ≡ false → any f (callRows (drop (i + 6) ws)) ≡ any f (callRows ws)
     any-row-next k = (let z : any f (callRows (drop (i + 6) ws)) ≡ (t || any f (callRows (drop (i + 6) ws))) = simp k in z) ∙ sym any-row-cons ∙ v
-
-or-false : (t : Bool) → (t || false) ≡ t
-or-false true = refl
-or-false false = refl
 
 -- A text that may be absent
 

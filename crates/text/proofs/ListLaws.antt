@@ -1,17 +1,21 @@
--- Laws of tests over lists, as a loop goes through them: some element passes, and two texts are the same. (01: names)
+-- Laws of lists, as a loop goes through them: the next word, whether some element passes a test, whether two texts are the same. (01: Records)
 -- Assumes nothing.
-use Prim.Native.Nat.{ℕ, _+_, _≤_, _<_}
+use Prim.Native.Nat.{ℕ, suc, _+_, _≤_, _<_}
 use native.Mathlib.Numerals.{add-one}
 use native.Mathlib.Omega.{arith}
-use mathlib.Core.Path.{_≡_, refl, sym, _∙_}
+use mathlib.Core.Path.{_≡_, refl, ap, sym, _∙_}
 use mathlib.Core.Bool.{Bool, true, false, _&&_, _||_}
-use mathlib.Core.List.{List}
+use mathlib.Core.List.{List, _∷_}
 use lib.ListN.{length, getD, drop, drop-of-length-le}
 use lib.Seq.{drop-cons}
 use lib.Dec.{eqb}
 use borrow.Author.Tests.{eq-eqb, ne-eqb}
 use Rattle.lin_spec.specs.Base.{any, eqList}
 use Rattle.lin_spec.proofs.Base.{eq-length}
+
+-- one word off the front
+pub next-word : (ws : List ℕ) (i j : ℕ) → j ≡ i + 1 → i < length ws → drop i ws ≡ getD ws i 0 ∷ drop j ws
+next-word ws i j e h = drop-cons ws i 0 h ∙ ap (λ (m : ℕ). getD ws i 0 ∷ drop m ws) (let z : suc i ≡ j = omega arith in z)
 
 -- Whether an element passes a test: none of the first i does
 

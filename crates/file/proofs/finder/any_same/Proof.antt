@@ -1,15 +1,15 @@
 -- `file::any_same` meets its contract: a turn passes a seat with another name.
 -- Assumes nothing.
-use Rattle.file.proofs.FinderLaws.{seats-end, seats-found, seats-next}
+use Rattle.text.proofs.ListLaws.{any-end, any-found, any-next}
 use Rattle.lin_spec.specs.File.{sameName}
-use Rattle.lin_spec.specs.Records.{bytesAt}
+use Rattle.lin_spec.specs.Records.{span, bytesAt}
 use Rattle.lin_spec.specs.Base.{any}
 use lib.ListN.{length, drop}
 use denote.Ref.{now}
 use borrow.Author.Needs.{needs}
 use mathlib.Core.Path.{_≡_, refl, ap, _∙_}
 use native.Mathlib.Omega.{arith}
-use Prim.Native.Nat.{_-_, _≤_}
+use Prim.Native.Nat.{_-_}
 use Rattle.file.proofs.finder.any_same.Statement.{statement}
 use Rattle.file.proofs.finder.any_same.Tie as tie
 use Rattle.file.proofs.finder.any_same.Reads as reads
@@ -53,7 +53,7 @@ same-name-requires c κs = tt
 
 -- src/finder.rt:45:13
 returns : tie.Need-returns Inv-loop μ-loop
-returns c = let i = c .before .before .before .before .before .before .before .loop .inv in seats-found (λ x. sameName (bytesAt (now (c .before .before .before .before .before .before .before .before .before .before .args .text)) x) (now (c .before .before .before .before .before .before .before .before .before .before .args .name))) _ _ (i .0) (omega (arith, i .1)) _ (c .before .same-name .ensures ∙ ap (λ y. sameName y (now (c .before .before .before .before .before .before .before .before .before .before .args .name))) (c .before .before .part .ensures)) (c .if1 .taken)
+returns c = let i = c .before .before .before .before .before .before .before .loop .inv in any-found (λ x. sameName (bytesAt (now (c .before .before .before .before .before .before .before .before .before .before .args .text)) x) (now (c .before .before .before .before .before .before .before .before .before .before .args .name))) (span 0 0) _ _ (i .0) (omega (arith, i .1)) _ (c .before .same-name .ensures ∙ ap (λ y. sameName y (now (c .before .before .before .before .before .before .before .before .before .before .args .name))) (c .before .before .part .ensures)) (c .if1 .taken)
 
 -- src/finder.rt:47:9
 add-seat : tie.Need-add-seat Inv-loop μ-loop
@@ -65,11 +65,11 @@ loop-less c = omega arith
 
 -- src/finder.rt:42:5
 loop-again : tie.Need-loop-again Inv-loop μ-loop
-loop-again c = let i = c .before .before .before .before .before .before .before .loop .inv in (seats-next (λ x. sameName (bytesAt (now (c .before .before .before .before .before .before .before .before .before .before .args .text)) x) (now (c .before .before .before .before .before .before .before .before .before .before .args .name))) _ _ (i .0) (omega (arith, i .1)) _ (c .before .same-name .ensures ∙ ap (λ y. sameName y (now (c .before .before .before .before .before .before .before .before .before .before .args .name))) (c .before .before .part .ensures)) (c .if1 .left), i .1)
+loop-again c = let i = c .before .before .before .before .before .before .before .loop .inv in (any-next (λ x. sameName (bytesAt (now (c .before .before .before .before .before .before .before .before .before .before .args .text)) x) (now (c .before .before .before .before .before .before .before .before .before .before .args .name))) (span 0 0) _ _ (i .0) (omega (arith, i .1)) _ (c .before .same-name .ensures ∙ ap (λ y. sameName y (now (c .before .before .before .before .before .before .before .before .before .before .args .name))) (c .before .before .part .ensures)) (c .if1 .left), i .1)
 
 -- src/finder.rt:38:1
 returns-2 : tie.Need-returns-2 Inv-loop μ-loop
-returns-2 c = let i = c .before .loop .inv in seats-end (λ x. sameName (bytesAt (now (c .before .before .before .before .args .text)) x) (now (c .before .before .before .before .args .name))) _ _ (i .0) (i .1) (c .loop-test .left)
+returns-2 c = let i = c .before .loop .inv in any-end (λ x. sameName (bytesAt (now (c .before .before .before .before .args .text)) x) (now (c .before .before .before .before .args .name))) (span 0 0) (c .before .before .before .before .args .t2) (c .before .loop .seat) (i .0) (omega (arith, i .1))
 
 pub any-same-spec : {M : Type 1} → statement M
 any-same-spec =

@@ -1,0 +1,2 @@
+pub mod EqualityLaws
+pub mod EqualityMeaning
