@@ -1,26 +1,26 @@
 -- The reference cases, C1 to C14, proved of the definitions as a group. (01: Reference cases)
 -- Assumes nothing.
-use Prim.Native.Nat.{ℕ, _+_, _*_}
+use Prim.Native.Nat.{_+_}
 use mathlib.Core.Path.{_≡_, refl}
-use mathlib.Core.Bool.{true, false}
-use mathlib.Core.List.{List, [], _∷_, _++_}
+use mathlib.Core.Bool.{true}
+use mathlib.Core.List.{[], _∷_, _++_}
 use mathlib.Core.Option.{none, some}
 use lib.ListN.{replicate, set}
 use Rattle.lin_spec.specs.Base.{ascii, any, starts, eqList, joinBy}
 use Rattle.lin_spec.specs.Records.{part}
-use Rattle.lin_spec.specs.Utf8.{first, utfStep, utf, utf8, longest, reach, encode}
+use Rattle.lin_spec.specs.Utf8.{first, utfStep, utf, utf8, encode}
 use Rattle.lin_spec.specs.White.{whiteSpace, front, whiteAt, skipWhite, trimStart, blank, trimEnd, trim, lower, sameWord, isCommand}
 use Rattle.lin_spec.specs.Tokens.{cut, paired, left, tokens, trailing}
 use Rattle.lin_spec.specs.Tokens.TokenOf.{token}
 use Rattle.lin_spec.specs.Cards.{indexOf, suitOf, rankOf, readCard, sum, handFrom, readHand, field, remainder, eastOf, dealOf}
-use Rattle.lin_spec.specs.Board.{BoardOf, named, dealerOf, readMd, readSv, endsIn, only, withoutEnd, annotated, allDigits, valueFrom, numberIn, over, undealt, boardFrom}
+use Rattle.lin_spec.specs.Board.{dealerOf, readMd, readSv, endsIn, only, withoutEnd, allDigits, valueFrom, numberIn, over, undealt, boardFrom}
 use Rattle.lin_spec.specs.Reading.{parseLin, stream, placed}
 use Rattle.lin_spec.specs.Refusals.{unless}
 use Rattle.lin_spec.specs.Refusals.Answer.{accepted}
 use Rattle.lin_spec.specs.File.{holds, partsFrom, linesFrom, sections, boardsOf, fileSpans, countBoards}
 use Rattle.lin_spec.specs.Annotation.{noteOf, run, partLength, partsUpTo, annotationParts, nagWord, partWord, wordsOf, annotationText}
-use Rattle.lin_spec.specs.declared.Seat.the-variants.{South, West, North, East}
-use Rattle.lin_spec.specs.declared.Vulnerability.the-variants.{None, NorthSouth, EastWest, Both}
+use Rattle.lin_spec.specs.declared.Seat.the-variants.{South, North}
+use Rattle.lin_spec.specs.declared.Vulnerability.the-variants.{None}
 use Rattle.lin_spec.proofs.Tokens.{ReadsBack}
 
 -- C1 empty: no token. C2 `a|b`: no token, trailing `a|b`. C3 `a|b|c|`: one, trailing `c|`. C4 `md|1|`: South deals, hands empty.

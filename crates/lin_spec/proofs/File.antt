@@ -1,13 +1,12 @@
 -- Laws of a file's sections: a text's tokens up to a place, the sections from a place on, and what a board cursor visits. (01: File)
 -- Assumes nothing.
 use Prim.Native.Nat.{ℕ, zero, suc, _+_, _-_, _≤_, _<_}
-use native.Mathlib.Nat.{add-zero, add-assoc}
 use native.Mathlib.Omega.{arith}
 use mathlib.Core.Path.{_≡_, refl, ap, sym, subst, _∙_}
-use mathlib.Core.Bool.{Bool, true, false, _&&_, _||_, not, false≢true}
-use mathlib.Core.List.{List, [], _∷_, _++_, map, append-assoc}
-use lib.ListN.{length, take, drop, length-append, length-take, length-drop, drop-of-length-le}
-use lib.Seq.{take-append-le, take-append-add, take-all, take-nil}
+use mathlib.Core.Bool.{Bool, true, false, not, false≢true}
+use mathlib.Core.List.{List, [], _∷_, _++_, append-assoc}
+use lib.ListN.{length, take, drop, length-append, length-drop}
+use lib.Seq.{take-append-le, take-append-add, take-nil}
 use lib.Dec.{eqb, ltb, leb}
 use borrow.Author.Tests.{lt-ltb, le-ltb, le-leb, lt-leb, ltb-true, ltb-false}
 use Rattle.lin_spec.specs.Base.{pick, null, ascii}
@@ -18,7 +17,7 @@ use Rattle.lin_spec.specs.Tokens.Pieces.{end, piece}
 use Rattle.lin_spec.specs.Tokens.TokenOf.{token}
 use Rattle.lin_spec.specs.Cards.{field}
 use Rattle.lin_spec.specs.Reading.{placed, stream}
-use Rattle.lin_spec.specs.File.{Section, section, tokensIn, holds, leads, partAt, partsFrom, linesFrom, sections, Standing, Visit, firstOf, after, visit, openBoards}
+use Rattle.lin_spec.specs.File.{Section, section, holds, leads, partAt, partsFrom, linesFrom, sections, Standing, Visit, firstOf, after, visit, openBoards}
 use Rattle.lin_spec.specs.Refusals.{sat, tooLong, notUtf8}
 use Rattle.lin_spec.specs.Refusals.Answer.{accepted}
 use Rattle.lin_spec.specs.File.Visit.{found, ended}

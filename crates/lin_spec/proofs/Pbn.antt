@@ -1,23 +1,29 @@
 -- What `from_board` makes: the spans of its texts, back to back, are the texts; no text holds a pipe or a line break; and written and read back it is its
 -- settled form. (01: From PBN)
 -- Assumes nothing.
-use Prim.Native.Nat.{ℕ, zero, suc, _+_, _≤_, _<_}
+use Prim.Native.Nat.{ℕ, _+_, _≤_, _<_}
 use native.Mathlib.Omega.{arith}
-use mathlib.Core.Path.{_≡_, refl, ap, sym, subst, _∙_}
+use mathlib.Core.Path.{_≡_, refl, ap, sym, _∙_}
 use mathlib.Core.Bool.{Bool, true, false, _&&_, _||_, not, false≢true}
 use mathlib.Core.List.{List, [], _∷_, _++_, map, append-assoc, append-nil}
 use mathlib.Core.Option.{Option, none, some}
-use lib.ListN.{length, take, drop, getD, length-append, length-map}
+use lib.ListN.{length, take, drop, getD, length-map}
 use lib.Seq.{take-append-seam, drop-at, drop-drop}
 use lib.IntN.ℤ.{pos, negsuc}
 use lib.Dec.{eqb, ltb, leb}
 use borrow.Author.Tests.{ltb-false, leb-true}
-use Rattle.lin_spec.specs.Base.{pick, All, any, concat, ascii}
-use Rattle.lin_spec.specs.Records.{span, part, bytesAt}
+use Rattle.lin_spec.specs.Base.{All, any, null, concat, ascii}
+use Rattle.lin_spec.specs.Records.{span, part, bytesAt, optionOf}
 use Rattle.lin_spec.specs.Board.{CallOf, BoardOf, mapOption, mapCall, mapBoard, Present, EachText}
 use Rattle.lin_spec.specs.Decimal.{digit, decimal}
-use Rattle.lin_spec.specs.Writer.{clean, cleanName, orEmpty, present}
+use Rattle.lin_spec.specs.File.{parseLinFile}
+use Rattle.lin_spec.specs.Writer.{clean, orEmpty, present, written, settled}
 use Rattle.lin_spec.specs.Pbn.{Pbn, gap, claimFrom, bidOf, rawOf, titleOf, labelOf, annotationBy, textBy, filledBy, nameBy, keptBy, keptCalls, keptCards, fromBoard, callTexts, boardTexts, laidNames, laidOption, laidCalls, laid, badEntry, badCall, badBoardNumber, badPbn, rawSpans, nameSpans, pbnSpans}
+use Rattle.lin_spec.specs.Lent.{spanIn}
+use Rattle.lin_spec.specs.Annotation.{noteSpans, annotationText}
+use Rattle.lin_spec.specs.declared.MaybeSpan.{MaybeSpan}
+use Rattle.lin_spec.specs.declared.MaybeNumber.{MaybeNumber}
+use Rattle.lin_spec.specs.declared.MaybeNumber.the-variants.{Absent as NoNumber, Number}
 use Rattle.lin_spec.specs.declared.PbnCall.{PbnCall}
 use Rattle.lin_spec.specs.declared.MaybeResult.{MaybeResult}
 use Rattle.lin_spec.specs.declared.MaybeResult.the-variants.{Absent as NoResult, Tricks}
@@ -25,8 +31,13 @@ use Rattle.lin_spec.specs.declared.Span.{Span}
 use Rattle.lin_spec.proofs.Base.{picked, or-none, and-left, and-right, allBelow, below}
 use Rattle.lin_spec.proofs.White.{Visible}
 use Rattle.lin_spec.proofs.Reading.{board-eq}
-use Rattle.lin_spec.proofs.Sound.{Valid}
-use Rattle.lin_spec.proofs.Accepted.{none-any}
+use Rattle.lin_spec.proofs.Clean.{Fit, Free, free-clean, free-name}
+use Rattle.lin_spec.proofs.Utf8.{utf8-append, utf8-ascii, allAscii, by-ascii}
+use Rattle.lin_spec.proofs.Sound.{Valid, decimal-visible}
+use Rattle.lin_spec.proofs.RoundTrip.{Item, forms, round-trip}
+use Rattle.lin_spec.proofs.Wellformed.{Utf8, visible-utf8, utf8-clean, utf8-name}
+use Rattle.lin_spec.proofs.Annotation.{annotation-utf8}
+use Rattle.lin_spec.proofs.Accepted.{none-any, all-left, all-right}
 
 -- Back to back
 
@@ -162,11 +173,11 @@ bid-visible c h =
 -- "names, title, room-and-board, header and annotations are cleaned": what holds of visible bytes and of what is cleaned holds of every text
 module _ (p q : ℕ) (P : List ℕ → Type 0) (seen : (t : List ℕ) → All Visible t → P t) (s notes : List ℕ) where
   kept-each : (cs : List PbnCall) → All (λ (c : PbnCall). badCall c ≡ false) cs
-      → ((c : PbnCall) → Present (λ (t : List ℕ). P (clean p q t)) (annotationBy s notes (rawOf c)))
+      → All (λ (c : PbnCall). Present (λ (t : List ℕ). P (clean p q t)) (annotationBy s notes (rawOf c))) cs
       → All (λ (c : CallOf (List ℕ)). P (c .bid) × Present P (c .annotation)) (keptCalls p q s notes cs)
   unfolding keptCalls
   kept-each [] h a = tt
-  kept-each (c ∷ cs) h a = go (bidOf c) (bid-visible c (h .0)) (kept-each cs (h .1) a)
+  kept-each (c ∷ cs) h a = go (bidOf c) (bid-visible c (h .0)) (kept-each cs (h .1) (a .1))
     where
       note : (o : Option (List ℕ)) → Present (λ (t : List ℕ). P (clean p q t)) o → Present P (mapOption (clean p q) o)
       note none k = tt
@@ -175,4 +186,156 @@ module _ (p q : ℕ) (P : List ℕ → Type 0) (seen : (t : List ℕ) → All Vi
       go : (o : Option (List ℕ)) → Present (All Visible) o → All (λ (d : CallOf (List ℕ)). P (d .bid) × Present P (d .annotation)) (keptCalls p q s notes cs)
           → All (λ (d : CallOf (List ℕ)). P (d .bid) × Present P (d .annotation)) (keptBy p q s notes o c (keptCalls p q s notes cs))
       go none k ih = ih
-      go (some b) k ih = ((seen b k, note (annotationBy s notes (rawOf c)) (a c)), ih)
+      go (some b) k ih = ((seen b k, note (annotationBy s notes (rawOf c)) (a .0)), ih)
+
+-- No text holds a pipe or a line break
+
+visible-free : (t : List ℕ) → All Visible t → All Free t
+visible-free [] h = tt
+visible-free (b ∷ t) h = (
+  ((λ e. (let l = h .0 .1 in omega arith)), (λ e. (let l = h .0 .0 in omega arith)), (λ e. (let l = h .0 .0 in omega arith))),
+  visible-free t (h .1),
+)
+
+-- what an option's text is made into
+option-each : {A : Type 0} (P : List ℕ → Type 0) (g : A → List ℕ) → ((a : A) → P (g a)) → (o : Option A) → Present P (mapOption g o)
+option-each P g h none = tt
+option-each P g h (some a) = h a
+
+every : {A : Type 0} (P : A → Type 0) → ((a : A) → P a) → (xs : List A) → All P xs
+every P h [] = tt
+every P h (x ∷ xs) = (h x, every P h xs)
+
+map-each : {A : Type 0} (P : List ℕ → Type 0) (g : A → List ℕ) → ((a : A) → P (g a)) → (xs : List A) → All P (map g xs)
+map-each P g h [] = tt
+map-each P g h (x ∷ xs) = (h x, map-each P g h xs)
+
+present-each : (P : List ℕ → Type 0) → ((t : List ℕ) → P t) → (o : Option (List ℕ)) → Present P o
+present-each P h none = tt
+present-each P h (some t) = h t
+
+pub made-free : (p q : ℕ) → Fit p q → (x : Pbn) → badPbn x ≡ false → EachText (All Free) (fromBoard p q x)
+unfolding fromBoard
+made-free p q f x h =
+    let b = x .board in
+    let t = x .text in
+    let title = titleOf (filledBy t (b .event)) (filledBy t (b .date)) in
+    let label = labelOf (filledBy t (b .id)) (b .number) in
+    record {
+      names = map-each (All Free) (nameBy p q t) (λ y. free-name p q f (orEmpty (textBy t y))) (b .names);
+      title = option-each (All Free) (clean p q) (free-clean p q f) title;
+      room = option-each (All Free) (λ l. clean p q (ascii "o" ++ (l ++ (ascii ",BOARD " ++ l)))) (λ l. free-clean p q f (ascii "o" ++ (l ++ (ascii ",BOARD " ++ l)))) label;
+      header = option-each (All Free) (λ l. clean p q (ascii "Board " ++ l)) (λ l. free-clean p q f (ascii "Board " ++ l)) label;
+      calls = kept-each p q (All Free) visible-free t (x .notes) (x .calls) (calls-sound x h) (every (λ (c : PbnCall). Present (λ (u : List ℕ). All Free (clean p q u)) (annotationBy t (x .notes) (rawOf c))) (λ c. present-each (λ (u : List ℕ). All Free (clean p q u)) (free-clean p q f) (annotationBy t (x .notes) (rawOf c))) (x .calls));
+    }
+
+-- Written and read back
+
+abbrev made : (p q : ℕ) → Pbn → Item
+made p q x = record { p = p; q = q; board = fromBoard p q x }
+
+pub made-read : (p q : ℕ) → Fit p q → (x : Pbn) → PbnTyped x → badPbn x ≡ false → parseLinFile (written p q (fromBoard p q x)) ≡ settled p q (fromBoard p q x) ∷ []
+made-read p q f x t h =
+    let one : forms (made p q x ∷ []) ≡ written p q (fromBoard p q x) = unfold forms concat in append-nil (written p q (fromBoard p q x)) in
+    ap parseLinFile (sym one)
+    ∙ round-trip (made p q x ∷ []) (record { fit = f; valid = made-valid x h p q t }, tt)
+
+-- Its texts are UTF-8, if no span of the input is refused by 6
+
+module _ (p q : ℕ) (f : Fit p q) (x : Pbn) (typed : PbnTyped x) (well : All (λ (y : Span). Utf8 (bytesAt (x .text) y)) (pbnSpans x)) where
+  abbrev W : Span → Type 0
+  W y = Utf8 (bytesAt (x .text) y)
+
+  -- the parts of the list of spans
+  abbrev raws : List Span
+  raws = rawSpans (x .calls) ++ noteSpans (x .notes)
+
+  w₁ : All W (spanIn (optionOf (x .board .event)) ++ (spanIn (optionOf (x .board .date)) ++ (spanIn (optionOf (x .board .id)) ++ raws)))
+  unfolding pbnSpans
+  w₁ = all-right W (nameSpans (x .board .names)) _ well
+
+  w₂ : All W (spanIn (optionOf (x .board .date)) ++ (spanIn (optionOf (x .board .id)) ++ raws))
+  w₂ = all-right W (spanIn (optionOf (x .board .event))) _ w₁
+
+  w₃ : All W (spanIn (optionOf (x .board .id)) ++ raws)
+  w₃ = all-right W (spanIn (optionOf (x .board .date))) _ w₂
+
+  w₄ : All W raws
+  w₄ = all-right W (spanIn (optionOf (x .board .id))) _ w₃
+
+  text-utf8 : (y : MaybeSpan) → All W (spanIn (optionOf y)) → Present Utf8 (textBy (x .text) y)
+  text-utf8 y h = go (optionOf y) h
+    where
+      go : (o : Option Span) → All W (spanIn o) → Present Utf8 (mapOption (bytesAt (x .text)) o)
+      go none k = tt
+      go (some z) k = k .0
+
+  filled-utf8 : (y : MaybeSpan) → All W (spanIn (optionOf y)) → Present Utf8 (filledBy (x .text) y)
+  filled-utf8 y h = go (textBy (x .text) y) (text-utf8 y h)
+    where
+      go : (o : Option (List ℕ)) → Present Utf8 o → Present Utf8 (present o)
+      go none k = tt
+      go (some t) k = picked (Present Utf8) (null t) (λ _. tt) (λ _. k)
+
+  names-utf8 : (ys : List MaybeSpan) → All W (nameSpans ys) → All Utf8 (map (nameBy p q (x .text)) ys)
+  unfolding nameSpans
+  names-utf8 [] h = tt
+  names-utf8 (y ∷ ys) h = (
+    utf8-name p q f (orEmpty (textBy (x .text) y)) (go (textBy (x .text) y) (text-utf8 y (all-left W (spanIn (optionOf y)) _ h))),
+    names-utf8 ys (all-right W (spanIn (optionOf y)) _ h),
+  )
+    where
+      go : (o : Option (List ℕ)) → Present Utf8 o → Utf8 (orEmpty o)
+      go none k = utf8-ascii [] tt
+      go (some t) k = k
+
+  dash : Utf8 (ascii " - ")
+  dash = utf8-ascii (ascii " - ") (omega arith, (omega arith, (omega arith, tt)))
+
+  title-utf8 : (e d : Option (List ℕ)) → Present Utf8 e → Present Utf8 d → Present Utf8 (titleOf e d)
+  title-utf8 e none h k = h
+  title-utf8 none (some d) h k = utf8-append (ascii " - ") d dash k
+  title-utf8 (some e) (some d) h k = utf8-append e _ h (utf8-append (ascii " - ") d dash k)
+
+  label-utf8 : (o : Option (List ℕ)) (n : MaybeNumber) → Present Utf8 o → Present Utf8 (labelOf o n)
+  label-utf8 (some t) n h = h
+  label-utf8 none (Number n) h = visible-utf8 (decimal n) (decimal-visible n)
+  label-utf8 none NoNumber h = tt
+
+  cleaned-utf8 : (g : List ℕ → List ℕ) → ((t : List ℕ) → Utf8 t → Utf8 (g t)) → (o : Option (List ℕ)) → Present Utf8 o → Present Utf8 (mapOption (λ t. clean p q (g t)) o)
+  cleaned-utf8 g k none h = tt
+  cleaned-utf8 g k (some t) h = utf8-clean p q f (g t) (k t h)
+
+  room-utf8 : (l : List ℕ) → Utf8 l → Utf8 (ascii "o" ++ (l ++ (ascii ",BOARD " ++ l)))
+  unfolding allAscii
+  room-utf8 l h = utf8-append (ascii "o") _ (by-ascii (ascii "o") refl) (utf8-append l _ h (utf8-append (ascii ",BOARD ") l (by-ascii (ascii ",BOARD ") refl) h))
+
+  raw-utf8 : (cs : List PbnCall) → All W (rawSpans cs) → All (λ (c : PbnCall). Present (λ (t : List ℕ). Utf8 (clean p q t)) (annotationBy (x .text) (x .notes) (rawOf c))) cs
+  unfolding rawSpans
+  raw-utf8 [] h = tt
+  raw-utf8 (c ∷ cs) h = (go (rawOf c) (all-left W (spanIn (rawOf c)) _ h), raw-utf8 cs (all-right W (spanIn (rawOf c)) _ h))
+    where
+      clean-present : (o : Option (List ℕ)) → Present Utf8 o → Present (λ (t : List ℕ). Utf8 (clean p q t)) o
+      clean-present none k = tt
+      clean-present (some t) k = utf8-clean p q f t k
+
+      go : (o : Option Span) → All W (spanIn o) → Present (λ (t : List ℕ). Utf8 (clean p q t)) (annotationBy (x .text) (x .notes) o)
+      go none k = tt
+      go (some y) k =
+          clean-present (annotationText (x .text) (x .notes) (bytesAt (x .text) y))
+          (annotation-utf8 (x .text) (x .notes) 256 (typed .notes) (all-right W (rawSpans (x .calls)) _ w₄) (bytesAt (x .text) y) (k .0))
+
+  pub made-utf8 : badPbn x ≡ false → EachText Utf8 (fromBoard p q x)
+  unfolding fromBoard
+  made-utf8 h =
+      let b = x .board in
+      let label = label-utf8 (filledBy (x .text) (b .id)) (b .number) (filled-utf8 (b .id) (all-left W (spanIn (optionOf (b .id))) _ w₃)) in
+      record {
+        names = names-utf8 (b .names) (unfold pbnSpans in all-left W (nameSpans (b .names)) _ well);
+        title =
+            cleaned-utf8 (λ t. t) (λ t k. k) (titleOf (filledBy (x .text) (b .event)) (filledBy (x .text) (b .date)))
+            (title-utf8 (filledBy (x .text) (b .event)) (filledBy (x .text) (b .date)) (filled-utf8 (b .event) (all-left W (spanIn (optionOf (b .event))) _ w₁)) (filled-utf8 (b .date) (all-left W (spanIn (optionOf (b .date))) _ w₂)));
+        room = cleaned-utf8 (λ l. ascii "o" ++ (l ++ (ascii ",BOARD " ++ l))) room-utf8 (labelOf (filledBy (x .text) (b .id)) (b .number)) label;
+        header = cleaned-utf8 (λ l. ascii "Board " ++ l) (λ l k. utf8-append (ascii "Board ") l (by-ascii (ascii "Board ") (unfold allAscii in refl)) k) (labelOf (filledBy (x .text) (b .id)) (b .number)) label;
+        calls = kept-each p q Utf8 visible-utf8 (x .text) (x .notes) (x .calls) (calls-sound x h) (raw-utf8 (x .calls) (all-left W (rawSpans (x .calls)) _ w₄));
+      }

@@ -1,7 +1,7 @@
 -- A raw PBN annotation as text. (01: From PBN, "Annotation parts ..")
 use Prim.Native.Nat.{ℕ, zero, suc, _+_, _-_, _*_, min}
 use Prim.Native.Char.{code}
-use mathlib.Core.Bool.{Bool, true, false, _&&_, _||_, not}
+use mathlib.Core.Bool.{Bool, _&&_, _||_, not}
 use mathlib.Core.List.{List, [], _∷_}
 use mathlib.Core.Option.{Option, none, some}
 use lib.ListN.{length, take, drop, getD}

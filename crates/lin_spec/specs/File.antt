@@ -1,12 +1,12 @@
 -- The boards of a file: its parts or its lines, by number, and those that a name is found in. (01: File; names)
 use Prim.Native.Nat.{ℕ, _+_, _-_}
-use mathlib.Core.Bool.{Bool, true, false, _&&_, _||_, not}
+use mathlib.Core.Bool.{Bool, false, _||_, not}
 use mathlib.Core.List.{List, [], _∷_, map}
 use mathlib.Core.Option.{Option}
 use lib.ListN.{length, take, drop, getD}
 use lib.Dec.{ltb, leb}
 use Rattle.lin_spec.specs.Base.{pick, any, null, eqList, ascii}
-use Rattle.lin_spec.specs.Records.{span, endOf, part, bytesAt}
+use Rattle.lin_spec.specs.Records.{endOf, part, bytesAt}
 use Rattle.lin_spec.specs.White.{blank, isCommand}
 use Rattle.lin_spec.specs.Tokens.{Pieces, cut, TokenOf}
 use Rattle.lin_spec.specs.Tokens.Pieces.{end, piece}

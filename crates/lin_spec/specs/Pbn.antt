@@ -1,11 +1,9 @@
 -- A board made from a PBN record. (01: From PBN, `from_board`)
-use Prim.Native.Nat.{ℕ, zero, suc, _+_, _%_}
-use Prim.Native.Char.{code}
-use mathlib.Core.Bool.{Bool, true, false, _&&_, _||_, not}
+use Prim.Native.Nat.{ℕ, _+_, _%_}
+use mathlib.Core.Bool.{Bool, false, _&&_, _||_, not}
 use mathlib.Core.List.{List, [], _∷_, _++_, map}
 use mathlib.Core.Option.{Option, none, some}
 use lib.ListN.{length, getD}
-use lib.IntN.{ℤ}
 use lib.IntN.ℤ.{pos, negsuc}
 use lib.Dec.{eqb, ltb, leb}
 use Rattle.lin_spec.specs.Base.{pick, any, concat, ascii}
@@ -32,7 +30,6 @@ use Rattle.lin_spec.specs.declared.MaybeResult.the-variants.{Absent as N
 use Rattle.lin_spec.specs.declared.PbnCall.{PbnCall}
 use Rattle.lin_spec.specs.declared.PbnBoard.{PbnBoard}
 use Rattle.lin_spec.specs.declared.Heading.{Heading}
-use Rattle.lin_spec.specs.declared.Refusal.{Refusal}
 use Rattle.lin_spec.specs.declared.Refusal.the-variants.{OutOfRange}
 
 -- "calls (pass, double, redouble, bid 1 to 7 with strain C D H S N, continue, blank) with raw annotation": six words to a row
