@@ -1,0 +1,3 @@
+pub mod TrickLaws
+pub mod PlayLaws
+pub mod Answers

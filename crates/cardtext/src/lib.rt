@@ -1,0 +1,9 @@
+// Cards, hands and plays as text, put into a lent output. (01: Writer, md and pc; play text)
+mod letters;
+mod play;
+mod tricks;
+
+pub use play::format_cardplay_by_trick;
+pub use tricks::bad_cards;
+pub use tricks::put_tricks;
+pub use tricks::tricks_len;
