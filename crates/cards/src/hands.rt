@@ -91,18 +91,25 @@ pub(crate) fn hand_len(hand: Hand) -> u64
     n
 }
 
-// How many cards a seat's hand in a deal has.
-pub fn seat_len(deal: Deal, seat: Seat) -> u64
-    ensures { λ r. ⌜ r ≡ handLength (deal .counts) seat ⌝ }
+// How many cards a seat's hand has, by the counts of a deal.
+pub fn seat_sum(counts: &[u32; 208], seat: Seat) -> u64
+    ensures { λ r. ⌜ (r ≡ handLength (now (counts .entry)) seat) × (r < 2 ^ 38) ⌝ }
 {
     let first = seat.number() * Deal::CARDS;
     let mut n: u64 = 0;
     let mut c = 0;
     while c < Deal::CARDS {
-        n += wide(deal.counts[first + c]);
+        n += wide(counts[first + c]);
         c += 1;
     }
     n
+}
+
+// How many cards a seat's hand in a deal has.
+pub fn seat_len(deal: Deal, seat: Seat) -> u64
+    ensures { λ r. ⌜ r ≡ handLength (deal .counts) seat ⌝ }
+{
+    seat_sum(&deal.counts, seat)
 }
 
 // 1 for a card that none of three hands holds, else 0.

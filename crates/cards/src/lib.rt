@@ -5,6 +5,7 @@ mod letters;
 
 pub use deals::deal_of;
 pub use hands::seat_len;
+pub use hands::seat_sum;
 pub use letters::Lookup;
 pub use letters::MaybeCard;
 pub use letters::rank_of;
