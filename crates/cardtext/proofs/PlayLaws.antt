@@ -1,15 +1,15 @@
 -- The text of a play card by card, and its length. (01: play text)
 -- Assumes nothing.
-use Prim.Native.Nat.{ℕ, zero, suc, _+_, _-_, _*_, _%_, _≤_, _<_}
+use Prim.Native.Nat.{ℕ, suc, _+_, _-_, _*_, _%_, _≤_, _<_}
 use native.Mathlib.Numerals.{add-one}
 use native.Mathlib.Omega.{arith}
 use mathlib.Core.Path.{_≡_, refl, ap, sym, _∙_}
 use mathlib.Core.List.{List, [], _∷_, _++_, map, append-nil}
-use lib.ListN.{length, getD, drop, length-append, drop-of-length-le}
+use lib.ListN.{length, getD, drop, drop-of-length-le}
 use lib.Seq.{drop-cons}
 use lib.Dec.{eqb}
 use borrow.Author.Tests.{eq-eqb, ne-eqb}
-use Rattle.lin_spec.specs.Base.{ascii, concat, joinBy}
+use Rattle.lin_spec.specs.Base.{ascii, joinBy}
 use Rattle.lin_spec.specs.Writer.{cardLetters, tricks}
 use Rattle.lin_spec.specs.Play.{trickWords, playText}
 use Rattle.lin_spec.proofs.Base.{picked}

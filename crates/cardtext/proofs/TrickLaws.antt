@@ -4,19 +4,17 @@ use Prim.Native.Nat.{ℕ, zero, suc, _+_, _*_, _/_, _%_, _≤_, _<_}
 use native.Mathlib.Nat.{not-suc-le-zero, le-of-suc-le-suc}
 use native.Mathlib.Numerals.{add-one}
 use native.Mathlib.Omega.{arith}
-use mathlib.Core.Path.{_≡_, refl, sym, subst}
-use mathlib.Core.Bool.{Bool, true, false, _||_}
-use mathlib.Core.List.{List, [], _∷_, _++_, map}
+use mathlib.Core.Path.{_≡_, refl, sym}
+use mathlib.Core.Bool.{true, false, _||_, or-true}
+use mathlib.Core.List.{List, [], _∷_, _++_}
 use lib.ListN.{length, getD, drop, drop-of-length-le}
 use lib.Seq.{drop-cons}
 use lib.Dec.{eqb, ltb}
 use borrow.Author.Tests.{lt-ltb, le-ltb, ltb-false, eq-eqb, ne-eqb}
-use Rattle.lin_spec.specs.Base.{pick, any, ascii, concat}
+use Rattle.lin_spec.specs.Base.{any, ascii, concat}
 use Rattle.lin_spec.specs.Lent.{badCards}
-use Rattle.lin_spec.specs.Writer.{cardText, tricks, trickText, tricksText}
+use Rattle.lin_spec.specs.Writer.{cardLetters, cardText, tricks, tricksText}
 use Rattle.lin_spec.proofs.Base.{or-none}
-use Rattle.output.specs.Put.{Room, Put}
-use Rattle.output.proofs.Laws.{overlay-nil, start, step, finish}
 use Rattle.cardtext.specs.Tricks.{trickEnd}
 
 -- Cards within their range
@@ -50,17 +48,13 @@ unfoldable pub tricksFrom : (all played : ℕ) → List ℕ → List ℕ
 tricksFrom n k [] = []
 tricksFrom n k (c ∷ cs) = cardText c ++ (trickEnd (suc k) n ++ tricksFrom n (suc k) cs)
 
-or-right : (t : Bool) → (t || true) ≡ true
-or-right true = refl
-or-right false = refl
-
 fourth : (k n : ℕ) → k % 4 ≡ 0 → trickEnd k n ≡ ascii "pg||\n"
 unfolding trickEnd
 fourth k n h = simp (eq-eqb (k % 4) 0 h)
 
 last : (k n : ℕ) → k ≡ n → trickEnd k n ≡ ascii "pg||\n"
 unfolding trickEnd
-last k n h = simp (eq-eqb k n h, or-right)
+last k n h = simp (eq-eqb k n h, or-true)
 
 other : (k n : ℕ) → (k % 4 ≡ 0 → ⊥) → (k ≡ n → ⊥) → trickEnd k n ≡ []
 unfolding trickEnd
@@ -99,25 +93,6 @@ tricks-long (a ∷ b ∷ []) = refl
 tricks-long (a ∷ b ∷ c ∷ []) = refl
 tricks-long (a ∷ b ∷ c ∷ d ∷ r) = let ih = tricks-long r in omega arith
 
--- Puts
-
--- a text that is empty is put by doing nothing
-pub put-none : (o : List ℕ) (at : ℕ) (s : List ℕ) → s ≡ [] → Put o at s o at
-put-none o at s e = record { next = rw e (omega arith); text = rw e (sym (overlay-nil o at)) }
-
--- a text that is known is put as such
-pub room-as : {o : List ℕ} {at : ℕ} (s t : List ℕ) → s ≡ t → Room o at s → Room o at t
-room-as {o} {at} s t e r = subst (Room o at) e r
-
-pub put-as : {o : List ℕ} {at : ℕ} {o′ : List ℕ} {p : ℕ} (s t : List ℕ) → s ≡ t → Put o at t o′ p → Put o at s o′ p
-put-as {o} {at} {o′} {p} s t e r = subst (λ (x : List ℕ). Put o at x o′ p) (sym e) r
-
--- two bytes, one after the other
-pub put-two : {o : List ℕ} {at x y : ℕ} → Room o at (x ∷ y ∷ []) → (a : ℕ) → a ≡ x → {o₁ : List ℕ} {p : ℕ} → Put o at (a ∷ []) o₁ p
-    → (b : ℕ) → b ≡ y → {o₂ : List ℕ} {q : ℕ} → Put o₁ p (b ∷ []) o₂ q → Put o at (x ∷ y ∷ []) o₂ q
-put-two {o} {at} {x} {y} r a e u b f v =
-    finish (step {s = y ∷ []} {t = []} (step {s = x ∷ []} {t = y ∷ []} (start r) (rw e at u)) (rw f at v))
-
 -- what follows a card, by the test of the code
 module _ (k n : ℕ) where
   pub end-here : (eqb (k % 4) 0 || eqb k n) ≡ true → trickEnd k n ≡ ascii "pg||\n"
@@ -127,3 +102,7 @@ module _ (k n : ℕ) where
   pub end-later : (eqb (k % 4) 0 || eqb k n) ≡ false → trickEnd k n ≡ []
   unfolding trickEnd
   end-later h = simp h
+
+-- a card's letters, one after the other
+pub letters-are : (c a b : ℕ) → a ≡ getD (ascii "SHDC") (c / 13) 0 → b ≡ getD (ascii "23456789TJQKA") (c % 13) 0 → cardLetters c ≡ (a ∷ []) ++ (b ∷ [])
+letters-are c a b e f = let p = sym e in let q = sym f in cc

@@ -1,1 +1,2 @@
 pub mod Tricks
+pub mod Hands

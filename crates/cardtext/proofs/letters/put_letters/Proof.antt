@@ -1,7 +1,8 @@
 -- `cardtext::letters::put_letters` meets its contract: two puts of a byte.
 -- Assumes nothing.
 use borrow.Author.Needs.{needs}
-use Rattle.cardtext.proofs.TrickLaws.{put-two}
+use Rattle.cardtext.proofs.PutLaws.{put-both}
+use Rattle.cardtext.proofs.TrickLaws.{letters-are}
 use Rattle.cardtext.proofs.letters.put_letters.Statement.{statement}
 use Rattle.cardtext.proofs.letters.put_letters.Tie as tie
 
@@ -27,7 +28,7 @@ same-length : tie.Need-same-length
 same-length c = search needs
 
 returns : tie.Need-returns
-returns c = put-two (c .before .before .before .before .before .before .before .before .before .before .before .pre .0) _ (c .before .before .before .before .before .before .before .before .suit-letter .ensures) (c .before .before .before .before .before .before .before .put-byte .ensures) _ (c .before .before .before .rank-letter .ensures) (c .before .before .put-byte2 .ensures)
+returns c = put-both _ _ _ (letters-are (c .before .before .before .before .before .before .before .before .before .before .before .args .card) _ _ (c .before .before .before .before .before .before .before .before .suit-letter .ensures) (c .before .before .before .rank-letter .ensures)) (c .before .before .before .before .before .before .before .before .before .before .before .pre .0) (c .before .before .before .before .before .before .before .put-byte .ensures) (c .before .before .put-byte2 .ensures)
 
 pub put-letters-spec : {M : Type 1} → statement M
 put-letters-spec =

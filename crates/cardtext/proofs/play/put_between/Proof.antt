@@ -1,7 +1,7 @@
 -- `cardtext::play::put_between` meets its contract: by the tests, one put or none.
 -- Assumes nothing.
 use borrow.Author.Needs.{needs}
-use Rattle.cardtext.proofs.TrickLaws.{put-none, room-as, put-as}
+use Rattle.cardtext.proofs.PutLaws.{put-none, room-as, put-as}
 use Rattle.cardtext.proofs.PlayLaws.{none-between, pipe-between, space-between}
 use Rattle.cardtext.proofs.play.put_between.Statement.{statement}
 use Rattle.cardtext.proofs.play.put_between.Tie as tie

@@ -1,7 +1,6 @@
 -- `cardtext::bad_cards` meets its contract: a turn takes one card off those to be tested.
 -- Assumes nothing.
 use Prim.Native.Nat.{_-_}
-use native.Mathlib.Omega.{arith}
 use mathlib.Core.Path.{_≡_, refl, _∙_}
 use lib.ListN.{length, drop}
 use borrow.Author.Needs.{needs}

@@ -1,7 +1,8 @@
 -- `cardtext::tricks::put_trick_end` meets its contract: by the test, one put or none.
 -- Assumes nothing.
 use borrow.Author.Needs.{needs}
-use Rattle.cardtext.proofs.TrickLaws.{put-none, room-as, put-as, end-here, end-later}
+use Rattle.cardtext.proofs.PutLaws.{put-none, room-as, put-as}
+use Rattle.cardtext.proofs.TrickLaws.{end-here, end-later}
 use Rattle.cardtext.proofs.tricks.put_trick_end.Statement.{statement}
 use Rattle.cardtext.proofs.tricks.put_trick_end.Tie as tie
 

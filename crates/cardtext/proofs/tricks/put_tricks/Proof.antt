@@ -1,7 +1,6 @@
 -- `cardtext::put_tricks` meets its contract: a turn takes one card, and what follows it, off what is left to write.
 -- Assumes nothing.
 use Prim.Native.Nat.{_+_, _-_, _≤_}
-use mathlib.Core.Path.{sym}
 use mathlib.Core.List.{_++_}
 use native.Mathlib.Omega.{arith}
 use lib.ListN.{length, getD, drop}
