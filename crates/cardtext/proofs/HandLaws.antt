@@ -1,7 +1,7 @@
 -- A byte put many times, the ranks of a suit, and the length of a hand's text. (01: Writer, md)
 -- Assumes nothing.
 use Prim.Native.Nat.{ℕ, zero, suc, _+_, _-_, _*_, _≤_, _<_}
-use native.Mathlib.Nat.{not-suc-le-zero, add-assoc}
+use native.Mathlib.Nat.{not-suc-le-zero}
 use native.Mathlib.Omega.{arith}
 use mathlib.Core.Path.{_≡_, refl, ap, sym, _∙_}
 use mathlib.Core.List.{List, [], _∷_, _++_, append-nil}
@@ -40,22 +40,19 @@ repeat-end (suc n) b h = absurd (not-suc-le-zero h)
 
 -- Ranks from A down
 
-pub ranks-cons : (h : List ℕ) (first r : ℕ) → 0 < r
-    → ranksFrom h first r ≡ replicate (getD h (first + (r - 1)) 0) (getD (ascii "23456789TJQKA") (r - 1) 0) ++ ranksFrom h first (r - 1)
+-- the rank after k others of a suit in a deal, with its letter
+pub ranks-cons : (d : List ℕ) (seat suit k n b : ℕ) → k < 13 → suit < 4 → n ≡ getD d (seat * 52 + suit * 13 + (12 - k)) 0
+    → b ≡ getD (ascii "23456789TJQKA") (12 - k) 0
+    → ranksFrom (part d (seat * 52) 52) (suit * 13) (13 - k) ≡ replicate n b ++ ranksFrom (part d (seat * 52) 52) (suit * 13) (13 - (k + 1))
 unfolding ranksFrom
-ranks-cons h first zero k = absurd (not-suc-le-zero k)
-ranks-cons h first (suc r) k = let z : suc r - 1 ≡ r = omega arith in rw z
-
--- the next rank of a suit in a deal, with its letter
-pub suit-cons : (d : List ℕ) (seat suit r n b : ℕ) → 0 < r → r ≤ 13 → suit < 4 → n ≡ getD d (seat * 52 + suit * 13 + (r - 1)) 0
-    → b ≡ getD (ascii "23456789TJQKA") (r - 1) 0
-    → ranksFrom (part d (seat * 52) 52) (suit * 13) r ≡ replicate n b ++ ranksFrom (part d (seat * 52) 52) (suit * 13) (r - 1)
-suit-cons d seat suit r n b h k l en eb =
-    let i : ℕ = suit * 13 + (r - 1) in
-    let e : getD (part d (seat * 52) 52) i 0 ≡ n = sym (count-at d (seat * 52) 52 i (omega arith)) ∙ ap (λ (j : ℕ). getD d j 0) (sym (add-assoc (seat * 52) (suit * 13) (r - 1))) ∙ sym en in
-    ranks-cons (part d (seat * 52) 52) (suit * 13) r h
-    ∙ ap (λ (m : ℕ). replicate m (getD (ascii "23456789TJQKA") (r - 1) 0) ++ ranksFrom (part d (seat * 52) 52) (suit * 13) (r - 1)) e
-    ∙ ap (λ (x : ℕ). replicate n x ++ ranksFrom (part d (seat * 52) 52) (suit * 13) (r - 1)) (sym eb)
+ranks-cons d seat suit k n b h l en eb =
+    let q : ℕ = 12 - k in
+    let i : ℕ = suit * 13 + q in
+    let x : 13 - k ≡ suc q = omega arith in
+    let y : 13 - (k + 1) ≡ q = omega arith in
+    let z : seat * 52 + suit * 13 + q ≡ seat * 52 + i = omega arith in
+    let e : getD (part d (seat * 52) 52) i 0 ≡ n = sym (count-at d (seat * 52) 52 i (omega arith)) ∙ ap (λ (j : ℕ). getD d j 0) (sym z) ∙ sym en in
+    rw (x, y, e, ← eb)
 
 -- a suit's letter, and its ranks
 pub suit-is : (h : List ℕ) (u b : ℕ) → b ≡ getD (ascii "SHDC") u 0 → suitText h u ≡ (b ∷ []) ++ ranksFrom h (u * 13) 13
@@ -63,10 +60,9 @@ unfolding suitText
 suit-is h u b e = ap (λ (x : ℕ). x ∷ ranksFrom h (u * 13) 13) (sym e)
 
 -- no rank is left
-pub ranks-end : (h : List ℕ) (first r : ℕ) → r ≤ 0 → ranksFrom h first r ≡ []
+pub ranks-end : (h : List ℕ) (first k : ℕ) → 13 ≤ k → ranksFrom h first (13 - k) ≡ []
 unfolding ranksFrom
-ranks-end h first zero k = refl
-ranks-end h first (suc r) k = absurd (not-suc-le-zero k)
+ranks-end h first k l = let z : 13 - k ≡ 0 = omega arith in rw z
 
 -- The length of a hand's text
 

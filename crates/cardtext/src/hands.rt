@@ -36,10 +36,11 @@ fn put_ranks(out: &mut [u8], at: usize, counts: &[u32; 208], seat: usize, suit: 
 {
     let first = seat * Deal::CARDS + suit * 13;
     let mut o = at;
-    let mut r = 13;
-    while 0 < r {
-        r -= 1;
+    let mut k = 0;
+    while k < 13 {
+        let r = 12 - k;
         o = put_repeated(out, o, rank_letter(r), counts[first + r]);
+        k += 1;
     }
     o
 }
