@@ -1,0 +1,137 @@
+// A board, put into an output at a place that has room, and how many bytes it has. (01: Writer)
+use crate::heading::heading_len;
+use crate::heading::put_heading;
+use cardtext::md_len;
+use cardtext::put_md;
+use cardtext::put_tricks;
+use cardtext::tricks_len;
+use cleaning::Marks;
+use cleaning::calls_len;
+use cleaning::put_calls;
+use lin_spec::Board;
+use lin_spec::MaybeClaim;
+use lin_spec::Vulnerability;
+use output::decimal_len;
+use output::put_byte;
+use output::put_bytes;
+use output::put_decimal;
+use output::sat_add;
+ghost use mathlib.Core.Path.{_≡_};
+ghost use mathlib.Core.Bool.{false};
+ghost use mathlib.Core.List.{_∷_, []};
+ghost use lib.ListN.{length};
+ghost use Rattle.lin_spec.specs.Letters.{svLetter};
+ghost use Rattle.lin_spec.specs.Refusals.{sat};
+ghost use Rattle.lin_spec.specs.Writer.{claimText};
+ghost use Rattle.lin_spec.specs.Lent.{claimOf, badCards};
+ghost use Rattle.lin_spec.specs.Append.{writtenForm};
+ghost use Rattle.output.specs.Put.{Room, Put};
+ghost use Rattle.writer.specs.Pieces.{claimedText, dealingText};
+ghost use Rattle.writer.specs.Filing.{filing};
+
+const MD: [u8; 3] = *b"md|";
+
+const SV: [u8; 4] = *b"|sv|";
+
+const SA: [u8; 7] = *b"|\nsa|0|";
+
+const PG: [u8; 5] = *b"pg||\n";
+
+const MC: [u8; 3] = *b"mc|";
+
+const CLAIMED: [u8; 6] = *b"|pg||\n";
+
+// Puts the letter of the vulnerability.
+fn put_sv(out: &mut [u8], at: usize, v: Vulnerability) -> usize
+    requires { ⌜ Room (now out) at (svLetter v ∷ []) ⌝ }
+    ensures { λ r. ⌜ Put (now (out .entry)) at (svLetter v ∷ []) (now (out .exit)) r ⌝ }
+{
+    put_byte(out, at, v.letter())
+}
+
+// Puts the deal and the vulnerability, and what begins the calls.
+fn put_dealing(out: &mut [u8], at: usize, board: Board) -> usize
+    requires { ⌜ Room (now out) at (dealingText board) ⌝ }
+    ensures { λ r. ⌜ Put (now (out .entry)) at (dealingText board) (now (out .exit)) r ⌝ }
+{
+    let dealer = board.dealer;
+    let deal = board.deal;
+    let vulnerability = board.vulnerability;
+    let a = put_bytes(out, at, &MD);
+    let b = put_md(out, a, dealer, deal);
+    let c = put_bytes(out, b, &SV);
+    let d = put_sv(out, c, vulnerability);
+    put_bytes(out, d, &SA)
+}
+
+// How many bytes they have.
+fn dealing_len(board: Board) -> u64
+    ensures { λ r. ⌜ r ≡ sat (length (dealingText board)) ⌝ }
+{
+    let deal = board.deal;
+    sat_add(15, md_len(deal))
+}
+
+// Puts a claim that is made.
+fn put_claimed(out: &mut [u8], at: usize, n: u8) -> usize
+    requires { ⌜ Room (now out) at (claimedText n) ⌝ }
+    ensures { λ r. ⌜ Put (now (out .entry)) at (claimedText n) (now (out .exit)) r ⌝ }
+{
+    let a = put_bytes(out, at, &MC);
+    let b = put_decimal(out, a, n as u64);
+    put_bytes(out, b, &CLAIMED)
+}
+
+// Puts the claim, nothing where it is absent.
+fn put_claim(out: &mut [u8], at: usize, claim: MaybeClaim) -> usize
+    requires { ⌜ Room (now out) at (claimText (claimOf claim)) ⌝ }
+    ensures { λ r. ⌜ Put (now (out .entry)) at (claimText (claimOf claim)) (now (out .exit)) r ⌝ }
+{
+    match claim {
+        MaybeClaim::Absent => at,
+        MaybeClaim::Claimed(n) => put_claimed(out, at, n),
+    }
+}
+
+// How many bytes that has.
+fn claim_len(claim: MaybeClaim) -> u64
+    ensures { λ r. ⌜ r ≡ sat (length (claimText (claimOf claim))) ⌝ }
+{
+    match claim {
+        MaybeClaim::Absent => 0,
+        MaybeClaim::Claimed(n) => sat_add(9, decimal_len(n as u64)),
+    }
+}
+
+// Puts a board.
+pub(crate) fn put_board(
+    out: &mut [u8],
+    at: usize,
+    text: &[u8],
+    board: Board,
+    rows: &[u32],
+    cards: &[u8],
+    marks: Marks,
+) -> usize
+    requires { ⌜ Room (now out) at (writtenForm (filing marks (now text) board (now rows) (now cards))) × (badCards (now cards) ≡ false) ⌝ }
+    ensures { λ r. ⌜ Put (now (out .entry)) at (writtenForm (filing marks (now (text .entry)) board (now (rows .entry)) (now (cards .entry)))) (now (out .exit)) r ⌝ }
+{
+    let claim = board.claim;
+    let a = put_heading(out, at, text, board, marks);
+    let b = put_dealing(out, a, board);
+    let c = put_calls(out, b, text, rows, marks);
+    let d = put_bytes(out, c, &PG);
+    let e = put_tricks(out, d, cards);
+    put_claim(out, e, claim)
+}
+
+// How many bytes it has.
+pub(crate) fn board_len(text: &[u8], board: Board, rows: &[u32], cards: &[u8], marks: Marks) -> u64
+    ensures { λ r. ⌜ r ≡ sat (length (writtenForm (filing marks (now (text .entry)) board (now (rows .entry)) (now (cards .entry))))) ⌝ }
+{
+    let claim = board.claim;
+    let a = sat_add(heading_len(text, board, marks), dealing_len(board));
+    let b = sat_add(a, calls_len(text, rows));
+    let c = sat_add(b, sat_add(5, tricks_len(cards)));
+    sat_add(c, claim_len(claim))
+}
