@@ -1,9 +1,9 @@
 // The dealer and the deal of an md value. (01: Board, md)
 use cards::deal_of;
-use commands::shown;
 use lin_spec::Deal;
 use lin_spec::MaybeSpan;
 use lin_spec::Seat;
+use text::shown;
 use text::trim;
 ghost use mathlib.Core.Path.{_≡_};
 ghost use Prim.Native.Nat.{_<_, _^_};

@@ -10,7 +10,7 @@ use mathlib.Core.List.{List, [], _∷_, _++_}
 use lib.ListN.{length, getD, drop, drop-of-length-le}
 use lib.Seq.{drop-cons}
 use lib.Dec.{eqb, ltb}
-use borrow.Author.Tests.{lt-ltb, le-ltb, ltb-false, eq-eqb, ne-eqb}
+use borrow.Author.Tests.{ltb-false, eq-eqb, ne-eqb}
 use Rattle.lin_spec.specs.Base.{any, ascii, concat}
 use Rattle.lin_spec.specs.Lent.{badCards}
 use Rattle.lin_spec.specs.Writer.{cardLetters, cardText, tricks, tricksText}
@@ -25,21 +25,6 @@ unfolding any
 good-card [] h i k = absurd (not-suc-le-zero k)
 good-card (c ∷ cs) h zero k = let z = ltb-false 51 c (or-none (ltb 51 c) (any (ltb 51) cs) h .0) in omega arith
 good-card (c ∷ cs) h (suc i) k = good-card cs (or-none (ltb 51 c) (any (ltb 51) cs) h .1) i (le-of-suc-le-suc k)
-
-module _ (cs : List ℕ) (i : ℕ) where
-  -- the card at i is outside its range, or the others decide
-  pub bad-here : i < length cs → 51 < getD cs i 0 → true ≡ badCards (drop i cs)
-  unfolding any
-  bad-here h k = sym (rw (drop-cons cs i 0 h, lt-ltb 51 (getD cs i 0) k))
-
-  pub bad-next : i < length cs → getD cs i 0 ≤ 51 → badCards (drop (i + 1) cs) ≡ badCards (drop i cs)
-  unfolding any
-  bad-next h k = rw add-one (sym (rw (drop-cons cs i 0 h, le-ltb 51 (getD cs i 0) k)))
-
-  -- past the last card there is none
-  pub bad-end : length cs ≤ i → false ≡ badCards (drop i cs)
-  unfolding any
-  bad-end h = sym (rw (drop-of-length-le cs h))
 
 -- Tricks card by card
 

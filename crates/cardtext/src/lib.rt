@@ -9,6 +9,5 @@ pub use deals::implied_east;
 pub use deals::md_len;
 pub use deals::put_md;
 pub use play::format_cardplay_by_trick;
-pub use tricks::bad_cards;
 pub use tricks::put_tricks;
 pub use tricks::tricks_len;

@@ -1,6 +1,6 @@
 // The play as a text of its own, by tricks. (01: play text, `format_cardplay_by_trick`)
 use crate::letters::put_letters;
-use crate::tricks::bad_cards;
+use lent::bad_cards;
 use lin_spec::Refusal;
 use lin_spec::Written;
 use lin_spec::room;

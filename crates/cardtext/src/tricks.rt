@@ -17,20 +17,6 @@ const PC: [u8; 3] = *b"pc|";
 
 const PG: [u8; 5] = *b"pg||\n";
 
-// Whether a card is outside its range.
-pub fn bad_cards(cards: &[u8]) -> bool
-    ensures { λ r. ⌜ r ≡ badCards (now (cards .entry)) ⌝ }
-{
-    let mut i = 0;
-    while i < cards.len() {
-        if 51 < cards[i] {
-            return true;
-        }
-        i += 1;
-    }
-    false
-}
-
 // Puts a card in its pc.
 fn put_card(out: &mut [u8], at: usize, card: u8) -> usize
     requires { ⌜ Room (now out) at (cardText card) × (card < 52) ⌝ }

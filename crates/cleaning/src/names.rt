@@ -1,10 +1,10 @@
 // The four names, cleaned and without commas, into an output at a place that has room, and how many bytes they have. (01: Writer, clean)
 use crate::texts::Marks;
 use crate::texts::clean_byte;
-use crate::texts::shown;
 use lin_spec::Span;
 use output::put_byte;
 use output::sat_add;
+use text::shown;
 ghost use mathlib.Core.Path.{_≡_};
 ghost use lib.ListN.{length};
 ghost use Rattle.lin_spec.specs.Records.{bytesAt};

@@ -4,7 +4,7 @@ use lin_spec::Span;
 use output::put_byte;
 use output::put_bytes;
 use output::sat_add;
-use text::part;
+use text::shown;
 ghost use mathlib.Core.Path.{_≡_};
 ghost use Prim.Native.Nat.{ℕ};
 ghost use lib.ListN.{length};
@@ -33,13 +33,6 @@ pub(crate) fn clean_byte(b: u8, marks: Marks) -> u8
         return marks.line;
     }
     b
-}
-
-// The bytes of a span.
-pub(crate) fn shown(text: &[u8], x: Span) -> &[u8]
-    ensures { λ r. ⌜ now r ≡ bytesAt (now (text .entry)) x ⌝ }
-{
-    part(text, x.start as usize, x.len as usize)
 }
 
 // Puts a text, cleaned.

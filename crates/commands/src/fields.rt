@@ -7,9 +7,9 @@ use lin_spec::Span;
 use lin_spec::Vulnerability;
 use text::MaybeNumber;
 use text::find_byte;
-use text::part;
 use text::read_number;
 use text::same_word;
+use text::shown;
 use text::trim;
 ghost use mathlib.Core.Path.{_≡_};
 ghost use mathlib.Core.Bool.{_||_};
@@ -26,13 +26,6 @@ ghost use Rattle.lin_spec.specs.Reading.{spanText};
 ghost use Rattle.lin_spec.specs.Cards.{readCard};
 ghost use Rattle.cards.specs.Letters.{maybeOf};
 ghost use Rattle.commands.specs.Fields.{claimOf, isDealer, lastMd, namesFrom, more};
-
-// The bytes of a value.
-pub fn shown(text: &[u8], v: Span) -> &[u8]
-    ensures { λ r. ⌜ now r ≡ bytesAt (now (text .entry)) v ⌝ }
-{
-    part(text, v.start as usize, v.len as usize)
-}
 
 // mn, qx: the value; empty makes it absent.
 pub fn on_value(on: bool, v: Span, old: MaybeSpan) -> MaybeSpan

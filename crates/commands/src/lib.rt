@@ -22,7 +22,6 @@ pub use fields::on_names;
 pub use fields::on_present;
 pub use fields::on_sv;
 pub use fields::on_value;
-pub use fields::shown;
 pub use steps::Commanded;
 pub use steps::Known;
 pub use steps::next_command;

@@ -9,7 +9,7 @@ use output::put_bytes;
 use output::sat_add;
 use text::Fault;
 use text::faulty;
-use text::part;
+use text::shown;
 ghost use mathlib.Core.Path.{_≡_};
 ghost use Prim.Native.Nat.{_-_, _≤_};
 ghost use lib.ListN.{length};
@@ -42,13 +42,6 @@ fn row_at(rows: &[u32], i: usize) -> Row
         len: rows[i + 3],
     };
     Row { command, value }
-}
-
-// The bytes of a span.
-fn shown(text: &[u8], x: Span) -> &[u8]
-    ensures { λ r. ⌜ now r ≡ bytesAt (now (text .entry)) x ⌝ }
-{
-    part(text, x.start as usize, x.len as usize)
 }
 
 // Puts the bytes of a span.

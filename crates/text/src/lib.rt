@@ -11,6 +11,7 @@ pub use parts::faulty;
 pub use parts::find_byte;
 pub use parts::part;
 pub use parts::same_bytes;
+pub use parts::shown;
 pub use utf8::is_utf8;
 pub use utf8::well_formed_len;
 pub use white::is_blank;

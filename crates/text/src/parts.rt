@@ -3,7 +3,7 @@ use crate::utf8::is_utf8;
 use lin_spec::Span;
 ghost use mathlib.Core.Path.{_≡_};
 ghost use Rattle.lin_spec.specs.Base.{eqList};
-ghost use Rattle.lin_spec.specs.Records.{part as partOf};
+ghost use Rattle.lin_spec.specs.Records.{part as partOf, bytesAt};
 ghost use Rattle.lin_spec.specs.Cursor.{findFrom};
 ghost use Rattle.text.specs.Fault.{faultOf};
 
@@ -18,6 +18,13 @@ pub fn part(s: &[u8], start: usize, len: usize) -> &[u8]
         return &s[start..];
     }
     &s[start..start + len]
+}
+
+// The bytes of a span, or as many as there are.
+pub fn shown(text: &[u8], x: Span) -> &[u8]
+    ensures { λ r. ⌜ now r ≡ bytesAt (now (text .entry)) x ⌝ }
+{
+    part(text, x.start as usize, x.len as usize)
 }
 
 // What can be wrong with a span: refusals 5 and 6.

@@ -14,7 +14,7 @@ use Rattle.board.proofs.calls.call_of.Reads as reads
 use Rattle.board.proofs.calls.call_of.Lts as lts
 use Rattle.board.proofs.calls.bid_len.Reads as bid-len-reads
 use Rattle.board.proofs.calls.flag_of.Reads as flag-of-reads
-use Rattle.commands.proofs.shown.Reads as shown-reads
+use Rattle.text.proofs.shown.Reads as shown-reads
 
 -- src/calls.rt:72:21
 shown-requires : tie.Need-shown-requires

@@ -10,7 +10,7 @@ use Rattle.board.proofs.dealing.dealt_by.Reads as reads
 use Rattle.board.proofs.dealing.dealt_by.Lts as lts
 use Rattle.board.proofs.dealing.read_md.Reads as read-md-reads
 use Rattle.board.proofs.dealing.undealt.Reads as undealt-reads
-use Rattle.commands.proofs.shown.Reads as shown-reads
+use Rattle.text.proofs.shown.Reads as shown-reads
 use Rattle.text.proofs.trim.Reads as trim-reads
 
 -- src/dealing.rt:76:30

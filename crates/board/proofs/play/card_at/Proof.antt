@@ -9,7 +9,7 @@ use Rattle.board.proofs.play.card_at.Statement.{statement}
 use Rattle.board.proofs.play.card_at.Tie as tie
 use Rattle.board.proofs.play.card_at.Reads as reads
 use Rattle.board.proofs.play.card_at.Lts as lts
-use Rattle.commands.proofs.shown.Reads as shown-reads
+use Rattle.text.proofs.shown.Reads as shown-reads
 use Rattle.cards.proofs.read_card.Reads as read-card-reads
 use Rattle.text.proofs.trim.Reads as trim-reads
 

@@ -10,7 +10,7 @@ use Rattle.commands.proofs.fields.on_md.Tie as tie
 use Rattle.commands.proofs.fields.on_md.Reads as reads
 use Rattle.commands.proofs.fields.on_md.Lts as lts
 use Rattle.commands.proofs.fields.is_dealer.Reads as is-dealer-reads
-use Rattle.commands.proofs.fields.shown.Reads as shown-reads
+use Rattle.text.proofs.shown.Reads as shown-reads
 use Rattle.text.proofs.trim.Reads as trim-reads
 
 -- src/fields.rt:131:9

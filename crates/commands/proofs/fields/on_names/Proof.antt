@@ -13,7 +13,7 @@ use Rattle.commands.proofs.fields.on_names.Statement.{statement}
 use Rattle.commands.proofs.fields.on_names.Tie as tie
 use Rattle.commands.proofs.fields.on_names.Reads as reads
 use Rattle.commands.proofs.fields.on_names.Lts as lts
-use Rattle.commands.proofs.fields.shown.Reads as shown-reads
+use Rattle.text.proofs.shown.Reads as shown-reads
 use Rattle.commands.proofs.fields.split_names.Reads as split-names-reads
 
 -- src/fields.rt:63:9

@@ -14,7 +14,7 @@ use Rattle.document.proofs.writer.document_len.Reads as reads
 use Rattle.document.proofs.writer.document_len.Lts as lts
 use Rattle.document.proofs.writer.row_at.Reads as row-at-reads
 use Rattle.document.proofs.writer.row_len.Reads as row-len-reads
-use Rattle.document.proofs.writer.shown.Reads as shown-reads
+use Rattle.text.proofs.shown.Reads as shown-reads
 use Rattle.output.proofs.sat_add.Reads as sat-add-reads
 
 abbrev Inv-loop : tie.InvT-loop

@@ -5,7 +5,7 @@ use Rattle.document.proofs.writer.put_span.Statement.{statement}
 use Rattle.document.proofs.writer.put_span.Tie as tie
 use Rattle.document.proofs.writer.put_span.Reads as reads
 use Rattle.document.proofs.writer.put_span.Lts as lts
-use Rattle.document.proofs.writer.shown.Reads as shown-reads
+use Rattle.text.proofs.shown.Reads as shown-reads
 use Rattle.output.proofs.put_bytes.Reads as put-bytes-reads
 
 -- src/writer.rt:50:24

@@ -10,7 +10,7 @@ use Rattle.document.proofs.writer.row_len.Statement.{statement}
 use Rattle.document.proofs.writer.row_len.Tie as tie
 use Rattle.document.proofs.writer.row_len.Reads as reads
 use Rattle.document.proofs.writer.row_len.Lts as lts
-use Rattle.document.proofs.writer.shown.Reads as shown-reads
+use Rattle.text.proofs.shown.Reads as shown-reads
 use Rattle.output.proofs.sat_add.Reads as sat-add-reads
 
 -- src/writer.rt:82:13
