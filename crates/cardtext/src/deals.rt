@@ -75,13 +75,6 @@ fn implied(counts: &[u32; 208]) -> bool
     is_rest(counts, east)
 }
 
-// Whether a written deal leaves East out.
-pub fn implied_east(deal: Deal) -> bool
-    ensures { λ r. ⌜ r ≡ impliedEast (deal .counts) ⌝ }
-{
-    implied(&deal.counts)
-}
-
 // The digit of the dealer.
 fn dealer_digit(dealer: Seat) -> u8
     ensures { λ r. ⌜ r ≡ dealerDigit dealer ⌝ }

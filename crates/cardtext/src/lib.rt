@@ -5,7 +5,6 @@ mod letters;
 mod play;
 mod tricks;
 
-pub use deals::implied_east;
 pub use deals::md_len;
 pub use deals::put_md;
 pub use play::format_cardplay_by_trick;

@@ -3,8 +3,8 @@ use lent::call_at;
 use lin_spec::Call;
 use lin_spec::MaybeSpan;
 use lin_spec::Span;
-use text::part;
 use text::same_bytes;
+use text::shown;
 ghost use mathlib.Core.Path.{_≡_};
 ghost use mathlib.Core.Bool.{not};
 ghost use mathlib.Core.List.{map};
@@ -19,10 +19,7 @@ ghost use Rattle.equality.specs.Parts.{callBytes, callsBytes};
 fn same_span(text: &[u8], x: Span, text2: &[u8], y: Span) -> bool
     ensures { λ r. ⌜ r ≡ eqList (bytesAt (now (text .entry)) x) (bytesAt (now (text2 .entry)) y) ⌝ }
 {
-    same_bytes(
-        part(text, x.start as usize, x.len as usize),
-        part(text2, y.start as usize, y.len as usize),
-    )
+    same_bytes(shown(text, x), shown(text2, y))
 }
 
 // Whether the names of each seat are the same.
