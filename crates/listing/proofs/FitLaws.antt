@@ -41,7 +41,7 @@ use Rattle.lin_spec.proofs.Cards.{Under, hand-length, hand-sum, field-length}
 use Rattle.lin_spec.proofs.Decimal.{length-short, length-long}
 use Rattle.lin_spec.proofs.Rules.{number-only}
 use Rattle.lin_spec.proofs.Reading.{part-most}
-use Rattle.lin_spec.proofs.File.{visits}
+use Rattle.lin_spec.proofs.File.{visit-is, visits}
 use Rattle.file.specs.Sections.{standingOf}
 use Rattle.file.specs.Numbers.{Ready}
 use Rattle.file.specs.declared.sections.BoardCursor.{BoardCursor}
@@ -280,11 +280,12 @@ Taken c (found n p d) = Takes c p d
 Taken c (ended d) = Unit
 
 taken : (s : List ℕ) (c : Standing) → Taken c (visit s c)
-unfolding visit stream
+unfolding stream
 taken s c =
-    picked (Taken c) (c .lines)
+    subst (Taken c) (sym (visit-is s c))
+    (picked (Taken c) (c .lines)
     (λ _. picked (Taken c) (ltb (length s) (c .at)) (λ _. tt) (λ _. record { starts = refl; stops = omega arith; two = λ h. let k = one-byte _ h in omega arith }))
-    (λ _. picked (Taken c) (null (stream s (c .at))) (λ _. tt) (λ _. record { starts = refl; stops = omega arith; two = part-two s (c .at) _ }))
+    (λ _. picked (Taken c) (null (stream s (c .at))) (λ _. tt) (λ _. record { starts = refl; stops = omega arith; two = part-two s (c .at) _ })))
   where
     part-two : (s : List ℕ) (a e : ℕ) → holds (ascii "md") (tokensIn s a e) ≡ true → a + 2 ≤ e
     part-two s a e h =
