@@ -12,7 +12,7 @@ use Rattle.lin_spec.specs.Base.{any}
 use Rattle.lin_spec.specs.Records.{limit, optionOf}
 use Rattle.lin_spec.specs.Refusals.{unless, passesEnd, illSpan}
 use Rattle.lin_spec.specs.Refusals.Answer.{refused, accepted}
-use Rattle.lin_spec.specs.Lent.{callRows, callIn, Lent, lent, lentBoard, spanIn, callSpans, lentSpans, badFlag, badCards, badNumber, lentChecks}
+use Rattle.lin_spec.specs.Lent.{rowsOf, callRow, callRows, callIn, Lent, lent, lentBoard, spanIn, callSpans, lentSpans, badFlag, badCards, badNumber, lentChecks}
 use Rattle.lin_spec.specs.declared.Span.{Span}
 use Rattle.lin_spec.specs.declared.MaybeSpan.{MaybeSpan}
 use Rattle.lin_spec.specs.declared.MaybeSpan.the-variants.{Absent, Present}
@@ -25,59 +25,71 @@ use Rattle.lin_spec.specs.declared.Refusal.the-variants.{TextTooLong, OutOfRang
 use Rattle.lin_spec.proofs.Base.{or-none}
 use Rattle.lin_spec.proofs.Checks.{unmet, unless-refused, unless-passed}
 use Rattle.text.proofs.ListLaws.{next-word}
-use Rattle.lent.specs.Calls.{callAt, spansOf}
+use Rattle.lent.specs.Calls.{rowAt, callAt, spansOf}
 use Rattle.lent.specs.Checks.{verdictOf, checked}
 
--- The rows
-
--- one call off the front
-pub rows-cons : (ws : List ℕ) (i : ℕ) → 6 ≤ length ws - i → callRows (drop i ws) ≡ callAt ws i ∷ callRows (drop (i + 6) ws)
-unfolding callRows
-rows-cons ws i h =
-    let a = next-word ws i (i + 1) refl (omega arith) in
-    let b = next-word ws (i + 1) (i + 2) (omega arith) (omega arith) in
-    let c = next-word ws (i + 2) (i + 3) (omega arith) (omega arith) in
-    let d = next-word ws (i + 3) (i + 4) (omega arith) (omega arith) in
-    let e = next-word ws (i + 4) (i + 5) (omega arith) (omega arith) in
-    let f = next-word ws (i + 5) (i + 6) (omega arith) (omega arith) in
-    rw (a, b, c, d, e, f)
-
--- how many there are
-pub rows-count : (ws : List ℕ) → length (callRows ws) ≡ length ws / 6
-unfolding callRows
-rows-count [] = refl
-rows-count (a ∷ []) = refl
-rows-count (a ∷ b ∷ []) = refl
-rows-count (a ∷ b ∷ c ∷ []) = refl
-rows-count (a ∷ b ∷ c ∷ d ∷ []) = refl
-rows-count (a ∷ b ∷ c ∷ d ∷ e ∷ []) = refl
-rows-count (a ∷ b ∷ c ∷ d ∷ e ∷ f ∷ ws) = let z = rows-count ws in omega arith
-
-pub no-rows : (cs : List Call) → length cs ≡ 0 → cs ≡ []
+pub no-rows : {A : Type 0} (cs : List A) → length cs ≡ 0 → cs ≡ []
 no-rows [] h = refl
 no-rows (c ∷ cs) h = absurd (let z : ⊥ = omega arith in z)
 
--- a rest is no row
+-- The rows, of any kind
+
+module _ {A : Type 0} (f : ℕ → ℕ → ℕ → ℕ → ℕ → ℕ → A) where
+  -- one row off the front
+  pub rows-front : (ws : List ℕ) (i : ℕ) → 6 ≤ length ws - i → rowsOf f (drop i ws) ≡ rowAt f ws i ∷ rowsOf f (drop (i + 6) ws)
+  unfolding rowsOf
+  rows-front ws i h =
+      let a = next-word ws i (i + 1) refl (omega arith) in
+      let b = next-word ws (i + 1) (i + 2) (omega arith) (omega arith) in
+      let c = next-word ws (i + 2) (i + 3) (omega arith) (omega arith) in
+      let d = next-word ws (i + 3) (i + 4) (omega arith) (omega arith) in
+      let e = next-word ws (i + 4) (i + 5) (omega arith) (omega arith) in
+      let g = next-word ws (i + 5) (i + 6) (omega arith) (omega arith) in
+      rw (a, b, c, d, e, g)
+
+  -- how many there are
+  pub rows-many : (ws : List ℕ) → length (rowsOf f ws) ≡ length ws / 6
+  unfolding rowsOf
+  rows-many [] = refl
+  rows-many (a ∷ []) = refl
+  rows-many (a ∷ b ∷ []) = refl
+  rows-many (a ∷ b ∷ c ∷ []) = refl
+  rows-many (a ∷ b ∷ c ∷ d ∷ []) = refl
+  rows-many (a ∷ b ∷ c ∷ d ∷ e ∷ []) = refl
+  rows-many (a ∷ b ∷ c ∷ d ∷ e ∷ g ∷ ws) = let z = rows-many ws in omega arith
+
+  -- a rest is no row
+  pub rows-rest : (ws : List ℕ) (i : ℕ) → length ws - i < 6 → rowsOf f (drop i ws) ≡ []
+  rows-rest ws i h = no-rows (rowsOf f (drop i ws)) (omega (arith, rows-many (drop i ws), length-drop i ws))
+
+-- Calls
+
+pub rows-cons : (ws : List ℕ) (i : ℕ) → 6 ≤ length ws - i → callRows (drop i ws) ≡ callAt ws i ∷ callRows (drop (i + 6) ws)
+rows-cons ws i h = rows-front callRow ws i h
+
+pub rows-count : (ws : List ℕ) → length (callRows ws) ≡ length ws / 6
+rows-count ws = rows-many callRow ws
+
 pub rows-end : (ws : List ℕ) (i : ℕ) → length ws - i < 6 → callRows (drop i ws) ≡ []
-rows-end ws i h = no-rows (callRows (drop i ws)) (omega (arith, rows-count (drop i ws), length-drop i ws))
+rows-end ws i h = rows-rest callRow ws i h
 
--- Whether a call passes a test: none of those before word i does
+-- Whether a row passes a test: none of those before word i does
 
-module _ (f : Call → Bool) (ws : List ℕ) (i : ℕ) (v : any f (callRows (drop i ws)) ≡ any f (callRows ws)) where
-  pub any-row-end : length ws - i < 6 → false ≡ any f (callRows ws)
+module _ {A : Type 0} (g : ℕ → ℕ → ℕ → ℕ → ℕ → ℕ → A) (f : A → Bool) (ws : List ℕ) (i : ℕ) (v : any f (rowsOf g (drop i ws)) ≡ any f (rowsOf g ws)) where
+  pub none-row : length ws - i < 6 → false ≡ any f (rowsOf g ws)
   unfolding any
-  any-row-end h = (let z = rw (rows-end ws i h) at v in z)
+  none-row h = (let z = rw (rows-rest g ws i h) at v in z)
 
-  module _ (h : 6 ≤ length ws - i) (c : Call) (q : c ≡ callAt ws i) (t : Bool) (e : t ≡ f c) where
-    any-row-cons : any f (callRows (drop i ws)) ≡ (t || any f (callRows (drop (i + 6) ws)))
+  module _ (h : 6 ≤ length ws - i) (c : A) (q : c ≡ rowAt g ws i) (t : Bool) (e : t ≡ f c) where
+    row-cons : any f (rowsOf g (drop i ws)) ≡ (t || any f (rowsOf g (drop (i + 6) ws)))
     unfolding any
-    any-row-cons = rw (rows-cons ws i h, ← q, e) refl
+    row-cons = rw (rows-front g ws i h, ← q, e) refl
 
-    pub any-row-found : t ≡ true → true ≡ any f (callRows ws)
-    any-row-found k = sym (sym v ∙ any-row-cons ∙ simp k)
+    pub found-row : t ≡ true → true ≡ any f (rowsOf g ws)
+    found-row k = sym (sym v ∙ row-cons ∙ simp k)
 
-    pub any-row-next : t ≡ false → any f (callRows (drop (i + 6) ws)) ≡ any f (callRows ws)
-    any-row-next k = (let z : any f (callRows (drop (i + 6) ws)) ≡ (t || any f (callRows (drop (i + 6) ws))) = simp k in z) ∙ sym any-row-cons ∙ v
+    pub next-row : t ≡ false → any f (rowsOf g (drop (i + 6) ws)) ≡ any f (rowsOf g ws)
+    next-row k = (let z : any f (rowsOf g (drop (i + 6) ws)) ≡ (t || any f (rowsOf g (drop (i + 6) ws))) = simp k in z) ∙ sym row-cons ∙ v
 
 -- A text that may be absent
 

@@ -16,7 +16,7 @@ use Rattle.lin_spec.specs.Refusals.{illSpan}
 use Rattle.lin_spec.specs.Utf8.{utf8}
 use Rattle.lin_spec.specs.Board.{CallOf, BoardOf, mapOption, mapCall, mapBoard, Present, EachText}
 use Rattle.lin_spec.specs.Reading.{maybeOf, claimedOf, headingOf, flag, annotationWords, callWords}
-use Rattle.lin_spec.specs.Lent.{Lent, lent, callRows, callIn, claimOf, lentBoard, meaning, spanIn, callSpans, lentSpans, badCards, badNumber}
+use Rattle.lin_spec.specs.Lent.{Lent, lent, callRows, rowsOf, callIn, claimOf, lentBoard, meaning, spanIn, callSpans, lentSpans, badCards, badNumber}
 use Rattle.lin_spec.specs.declared.Span.{Span}
 use Rattle.lin_spec.proofs.Base.{or-none}
 use Rattle.lin_spec.proofs.Reading.{board-eq}
@@ -110,7 +110,7 @@ accepted-utf8 x e =
 -- What a reader gives, lent again
 
 rows-back : (cs : List (CallOf Span)) → map callIn (callRows (callWords cs)) ≡ cs
-unfolding callWords callRows
+unfolding callWords rowsOf
 rows-back [] = refl
 rows-back (c ∷ cs) = go (c .alerted) (c .annotation) (rows-back cs)
   where

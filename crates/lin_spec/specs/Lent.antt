@@ -17,15 +17,22 @@ use Rattle.lin_spec.specs.declared.Board.{Board}
 use Rattle.lin_spec.specs.declared.Refusal.{Refusal}
 use Rattle.lin_spec.specs.declared.Refusal.the-variants.{OutOfRange}
 
--- "The calls stand in a list of rows lent by the caller": six words to a row, as a reader stores them, and a rest is no row
-unfoldable pub callRows : (words : List ℕ) → List Call
-callRows (a ∷ n ∷ t ∷ u ∷ b ∷ m ∷ ws) = record { bid = span a n; alerted = t; annotated = u; annotation = span b m } ∷ callRows ws
-callRows (a ∷ n ∷ t ∷ u ∷ b ∷ []) = []
-callRows (a ∷ n ∷ t ∷ u ∷ []) = []
-callRows (a ∷ n ∷ t ∷ []) = []
-callRows (a ∷ n ∷ []) = []
-callRows (a ∷ []) = []
-callRows [] = []
+-- "a list of rows lent by the caller": six words to a row, and a rest is no row
+unfoldable pub rowsOf : {A : Type 0} → (row : ℕ → ℕ → ℕ → ℕ → ℕ → ℕ → A) → (words : List ℕ) → List A
+rowsOf f (a ∷ b ∷ c ∷ d ∷ e ∷ g ∷ ws) = f a b c d e g ∷ rowsOf f ws
+rowsOf f (a ∷ b ∷ c ∷ d ∷ e ∷ []) = []
+rowsOf f (a ∷ b ∷ c ∷ d ∷ []) = []
+rowsOf f (a ∷ b ∷ c ∷ []) = []
+rowsOf f (a ∷ b ∷ []) = []
+rowsOf f (a ∷ []) = []
+rowsOf f [] = []
+
+-- a call's row, as a reader stores it
+abbrev pub callRow : (a n alerted annotated b m : ℕ) → Call
+callRow a n t u b m = record { bid = span a n; alerted = t; annotated = u; annotation = span b m }
+
+abbrev pub callRows : (words : List ℕ) → List Call
+callRows ws = rowsOf callRow ws
 
 -- "bid span, alerted or not, annotation span or absent"
 abbrev pub callIn : Call → CallOf Span

@@ -15,7 +15,7 @@ use Rattle.lin_spec.specs.Decimal.{digit, decimal}
 use Rattle.lin_spec.specs.Board.{CallOf, BoardOf, mapOption}
 use Rattle.lin_spec.specs.Reading.{headed, callWords, fewRows}
 use Rattle.lin_spec.specs.Writer.{clean, cleanName, orEmpty, present}
-use Rattle.lin_spec.specs.Lent.{spanIn}
+use Rattle.lin_spec.specs.Lent.{rowsOf, spanIn}
 use Rattle.lin_spec.specs.Annotation.{noteSpans, annotationText}
 use Rattle.lin_spec.specs.declared.Span.{Span}
 use Rattle.lin_spec.specs.declared.MaybeSpan.{MaybeSpan}
@@ -33,14 +33,11 @@ use Rattle.lin_spec.specs.declared.Heading.{Heading}
 use Rattle.lin_spec.specs.declared.Refusal.the-variants.{OutOfRange}
 
 -- "calls (pass, double, redouble, bid 1 to 7 with strain C D H S N, continue, blank) with raw annotation": six words to a row
-unfoldable pub pbnRows : (words : List ℕ) → List PbnCall
-pbnRows (k ∷ l ∷ t ∷ u ∷ a ∷ n ∷ ws) = record { kind = k; level = l; strain = t; annotated = u; annotation = span a n } ∷ pbnRows ws
-pbnRows (k ∷ l ∷ t ∷ u ∷ a ∷ []) = []
-pbnRows (k ∷ l ∷ t ∷ u ∷ []) = []
-pbnRows (k ∷ l ∷ t ∷ []) = []
-pbnRows (k ∷ l ∷ []) = []
-pbnRows (k ∷ []) = []
-pbnRows [] = []
+abbrev pub pbnRow : (kind level strain annotated a n : ℕ) → PbnCall
+pbnRow k l t u a n = record { kind = k; level = l; strain = t; annotated = u; annotation = span a n }
+
+abbrev pub pbnRows : (words : List ℕ) → List PbnCall
+pbnRows ws = rowsOf pbnRow ws
 
 -- "play entries, a card or a gap": a byte each
 abbrev pub gap : ℕ

@@ -5,8 +5,8 @@ use native.Mathlib.Omega.{arith}
 use mathlib.Core.Path.{_≡_, refl}
 use lib.ListN.{length, drop}
 use Rattle.lin_spec.specs.Base.{any}
-use Rattle.lin_spec.specs.Lent.{callRows, badFlag}
-use Rattle.lent.proofs.LentLaws.{any-row-end, any-row-found, any-row-next}
+use Rattle.lin_spec.specs.Lent.{callRow, callRows, badFlag}
+use Rattle.lent.proofs.LentLaws.{none-row, found-row, next-row}
 use Rattle.lent.proofs.checks.bad_flags.Statement.{statement}
 use Rattle.lent.proofs.checks.bad_flags.Tie as tie
 
@@ -29,7 +29,7 @@ bad-flag-requires : tie.Need-bad-flag-requires Inv-loop μ-loop
 bad-flag-requires c κs = tt
 
 returns : tie.Need-returns Inv-loop μ-loop
-returns c = any-row-found badFlag _ _ (c .before .before .before .before .loop .inv .1) (c .before .before .before .loop-test .taken) _ (c .before .before .call-at .ensures) _ (c .before .bad-flag .ensures) (c .if1 .taken)
+returns c = found-row callRow badFlag _ _ (c .before .before .before .before .loop .inv .1) (c .before .before .before .loop-test .taken) _ (c .before .before .call-at .ensures) _ (c .before .bad-flag .ensures) (c .if1 .taken)
 
 add-i : tie.Need-add-i Inv-loop μ-loop
 add-i c = omega arith
@@ -38,10 +38,10 @@ loop-less : tie.Need-loop-less Inv-loop μ-loop
 loop-less c = omega arith
 
 loop-again : tie.Need-loop-again Inv-loop μ-loop
-loop-again c = (omega arith, any-row-next badFlag _ _ (c .before .before .before .before .loop .inv .1) (c .before .before .before .loop-test .taken) _ (c .before .before .call-at .ensures) _ (c .before .bad-flag .ensures) (c .if1 .left))
+loop-again c = (omega arith, next-row callRow badFlag _ _ (c .before .before .before .before .loop .inv .1) (c .before .before .before .loop-test .taken) _ (c .before .before .call-at .ensures) _ (c .before .bad-flag .ensures) (c .if1 .left))
 
 returns-2 : tie.Need-returns-2 Inv-loop μ-loop
-returns-2 c = any-row-end badFlag _ _ (c .before .loop .inv .1) (c .loop-test .left)
+returns-2 c = none-row callRow badFlag _ _ (c .before .loop .inv .1) (c .loop-test .left)
 
 pub bad-flags-spec : {M : Type 1} → statement M
 bad-flags-spec =

@@ -5,10 +5,10 @@ use native.Mathlib.Omega.{arith}
 use mathlib.Core.Path.{_≡_, refl}
 use lib.ListN.{length, drop}
 use Rattle.lin_spec.specs.Base.{any}
-use Rattle.lin_spec.specs.Lent.{callRows}
+use Rattle.lin_spec.specs.Lent.{callRow, callRows}
 use Rattle.text.specs.Fault.{faultOf}
 use Rattle.lent.specs.Calls.{spansOf}
-use Rattle.lent.proofs.LentLaws.{any-row-end, any-row-found, any-row-next}
+use Rattle.lent.proofs.LentLaws.{none-row, found-row, next-row}
 use Rattle.lent.proofs.checks.row_faulty.Statement.{statement}
 use Rattle.lent.proofs.checks.row_faulty.Tie as tie
 
@@ -31,7 +31,7 @@ call-faulty-requires : tie.Need-call-faulty-requires Inv-loop μ-loop
 call-faulty-requires c κs = tt
 
 returns : tie.Need-returns Inv-loop μ-loop
-returns c = any-row-found _ _ _ (c .before .before .before .before .loop .inv .1) (c .before .before .before .loop-test .taken) _ (c .before .before .call-at .ensures) _ (c .before .call-faulty .ensures) (c .if1 .taken)
+returns c = found-row callRow _ _ _ (c .before .before .before .before .loop .inv .1) (c .before .before .before .loop-test .taken) _ (c .before .before .call-at .ensures) _ (c .before .call-faulty .ensures) (c .if1 .taken)
 
 add-i : tie.Need-add-i Inv-loop μ-loop
 add-i c = omega arith
@@ -40,10 +40,10 @@ loop-less : tie.Need-loop-less Inv-loop μ-loop
 loop-less c = omega arith
 
 loop-again : tie.Need-loop-again Inv-loop μ-loop
-loop-again c = (omega arith, any-row-next _ _ _ (c .before .before .before .before .loop .inv .1) (c .before .before .before .loop-test .taken) _ (c .before .before .call-at .ensures) _ (c .before .call-faulty .ensures) (c .if1 .left))
+loop-again c = (omega arith, next-row callRow _ _ _ (c .before .before .before .before .loop .inv .1) (c .before .before .before .loop-test .taken) _ (c .before .before .call-at .ensures) _ (c .before .call-faulty .ensures) (c .if1 .left))
 
 returns-2 : tie.Need-returns-2 Inv-loop μ-loop
-returns-2 c = any-row-end _ _ _ (c .before .loop .inv .1) (c .loop-test .left)
+returns-2 c = none-row callRow _ _ _ (c .before .loop .inv .1) (c .loop-test .left)
 
 pub row-faulty-spec : {M : Type 1} → statement M
 row-faulty-spec =
