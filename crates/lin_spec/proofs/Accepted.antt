@@ -9,15 +9,20 @@ use mathlib.Core.List.{List, [], _∷_, _++_, map}
 use mathlib.Core.Option.{Option, none, some}
 use lib.ListN.{length, length-map}
 use lib.Dec.{ltb}
-use borrow.Author.Tests.{ltb-false}
+use borrow.Author.Tests.{ltb-false, le-ltb}
 use Rattle.lin_spec.specs.Base.{All, any}
 use Rattle.lin_spec.specs.Records.{bytesAt, optionOf}
-use Rattle.lin_spec.specs.Refusals.{illSpan}
+use Rattle.lin_spec.specs.Refusals.{Answer, refuseIf, unless, illSpan, tooSmall, sat}
+use Rattle.lin_spec.specs.Refusals.Answer.{refused, accepted}
+use Rattle.lin_spec.specs.Output.{Outcome, room, outputAfter, fill}
 use Rattle.lin_spec.specs.Utf8.{utf8}
 use Rattle.lin_spec.specs.Board.{CallOf, BoardOf, mapOption, mapCall, mapBoard, Present, EachText}
 use Rattle.lin_spec.specs.Reading.{maybeOf, claimedOf, headingOf, flag, annotationWords, callWords}
-use Rattle.lin_spec.specs.Lent.{Lent, lent, callRows, rowsOf, callIn, claimOf, lentBoard, meaning, spanIn, callSpans, lentSpans, badCards, badNumber}
+use Rattle.lin_spec.specs.Append.{plain, writtenForm, extended, appended, writeLin}
+use Rattle.lin_spec.specs.Lent.{Lent, lentChecks, lent, callRows, rowsOf, callIn, claimOf, lentBoard, meaning, spanIn, callSpans, lentSpans, badCards, badNumber}
 use Rattle.lin_spec.specs.declared.Span.{Span}
+use Rattle.lin_spec.specs.declared.Refusal.{Refusal}
+use Rattle.lin_spec.specs.declared.Refusal.the-variants.{OutputTooSmall}
 use Rattle.lin_spec.proofs.Base.{or-none}
 use Rattle.lin_spec.proofs.Reading.{board-eq}
 use Rattle.lin_spec.specs.ThirdDemand.{Typed}
@@ -141,3 +146,19 @@ claim-back (some n) = refl
 pub lent-back : (t : List ℕ) (b : BoardOf Span) → lentBoard (lent t (headingOf b .board) (callWords (b .calls)) (b .play)) ≡ b
 unfolding lentBoard
 lent-back t b = board-eq refl refl refl (option-back (b .title)) (option-back (b .room)) (option-back (b .header)) (rows-back (b .calls)) refl (claim-back (b .claim))
+
+-- `write_lin` "from the first byte": an append after no used byte fills the output and gives the length
+
+pub write-fills : (x : Lent) (o : List ℕ) → writeLin x o ≡ fill (lentChecks false x ++ (tooSmall (room o) (length (writtenForm (plain x))) ∷ [])) o (writtenForm (plain x))
+unfolding appended fill
+write-fills x o =
+    let s = writtenForm (plain x) in
+    let n : ltb (room o) 0 ≡ false = le-ltb (room o) 0 (omega arith) in
+    let z : 0 + length s ≡ length s = omega arith in
+    let checks : Bool → ℕ → List (Option Refusal) = λ t k. lentChecks t x ++ (refuseIf (ltb (room o) k) (OutputTooSmall (sat (length s))) ∷ []) in
+    let outcome : Answer ℕ → Outcome = λ a. record { answer = a; output = outputAfter a o s } in
+    go (unless (checks (ltb (room o) 0) (0 + length s)) (0 + length s)) ∙ ap (λ (t : Bool). outcome (unless (checks t (0 + length s)) (0 + length s))) n ∙ ap (λ (k : ℕ). outcome (unless (checks false k) k)) z
+  where
+    go : (a : Answer ℕ) → _≡_ {A = Outcome} (record { answer = a; output = extended a o 0 (writtenForm (plain x)) }) (record { answer = a; output = outputAfter a o (writtenForm (plain x)) })
+    go (refused r) = refl
+    go (accepted n) = refl
