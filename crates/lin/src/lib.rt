@@ -44,6 +44,13 @@ pub use file::file_heading;
 pub use file::find_name;
 pub use file::open_boards;
 
+// The writer. (01: Writer; play text; equality)
+pub use cardtext::format_cardplay_by_trick;
+pub use equality::same_board;
+pub use lin_spec::Equality;
+pub use writer::append;
+pub use writer::write_lin;
+
 // The lines of a listing. (01: Program linlist)
 pub use listing::board_line;
 pub use listing::header_line;

@@ -2,3 +2,5 @@ pub mod Answers
 pub mod Tokens
 pub mod Boards
 pub mod Files
+pub mod Codes
+pub mod Writing

@@ -1,12 +1,9 @@
--- A step of the cursor, a remainder and a written document as numbers. (01: Tokens)
+-- A step of the cursor and a remainder as numbers. (01: Tokens)
 use Prim.Native.Nat.{ℕ}
 use mathlib.Core.List.{List}
 use lib.ListN.{length}
 use Rattle.lin_spec.specs.Cursor.{Step, remainder}
 use Rattle.lin_spec.specs.Cursor.Step.{found, ended}
-use Rattle.lin_spec.specs.Output.{Outcome as Written}
-use Rattle.lin_host.specs.Answers.{numbersOf}
-use Rattle.lin_host.specs.declared.answers.LinAnswer.{LinAnswer}
 use Rattle.lin_host.specs.declared.tokens.LinStep.{LinStep}
 use Rattle.lin_host.specs.declared.tokens.LinPart.{LinPart}
 
@@ -33,11 +30,3 @@ stepNumbers (ended n) =
 -- the remainder from a place on, as a part of the text
 abbrev pub restNumbers : List ℕ → (at : ℕ) → LinPart
 restNumbers s at = record { start = at; len = length (remainder s at) }
-
--- an answer, and the output afterwards
-pub record Outcome : Type 0 where
-  pub answer : LinAnswer
-  pub output : List ℕ
-
-abbrev pub outcomeNumbers : Written → Outcome
-outcomeNumbers w = record { answer = numbersOf (w .answer); output = w .output }

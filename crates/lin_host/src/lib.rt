@@ -1,8 +1,10 @@
 // The entries as C functions on numbers and byte slices, for the Rust host. (01: "Entries on numbers and byte slices are exported ..")
 mod answers;
 mod boards;
+mod codes;
 mod files;
 mod tokens;
+mod writing;
 
 pub use answers::LinAnswer;
 pub use boards::LinBoard;
@@ -24,3 +26,7 @@ pub use tokens::lin_next;
 pub use tokens::lin_open;
 pub use tokens::lin_trailing;
 pub use tokens::lin_write_document;
+pub use writing::lin_append;
+pub use writing::lin_play_text;
+pub use writing::lin_same_board;
+pub use writing::lin_write_lin;

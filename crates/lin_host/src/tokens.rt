@@ -1,6 +1,7 @@
 // The entries of tokens: the cursor, the trailing text and the document writer. (01: Tokens)
 use crate::answers::LinAnswer;
 use crate::answers::refusal;
+use crate::answers::written;
 use document::Cursor;
 use document::Opened;
 use document::Step;
@@ -8,15 +9,13 @@ use document::open;
 use document::trailing;
 use document::write_document;
 use lin_spec::Span;
-use lin_spec::Written;
 ghost use mathlib.Core.Path.{_≡_};
 ghost use Rattle.lin_spec.specs.Records.{span};
 ghost use Rattle.lin_spec.specs.Cursor.{stepAt};
-ghost use Rattle.lin_spec.specs.Output.{answerOf};
 ghost use Rattle.lin_spec.specs.Document.{openText, writeDocument};
 ghost use Rattle.document.specs.Steps.{openedOf, stepOf};
-ghost use Rattle.lin_host.specs.Answers.{numbersOf};
-ghost use Rattle.lin_host.specs.Tokens.{stepNumbers, restNumbers, Outcome, outcomeNumbers};
+ghost use Rattle.lin_host.specs.Answers.{numbersOf, Outcome, outcomeNumbers};
+ghost use Rattle.lin_host.specs.Tokens.{stepNumbers, restNumbers};
 
 // found 1: a token, and the cursor after it. found 0: none, and the cursor as it was.
 #[repr(C)]
@@ -47,19 +46,6 @@ fn opened(o: Opened) -> LinAnswer
             value: c.at as u64,
         },
         Opened::Refused(r) => refusal(r),
-    }
-}
-
-fn written(w: Written) -> LinAnswer
-    ensures { λ a. ⌜ a ≡ numbersOf (answerOf w) ⌝ }
-{
-    match w {
-        Written::Length(n) => LinAnswer {
-            refusal: 0,
-            kind: 0,
-            value: n as u64,
-        },
-        Written::Refused(r) => refusal(r),
     }
 }
 

@@ -1,14 +1,14 @@
 -- `lin_host::lin_write_document` meets its contract: the numbers of the entry's answer, with the same output.
 -- Assumes nothing.
 use mathlib.Core.Path.{ap}
-use Rattle.lin_host.specs.Tokens.{outcomeNumbers}
+use Rattle.lin_host.specs.Answers.{outcomeNumbers}
 use borrow.Author.Needs.{needs}
 use Rattle.lin_host.proofs.tokens.lin_write_document.Statement.{statement}
 use Rattle.lin_host.proofs.tokens.lin_write_document.Tie as tie
 use Rattle.lin_host.proofs.tokens.lin_write_document.Reads as reads
 use Rattle.lin_host.proofs.tokens.lin_write_document.Lts as lts
 use Rattle.document.proofs.write_document.Reads as write-document-reads
-use Rattle.lin_host.proofs.tokens.written.Reads as written-reads
+use Rattle.lin_host.proofs.answers.written.Reads as written-reads
 
 -- src/tokens.rt:132:13
 write-document-requires : tie.Need-write-document-requires

@@ -1,29 +1,24 @@
 -- `lin_host::written` meets its contract: by the case of the answer.
 -- Assumes nothing.
 use borrow.Author.Needs.{needs}
-use Rattle.lin_host.proofs.tokens.written.Statement.{statement}
-use Rattle.lin_host.proofs.tokens.written.Tie as tie
-use Rattle.lin_host.proofs.tokens.written.Reads as reads
-use Rattle.lin_host.proofs.tokens.written.Lts as lts
+use Rattle.lin_host.proofs.answers.written.Statement.{statement}
+use Rattle.lin_host.proofs.answers.written.Tie as tie
+use Rattle.lin_host.proofs.answers.written.Reads as reads
+use Rattle.lin_host.proofs.answers.written.Lts as lts
 use Rattle.lin_host.proofs.answers.refusal.Reads as refusal-reads
 
--- src/tokens.rt:57:25
 enum-known-w : tie.Need-enum-known-w
 enum-known-w c = search needs
 
--- src/tokens.rt:62:26
 enum-known-w-2 : tie.Need-enum-known-w-2
 enum-known-w-2 c = search needs
 
--- src/tokens.rt:62:32
 refusal-requires : tie.Need-refusal-requires
 refusal-requires c κs = search needs
 
--- src/tokens.rt:53:1
 returns : tie.Need-returns
 returns c = rw (c .before .w .given .1)
 
--- src/tokens.rt:53:1
 returns-2 : tie.Need-returns-2
 returns-2 c = rw (c .before .before .w2 .given .1) (c .refusal .ensures)
 

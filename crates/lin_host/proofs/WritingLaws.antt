@@ -1,0 +1,60 @@
+-- Calls that are lent a board as numbers: what the exports compute, and what a code outside its range leaves of a call. (01: Writer; equality)
+-- Assumes nothing.
+use Prim.Native.Nat.{ℕ}
+use mathlib.Core.Path.{_≡_, refl, ap}
+use mathlib.Core.Bool.{Bool, true, false, _||_}
+use mathlib.Core.List.{List, [], _∷_}
+use mathlib.Core.Option.{Option, some}
+use lib.ListN.{length}
+use lib.Dec.{ltb}
+use Rattle.lin_spec.specs.Base.{pick}
+use Rattle.lin_spec.specs.Records.{limit}
+use Rattle.lin_spec.specs.Refusals.{Answer, refuseIf, unless}
+use Rattle.lin_spec.specs.Refusals.Answer.{refused}
+use Rattle.lin_spec.specs.Output.{Outcome}
+use Rattle.lin_spec.specs.Lent.{Lent, lent, lentChecks}
+use Rattle.lin_spec.specs.Append.{Filing, plain, writtenForm, extended, appended}
+use Rattle.lin_spec.specs.Equality.{sameBoards}
+use Rattle.lin_spec.specs.declared.Board.{Board}
+use Rattle.lin_spec.specs.declared.Refusal.{Refusal}
+use Rattle.lin_spec.specs.declared.Refusal.the-variants.{TextTooLong, OutOfRange}
+use Rattle.lin_host.specs.Answers.{outcomeNumbers}
+use Rattle.lin_host.specs.Codes.{boardOf, badCodes}
+use Rattle.lin_host.specs.Writing.{appendNumbers, equalityNumbers, sameNumbers}
+use Rattle.lin_host.specs.declared.boards.LinBoard.{LinBoard}
+
+-- the answer for a board and a test that are those of the numbers
+pub appending : (s : List ℕ) (b : LinBoard) (ws cs o : List ℕ) (used : ℕ) {t : Bool} {x : Board} → t ≡ badCodes b → x ≡ boardOf b
+    → outcomeNumbers (appended t (plain (lent s x ws cs)) o used) ≡ appendNumbers s b ws cs o used
+appending s b ws cs o used e f = rw (e, f)
+
+pub comparing : (s : List ℕ) (b : LinBoard) (ws cs : List ℕ) (s2 : List ℕ) (b2 : LinBoard) (ws2 cs2 : List ℕ) {t u : Bool} {x y : Board}
+    → t ≡ badCodes b → u ≡ badCodes b2 → x ≡ boardOf b → y ≡ boardOf b2
+    → equalityNumbers (sameBoards (t || u) (lent s x ws cs) (lent s2 y ws2 cs2)) ≡ sameNumbers s b ws cs s2 b2 ws2 cs2
+comparing s b ws cs s2 b2 ws2 cs2 e f g h = rw (e, f, g, h)
+
+-- A call with a code outside its range is refused by 1 or 8, whatever else it is lent: no answer shows what boardOf makes of such a code
+
+second : {A : Type 0} (t : Bool) (q r : Refusal) (cs : List (Option Refusal)) (a : A) → unless (refuseIf t q ∷ some r ∷ cs) a ≡ refused (pick t q r)
+unfolding unless
+second true q r cs a = refl
+second false q r cs a = refl
+
+third : {A : Type 0} (t u : Bool) (q r : Refusal) (cs : List (Option Refusal)) (a : A) → unless (refuseIf t q ∷ refuseIf u q ∷ some r ∷ cs) a ≡ refused (pick (t || u) q r)
+unfolding unless
+third true u q r cs a = refl
+third false true q r cs a = refl
+third false false q r cs a = refl
+
+pub append-refused : (f : Filing) (o : List ℕ) (used : ℕ)
+    → appended true f o used ≡ record { answer = refused (pick (ltb limit (length (f .lent .text))) TextTooLong OutOfRange); output = o }
+unfolding appended lentChecks
+append-refused f o used =
+    ap after (second (ltb limit (length (f .lent .text))) TextTooLong OutOfRange _ _)
+  where
+    after : Answer ℕ → Outcome
+    after a = record { answer = a; output = extended a o used (writtenForm f) }
+
+pub same-refused : (x y : Lent) → sameBoards true x y ≡ refused (pick (ltb limit (length (x .text)) || ltb limit (length (y .text))) TextTooLong OutOfRange)
+unfolding sameBoards
+same-refused x y = third (ltb limit (length (x .text))) (ltb limit (length (y .text))) TextTooLong OutOfRange _ _

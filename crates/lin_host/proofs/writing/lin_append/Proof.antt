@@ -1,0 +1,46 @@
+-- `lin_host::lin_append` meets its contract: the numbers of append's answer, with the same output.
+-- Assumes nothing.
+use mathlib.Core.Path.{ap, _∙_}
+use denote.Ref.{now}
+use Rattle.lin_host.specs.Answers.{outcomeNumbers}
+use Rattle.lin_host.proofs.WritingLaws.{appending}
+use borrow.Author.Needs.{needs}
+use Rattle.lin_host.proofs.writing.lin_append.Statement.{statement}
+use Rattle.lin_host.proofs.writing.lin_append.Tie as tie
+use Rattle.lin_host.proofs.writing.lin_append.Reads as reads
+use Rattle.lin_host.proofs.writing.lin_append.Lts as lts
+use Rattle.lin_host.proofs.answers.written.Reads as written-reads
+use Rattle.lin_host.proofs.codes.bad_codes.Reads as bad-codes-reads
+use Rattle.lin_host.proofs.codes.board_of.Reads as board-of-reads
+use Rattle.writer.proofs.append_with.Reads as append-with-reads
+
+bad-codes-requires : tie.Need-bad-codes-requires
+bad-codes-requires c κs = search needs
+
+board-of-requires : tie.Need-board-of-requires
+board-of-requires c κs = search needs
+
+append-with-requires : tie.Need-append-with-requires
+append-with-requires c κs = search needs
+
+written-requires : tie.Need-written-requires
+written-requires c κs = search needs
+
+same-length : tie.Need-same-length
+same-length c = search needs
+
+returns : tie.Need-returns
+returns c =
+    rw (c .written .ensures)
+    (ap outcomeNumbers (c .before .before .before .append-with .ensures) ∙ appending (now (c .before .before .before .before .before .before .before .before .before .before .before .args .text)) (c .before .before .before .before .before .before .before .before .before .before .before .args .board) (now (c .before .before .before .before .before .before .before .before .before .before .before .args .rows)) (now (c .before .before .before .before .before .before .before .before .before .before .before .args .cards)) (now (c .before .before .before .before .before .before .before .before .before .before .before .args .out)) (c .before .before .before .before .before .before .before .before .before .before .before .args .used) (c .before .before .before .before .before .before .bad-codes .ensures) (c .before .before .before .before .before .board-of .ensures))
+
+pub lin-append-spec : {M : Type 1} → statement M
+lin-append-spec =
+    tie.close
+    (tie.spec
+    bad-codes-requires
+    board-of-requires
+    append-with-requires
+    written-requires
+    same-length
+    returns)

@@ -1,0 +1,102 @@
+// The entries of the writer: a board written or appended, the play as a text, and whether a board equals another. (01: Writer; play text; equality)
+use crate::answers::LinAnswer;
+use crate::answers::refusal;
+use crate::answers::written;
+use crate::boards::LinBoard;
+use crate::codes::bad_codes;
+use crate::codes::board_of;
+use cardtext::format_cardplay_by_trick;
+use cleaning::Marks;
+use equality::same_boards;
+use lin_spec::Equality;
+use writer::append_with;
+ghost use mathlib.Core.Path.{_≡_};
+ghost use Rattle.lin_spec.specs.Play.{formatCardplay};
+ghost use Rattle.lin_spec.specs.Equality.{equalityOf};
+ghost use Rattle.lin_host.specs.Answers.{Outcome, outcomeNumbers};
+ghost use Rattle.lin_host.specs.Writing.{appendNumbers, equalityNumbers, sameNumbers};
+
+fn compared(e: Equality) -> LinAnswer
+    ensures { λ a. ⌜ a ≡ equalityNumbers (equalityOf e) ⌝ }
+{
+    match e {
+        Equality::Equal => LinAnswer {
+            refusal: 0,
+            kind: 0,
+            value: 1,
+        },
+        Equality::Different => LinAnswer {
+            refusal: 0,
+            kind: 0,
+            value: 0,
+        },
+        Equality::Refused(r) => refusal(r),
+    }
+}
+
+// The exports. A board is lent with the numbers that a heading gives: its rows are those of lin_parse_lin, its calls as many as there are whole rows,
+// and all cards are its play. A code outside its range is refusal 8.
+
+// Adds a board after the used bytes, and gives the new used count.
+#[no_mangle]
+pub extern "C" fn lin_append(
+    text: &[u8],
+    board: LinBoard,
+    rows: &[u32],
+    cards: &[u8],
+    out: &mut [u8],
+    used: u64,
+) -> LinAnswer
+    ensures { λ r. ⌜ _≡_ {A = Outcome} (record { answer = r; output = now (out .exit) }) (appendNumbers (now (text .entry)) board (now (rows .entry)) (now (cards .entry)) (now (out .entry)) used) ⌝ }
+{
+    let other = bad_codes(board);
+    let marks = Marks {
+        pipe: b'/',
+        line: b' ',
+    };
+    let b = board_of(board);
+    written(append_with(other, marks, text, b, rows, cards, out, used as usize))
+}
+
+// Writes a board from the first byte of the output on, and gives its length.
+#[no_mangle]
+pub extern "C" fn lin_write_lin(
+    text: &[u8],
+    board: LinBoard,
+    rows: &[u32],
+    cards: &[u8],
+    out: &mut [u8],
+) -> LinAnswer
+    ensures { λ r. ⌜ _≡_ {A = Outcome} (record { answer = r; output = now (out .exit) }) (appendNumbers (now (text .entry)) board (now (rows .entry)) (now (cards .entry)) (now (out .entry)) 0) ⌝ }
+{
+    lin_append(text, board, rows, cards, out, 0)
+}
+
+// Writes the cards by tricks from the first byte of the output on, and gives the length.
+#[no_mangle]
+pub extern "C" fn lin_play_text(cards: &[u8], out: &mut [u8]) -> LinAnswer
+    ensures { λ r. ⌜ _≡_ {A = Outcome} (record { answer = r; output = now (out .exit) }) (outcomeNumbers (formatCardplay (now (cards .entry)) (now (out .entry)))) ⌝ }
+{
+    written(format_cardplay_by_trick(cards, out))
+}
+
+// 1 if the first board equals the second, else 0.
+#[no_mangle]
+pub extern "C" fn lin_same_board(
+    text: &[u8],
+    board: LinBoard,
+    rows: &[u32],
+    cards: &[u8],
+    text2: &[u8],
+    board2: LinBoard,
+    rows2: &[u32],
+    cards2: &[u8],
+) -> LinAnswer
+    ensures { λ r. ⌜ r ≡ sameNumbers (now (text .entry)) board (now (rows .entry)) (now (cards .entry)) (now (text2 .entry)) board2 (now (rows2 .entry)) (now (cards2 .entry)) ⌝ }
+{
+    let bad = bad_codes(board);
+    let bad2 = bad_codes(board2);
+    let b = board_of(board);
+    let b2 = board_of(board2);
+    compared(same_boards(bad | bad2, text, b, rows, cards, text2, b2, rows2, cards2))
+}
