@@ -59,7 +59,34 @@ pub struct Deal {
     counts: [u32; 208],
 }
 
+impl Default for Deal {
+    fn default() -> Deal {
+        Deal::new()
+    }
+}
+
 impl Deal {
+    /// No card in any hand.
+    pub fn new() -> Deal {
+        Deal { counts: [0; 208] }
+    }
+
+    /// Gives a seat a card, once more if it holds it.
+    ///
+    /// # Panics
+    ///
+    /// If there is no such card, or its count would pass 32 bits.
+    pub fn add(&mut self, seat: Seat, card: Card) {
+        assert!(card.0 < 52, "no card: {}", card.0);
+        let count = &mut self.counts[52 * seat as usize + usize::from(card.0)];
+        *count = count.checked_add(1).expect("a count of 32 bits");
+    }
+
+    /// The counts of all hands, at seat times 52 plus card.
+    pub fn counts(&self) -> &[u32; 208] {
+        &self.counts
+    }
+
     /// The counts of a seat's 52 cards.
     pub fn hand(&self, seat: Seat) -> &[u32] {
         let from = 52 * seat as usize;
@@ -97,11 +124,48 @@ pub struct Call<'a> {
     pub annotation: Option<&'a [u8]>,
 }
 
-#[derive(Debug, Clone, PartialEq, Eq)]
+/// The default is a board before its first token.
+#[derive(Debug, Clone, PartialEq, Eq, Default)]
 pub struct Board<'a> {
     pub heading: Heading<'a>,
     pub calls: Vec<Call<'a>>,
     pub play: Vec<Card>,
+}
+
+impl Default for Heading<'_> {
+    /// That of a board before its first token: North deals, no hand holds a
+    /// card, none is vulnerable, and all else is empty or absent.
+    fn default() -> Self {
+        Heading {
+            names: [b""; 4],
+            dealer: Seat::North,
+            deal: Deal::new(),
+            vulnerability: Vulnerability::None,
+            title: None,
+            room_board: None,
+            board_header: None,
+            claim: None,
+            calls: 0,
+            cards: 0,
+        }
+    }
+}
+
+impl<'a> Board<'a> {
+    /// A board of this heading, these calls and this play; the heading's two
+    /// numbers become theirs.
+    pub fn new(heading: Heading<'a>, calls: Vec<Call<'a>>, play: Vec<Card>) -> Board<'a> {
+        let heading = Heading {
+            calls: calls.len(),
+            cards: play.len(),
+            ..heading
+        };
+        Board {
+            heading,
+            calls,
+            play,
+        }
+    }
 }
 
 pub(crate) fn flag(word: u32) -> bool {

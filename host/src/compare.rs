@@ -3,9 +3,11 @@
 
 mod boards;
 mod files;
+mod writer;
 
 pub use boards::board;
 pub use files::{file, name, visit, visits};
+pub use writer::{append, appends, equality, play_text, written};
 
 use crate::{
     model,

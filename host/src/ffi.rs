@@ -155,4 +155,49 @@ extern "C" {
         number: u64,
         lines: u32,
     ) -> LinSection;
+    pub fn lin_append(
+        text: *const u8,
+        text_len: usize,
+        board: LinBoard,
+        rows: *const u32,
+        rows_len: usize,
+        cards: *const u8,
+        cards_len: usize,
+        out: *mut u8,
+        out_len: usize,
+        used: u64,
+    ) -> LinAnswer;
+    pub fn lin_write_lin(
+        text: *const u8,
+        text_len: usize,
+        board: LinBoard,
+        rows: *const u32,
+        rows_len: usize,
+        cards: *const u8,
+        cards_len: usize,
+        out: *mut u8,
+        out_len: usize,
+    ) -> LinAnswer;
+    pub fn lin_play_text(
+        cards: *const u8,
+        cards_len: usize,
+        out: *mut u8,
+        out_len: usize,
+    ) -> LinAnswer;
+    pub fn lin_same_board(
+        text: *const u8,
+        text_len: usize,
+        board: LinBoard,
+        rows: *const u32,
+        rows_len: usize,
+        cards: *const u8,
+        cards_len: usize,
+        text2: *const u8,
+        text2_len: usize,
+        board2: LinBoard,
+        rows2: *const u32,
+        rows2_len: usize,
+        cards2: *const u8,
+        cards2_len: usize,
+    ) -> LinAnswer;
 }

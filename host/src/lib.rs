@@ -1,12 +1,15 @@
 //! Safe Rust over the exports of the crate `lin_host`.
 
 pub mod boards;
+pub mod book;
 pub mod compare;
 mod ffi;
 pub mod files;
 pub mod model;
 pub mod samples;
 pub mod tokens;
+pub mod upstream;
+pub mod writer;
 
 pub use ffi::LinAnswer;
 

@@ -1,6 +1,9 @@
 //! Random records of one board, and files of them: commands in any dress, with
 //! values that are read, nearly read or skipped.
 
+pub mod built;
+pub mod lent;
+
 use oracle::{
     random::Rng,
     texts::{self, COMMANDS},

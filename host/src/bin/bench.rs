@@ -1,11 +1,18 @@
-//! Times upstream's parse and to_lin against the exports, in one run of one
-//! driver: `bench [RUNS]`.
+//! Times upstream's parse, to_lin and write_lin_file against the exports, in
+//! one run of one driver: `bench [RUNS]`.
 
 use lin_host_rust::{
+    boards::Board,
     tokens::{self, Cursor, Span},
+    upstream,
+    writer::{Appender, Gathered},
     LIMIT,
 };
-use oracle::{lin::LinDocument, random::Rng, records};
+use oracle::{
+    lin::{write_lin, write_lin_file, LinData, LinDocument},
+    random::Rng,
+    records,
+};
 use std::{env, hint::black_box, time::Instant};
 
 fn main() {
@@ -14,6 +21,13 @@ fn main() {
         .and_then(|a| a.parse().ok())
         .unwrap_or(31usize)
         .max(1);
+    line("", "Rust ms", "Rattle ms", "ratio");
+    tokenizing(runs);
+    writing(runs);
+}
+
+/// Tokens, and the document written back.
+fn tokenizing(runs: usize) {
     let text = realistic();
     let bytes = text.as_bytes();
     let (all, trailing) = tokens::tokens(bytes).expect("a text within the limit");
@@ -36,14 +50,64 @@ fn main() {
         assert!(len == Ok(bytes.len() as u64) && out == bytes && written == text);
     }
 
-    println!(
-        "{} bytes, {} tokens; medians of {runs} runs",
-        bytes.len(),
-        all.len()
-    );
-    line("", "Rust ms", "Rattle ms", "ratio");
+    let (n, tokens) = (bytes.len(), all.len());
+    println!("tokens: {n} bytes, {tokens} tokens; medians of {runs} runs");
     report("parse | lin_open, lin_next", &mut parse, &mut steps);
     report("to_lin | lin_write_document", &mut to_lin, &mut document);
+}
+
+/// Boards one after another, up to the limit of an output: each lent with its
+/// text, and each gathered from its own texts first.
+fn writing(runs: usize) {
+    let boards = realistic_boards();
+    let seen: Vec<Board> = boards.iter().map(upstream::board).collect();
+    let lent: Vec<Gathered> = seen.iter().map(Gathered::from).collect();
+
+    let mut file = Vec::new();
+    let mut appends = Vec::new();
+    let mut gathered = Vec::new();
+    let mut bytes = 0;
+    for _ in 0..runs {
+        let text = timed(&mut file, || write_lin_file(black_box(&boards)));
+        let mut out = Appender::new(LIMIT);
+        timed(&mut appends, || {
+            for board in black_box(&lent) {
+                out.append_lent(board.lent()).expect("room for the board");
+            }
+        });
+        let mut again = Appender::new(LIMIT);
+        timed(&mut gathered, || {
+            for board in black_box(&seen) {
+                again.append(board).expect("room for the board");
+            }
+        });
+        assert!(out.bytes() == text.as_bytes() && again.bytes() == text.as_bytes());
+        bytes = text.len();
+    }
+
+    let count = boards.len();
+    println!("writing: {bytes} bytes, {count} boards; medians of {runs} runs");
+    report(
+        "write_lin_file | lin_append",
+        &mut file.clone(),
+        &mut appends,
+    );
+    report("  gathered, lin_append", &mut file, &mut gathered);
+}
+
+/// Boards as many as an output takes.
+fn realistic_boards() -> Vec<LinData> {
+    let mut rng = Rng::new(2);
+    let mut boards = Vec::new();
+    let mut bytes = 0;
+    loop {
+        let board = records::board(&mut rng, boards.len() + 1);
+        bytes += write_lin(&board).len();
+        if bytes > LIMIT {
+            return boards;
+        }
+        boards.push(board);
+    }
 }
 
 /// Boards and movies up to the limit of a text.

@@ -3,13 +3,15 @@
 
 use lin_host_rust::{
     compare::{self, Same},
-    samples,
+    samples::{self, built, lent},
     tokens::Span,
+    writer::Gathered,
     LIMIT,
 };
 use oracle::{random::Rng, records, texts};
 use std::{
     env,
+    fmt::Debug,
     process::ExitCode,
     time::{Duration, Instant},
 };
@@ -22,6 +24,30 @@ struct Counts {
     documents: u64,
     boards: u64,
     files: u64,
+    written: u64,
+    plays: u64,
+    pairs: u64,
+    lists: u64,
+    appends: u64,
+}
+
+impl Counts {
+    fn shown(&self) -> String {
+        let kinds = [
+            (self.texts, "texts"),
+            (self.bytes, "runs of bytes"),
+            (self.places, "places"),
+            (self.documents, "documents"),
+            (self.boards, "boards"),
+            (self.files, "files"),
+            (self.written, "written boards"),
+            (self.plays, "play texts"),
+            (self.pairs, "pairs of boards both ways"),
+            (self.lists, "lists of appends"),
+            (self.appends, "appends in them"),
+        ];
+        kinds.map(|(n, kind)| format!("{n} {kind}")).join(", ")
+    }
 }
 
 fn main() -> ExitCode {
@@ -44,10 +70,7 @@ fn main() -> ExitCode {
             return ExitCode::FAILURE;
         }
     }
-    println!(
-        "seed {seed}: {} texts, {} runs of bytes, {} places, {} documents, {} boards, {} files: all the same",
-        counts.texts, counts.bytes, counts.places, counts.documents, counts.boards, counts.files
-    );
+    println!("seed {seed}: {}: all the same", counts.shown());
     ExitCode::SUCCESS
 }
 
@@ -57,7 +80,7 @@ fn round(rng: &mut Rng, counts: &mut Counts) -> (String, Same) {
         counts.documents += 1;
         return long(rng);
     }
-    match rng.below(16) {
+    match rng.below(28) {
         0..=2 => {
             let text = any_text(rng);
             counts.texts += 1;
@@ -80,6 +103,10 @@ fn round(rng: &mut Rng, counts: &mut Counts) -> (String, Same) {
             let outcome = compare::board(&bytes);
             (format!("board {}", bytes.escape_ascii()), outcome)
         }
+        12..=15 => written(rng, counts),
+        16..=17 => play(rng, counts),
+        18..=20 => pair(rng, counts),
+        21..=23 => appends(rng, counts),
         _ => {
             let bytes = any_file(rng);
             counts.files += 1;
@@ -243,4 +270,76 @@ fn bound(text: &[u8], mut place: usize) -> usize {
         place -= 1;
     }
     place
+}
+
+/// What is lent for a board: built by hand or realistic, at times with faults.
+fn any_lent(rng: &mut Rng) -> Gathered {
+    let board = match rng.below(16) {
+        0 => records::board(rng, 1),
+        1 => built::board(rng, 40, 60),
+        _ => built::board(rng, 5, 9),
+    };
+    let mut lent = lent::scattered(rng, &board);
+    if rng.once_in(4) {
+        (0..1 + rng.below(2)).for_each(|_| lent::fault(rng, &mut lent));
+    }
+    lent
+}
+
+/// A board written, and appended to an output of any length.
+fn written(rng: &mut Rng, counts: &mut Counts) -> (String, Same) {
+    let lent = any_lent(rng);
+    let len = rng.below(600);
+    let used = rng.below(len + 2) as u64;
+    counts.written += 1;
+    let outcome =
+        compare::written(lent.lent()).and_then(|()| compare::append(lent.lent(), len, used));
+    (shown(&outcome, lent), outcome)
+}
+
+/// What was compared, where it differs.
+fn shown(outcome: &Same, subject: impl Debug) -> String {
+    outcome
+        .as_ref()
+        .map_or_else(|_| format!("{subject:?}"), |()| String::new())
+}
+
+/// A play of which one card may be none, in an output that nearly fits.
+fn play(rng: &mut Rng, counts: &mut Counts) -> (String, Same) {
+    let most = *rng.pick(&[6, 60, 600]);
+    let mut cards: Vec<u8> = (0..rng.below(most)).map(|_| rng.below(52) as u8).collect();
+    if rng.once_in(6) {
+        cards.insert(rng.below(cards.len() + 1), *rng.pick(&[51, 52, 64, 255]));
+    }
+    let len = (3 * cards.len() + rng.below(5)).saturating_sub(3);
+    counts.plays += 1;
+    let outcome = compare::play_text(&cards, len);
+    (format!("play {cards:?}, output of {len}"), outcome)
+}
+
+/// Two boards, the same or nearly, at times with faults.
+fn pair(rng: &mut Rng, counts: &mut Counts) -> (String, Same) {
+    let (one, two) = built::pair(rng);
+    let mut lent = [one, two].map(|board| lent::scattered(rng, &board));
+    if rng.once_in(6) {
+        for _ in 0..1 + rng.below(3) {
+            let side = rng.below(2);
+            lent::fault(rng, &mut lent[side]);
+        }
+    }
+    counts.pairs += 1;
+    let outcome = compare::equality(lent[0].lent(), lent[1].lent());
+    (shown(&outcome, lent), outcome)
+}
+
+/// Appends to an output of any bytes.
+fn appends(rng: &mut Rng, counts: &mut Counts) -> (String, Same) {
+    let most = *rng.pick(&[3, 8, 8, 30]);
+    let calls = lent::calls(rng, most);
+    let len = rng.below(250 * most);
+    let first: Vec<u8> = (0..len).map(|_| rng.byte()).collect();
+    counts.lists += 1;
+    counts.appends += calls.len() as u64;
+    let outcome = compare::appends(first, &calls);
+    (shown(&outcome, (len, calls)), outcome)
 }

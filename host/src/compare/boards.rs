@@ -3,13 +3,10 @@
 
 use super::{same, Same};
 use crate::{
-    boards::{self, Board, Call, Card, Heading, LinHeading, Seat, Vulnerability, ROW},
-    model, Refusal, RowKind,
+    boards::{self, Board, Heading, LinHeading, Seat, ROW},
+    model, upstream, Refusal, RowKind,
 };
-use oracle::{
-    bridge_types::{self, Direction},
-    lin::{BidWithAnnotation, LinData},
-};
+use oracle::lin::LinData;
 
 /// What rows and cards hold before a call.
 const WORD: u32 = 0xA5A5_A5A5;
@@ -37,11 +34,13 @@ pub fn board(bytes: &[u8]) -> Same {
 
 /// Every field of a board.
 pub(super) fn as_upstream(got: &Board, want: &LinData) -> Same {
-    heading(&got.heading, want)?;
-    let calls: Vec<Call> = want.auction.iter().map(call).collect();
-    same("calls", &got.calls, &calls)?;
-    let play: Vec<Card> = want.play.iter().map(card).collect();
-    same("play", &got.play, &play)
+    fields(got, &upstream::board(want))
+}
+
+pub(super) fn fields(got: &Board, want: &Board) -> Same {
+    heading(&got.heading, &want.heading)?;
+    same("calls", &got.calls, &want.calls)?;
+    same("play", &got.play, &want.play)
 }
 
 /// The board in more rows and cards than it needs, and refused in fewer.
@@ -56,62 +55,19 @@ pub(super) fn refused_in_any(bytes: &[u8], read: Read, refusal: Refusal) -> Same
     refused(bytes, read, [9, 4], refusal)
 }
 
-fn heading(got: &Heading, want: &LinData) -> Same {
-    fn bytes(text: &Option<String>) -> Option<&[u8]> {
-        text.as_deref().map(str::as_bytes)
-    }
-    let names: Vec<&[u8]> = want.player_names.iter().map(|n| n.as_bytes()).collect();
-    same("names", &got.names[..], &names)?;
-    same("dealer", direction(got.dealer), want.dealer)?;
+fn heading(got: &Heading, want: &Heading) -> Same {
+    same("names", got.names, want.names)?;
+    same("dealer", got.dealer, want.dealer)?;
     for seat in Seat::ALL {
-        let mut counts = [0; 52];
-        for held in want.deal.hand(direction(seat)).cards() {
-            counts[usize::from(card(held).0)] += 1;
-        }
-        same("hand", got.deal.hand(seat), &counts)?;
+        same("hand", got.deal.hand(seat), want.deal.hand(seat))?;
     }
-    same(
-        "vulnerability",
-        got.vulnerability,
-        vulnerability(want.vulnerability),
-    )?;
-    same("title", got.title, bytes(&want.title))?;
-    same("room", got.room_board, bytes(&want.room_board))?;
-    same("header", got.board_header, bytes(&want.board_header))?;
+    same("vulnerability", got.vulnerability, want.vulnerability)?;
+    same("title", got.title, want.title)?;
+    same("room", got.room_board, want.room_board)?;
+    same("header", got.board_header, want.board_header)?;
     same("claim", got.claim, want.claim)?;
-    same("number of calls", got.calls, want.auction.len())?;
-    same("number of cards", got.cards, want.play.len())
-}
-
-fn direction(seat: Seat) -> Direction {
-    match seat {
-        Seat::South => Direction::South,
-        Seat::West => Direction::West,
-        Seat::North => Direction::North,
-        Seat::East => Direction::East,
-    }
-}
-
-fn vulnerability(from: bridge_types::Vulnerability) -> Vulnerability {
-    match from {
-        bridge_types::Vulnerability::None => Vulnerability::None,
-        bridge_types::Vulnerability::NorthSouth => Vulnerability::NorthSouth,
-        bridge_types::Vulnerability::EastWest => Vulnerability::EastWest,
-        bridge_types::Vulnerability::Both => Vulnerability::Both,
-    }
-}
-
-/// Upstream's suits and ranks stand in the order of document 01's numbers.
-fn card(from: &bridge_types::Card) -> Card {
-    Card(13 * from.suit as u8 + from.rank as u8)
-}
-
-fn call(from: &BidWithAnnotation) -> Call<'_> {
-    Call {
-        bid: from.bid.as_bytes(),
-        alerted: from.alert,
-        annotation: from.annotation.as_deref().map(str::as_bytes),
-    }
+    same("number of calls", got.calls, want.calls)?;
+    same("number of cards", got.cards, want.cards)
 }
 
 /// With more rows and cards than needed the answer is the same and the others

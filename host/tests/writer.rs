@@ -1,0 +1,642 @@
+//! The writer, append, play text and equality against the oracle and the plain
+//! book, and document 01's examples of them.
+
+use lin_host_rust::{
+    boards::{self, Board, Call, Card, Heading, LinText, Seat, Vulnerability, ROW},
+    book, compare, files, model,
+    samples::{self, built, lent},
+    upstream,
+    writer::{self, Appender, Gathered, Lent},
+    LinAnswer, Refusal, LIMIT,
+};
+use oracle::{
+    lin::{parse_lin, write_lin, LinData},
+    random::Rng,
+    records, texts,
+};
+
+const FRESH: &str = "mn||pn|,,,|qx||rh||md|3,,,|sv|0|\nsa|0|pg||\n";
+
+fn holds(subject: &dyn std::fmt::Debug, outcome: compare::Same) {
+    if let Err(difference) = outcome {
+        panic!("{difference}\nfor {subject:?}");
+    }
+}
+
+fn compared(lent: &Gathered) {
+    holds(lent, compare::written(lent.lent()));
+}
+
+fn gathered(board: &LinData) -> Gathered {
+    Gathered::from(&upstream::board(board))
+}
+
+fn fresh() -> Gathered {
+    Gathered::from(&Board::default())
+}
+
+/// A board as a text, which is compared with upstream's too.
+fn text(board: &Board) -> String {
+    compared(&Gathered::from(board));
+    String::from_utf8(writer::write_lin(board).unwrap()).unwrap()
+}
+
+fn headed(heading: Heading) -> String {
+    text(&Board::new(heading, vec![], vec![]))
+}
+
+fn answer(refusal: u32, value: u64) -> LinAnswer {
+    LinAnswer {
+        refusal,
+        kind: 0,
+        value,
+    }
+}
+
+// Document 01's examples, and points of the written form
+
+#[test]
+fn a_fresh_board() {
+    assert_eq!(fresh().board, model::fresh_board());
+    assert_eq!(text(&Board::default()), FRESH);
+    let mut out = [7; 10];
+    let small = answer(7, 43);
+    assert_eq!(fresh().lent().write_numbers(&mut out), small);
+    assert_eq!(fresh().lent().append_numbers(&mut out, 0), small);
+    assert_eq!(fresh().lent().append_numbers(&mut out, 10), small);
+    assert_eq!(out, [7; 10]);
+    let mut out = [7; 45];
+    assert_eq!(fresh().lent().append_numbers(&mut out, 1), answer(0, 44));
+    assert_eq!(out, [b"\x07", FRESH.as_bytes(), b"\x07"].concat()[..]);
+}
+
+#[test]
+fn texts_are_cleaned() {
+    let line = |heading| headed(heading).lines().next().unwrap().to_string();
+    let names = Heading {
+        names: [b"a|b", b"c,d|", b"\r\n", b",,"],
+        ..Heading::default()
+    };
+    assert_eq!(line(names), "mn||pn|a/b,cd/,  ,|qx||rh||md|3,,,|sv|0|");
+    let others = Heading {
+        title: Some(b"one, two|"),
+        room_board: Some(b"o1,BOARD 1\r"),
+        board_header: Some(b""),
+        vulnerability: Vulnerability::EastWest,
+        ..Heading::default()
+    };
+    assert_eq!(
+        line(others),
+        "mn|one, two/|pn|,,,|qx|o1,BOARD 1 |rh||ah||md|3,,,|sv|e|"
+    );
+}
+
+#[test]
+fn calls_play_and_claim() {
+    let call = |bid, alerted, annotation| Call {
+        bid,
+        alerted,
+        annotation,
+    };
+    let calls = vec![
+        call(b"1C", true, None),
+        call(b"1C!", true, Some(&b"a|b\n"[..])),
+        call(b"!", false, Some(b"")),
+        call(b"", false, None),
+    ];
+    let heading = Heading {
+        claim: Some(255),
+        ..Heading::default()
+    };
+    let board = Board::new(heading, calls, (0..5).map(Card).collect());
+    let written = text(&board);
+    let lines: Vec<&str> = written.lines().skip(1).collect();
+    assert_eq!(
+        lines,
+        [
+            "sa|0|mb|1C!|mb|1C!!|an|a/b |mb|!|an||mb||pg||",
+            "pc|S2|pc|S3|pc|S4|pc|S5|pg||",
+            "pc|S6|pg||",
+            "mc|255|pg||",
+        ]
+    );
+}
+
+/// A board of these counts.
+fn counted(counts: [u32; 208]) -> Gathered {
+    let mut lent = fresh();
+    lent.board.counts = counts;
+    lent
+}
+
+#[test]
+fn east_left_out() {
+    let suit = |seat: usize, suit: usize| 52 * seat + 13 * suit..52 * seat + 13 * suit + 13;
+    let md = |counts| {
+        let lent = counted(counts);
+        compared(&lent);
+        let mut out = [0; 200];
+        let n = lent.lent().write(&mut out).unwrap();
+        let text = String::from_utf8(out[..n as usize].to_vec()).unwrap();
+        let value = text.split('|').nth(9).unwrap().to_string();
+        value.matches(',').count()
+    };
+    let mut counts = [0; 208];
+    for seat in 0..3 {
+        counts[suit(seat, seat)].fill(1);
+    }
+    assert_eq!(md(counts), 2);
+    counts[suit(3, 3)].fill(1);
+    assert_eq!(md(counts), 2);
+    // as long, each card in the remainder, one of them twice
+    counts[207] = 2;
+    counts[206] = 0;
+    assert_eq!(md(counts), 2);
+    counts[206] = 1;
+    assert_eq!(md(counts), 3);
+    counts[207] = 0;
+    assert_eq!(md(counts), 3);
+    counts[207] = 1;
+    assert_eq!(md(counts), 2);
+    // 13 cards less one
+    counts[0] = 0;
+    assert_eq!(md(counts), 3);
+}
+
+#[test]
+fn counts_of_32_bits() {
+    let max = u32::MAX;
+    let all = counted([max; 208]);
+    let needed = 43 + 4 * 4 + 208 * u64::from(max);
+    assert_eq!(all.lent().write_numbers(&mut []), answer(7, needed));
+    // 2^32 - 1 and 14 more are not 13
+    let mut counts = [0; 208];
+    for seat in 0..3 {
+        counts[52 * seat] = max;
+        counts[52 * seat + 1] = 14;
+    }
+    let needed = 43 + 3 * (4 + 14 + u64::from(max));
+    assert_eq!(
+        counted(counts).lent().write_numbers(&mut []),
+        answer(7, needed)
+    );
+}
+
+// Refusals
+
+/// A board with two names, a title and a call, whose texts fill `abécd`.
+fn small() -> Gathered {
+    let mut lent = fresh();
+    lent.text = "abécd".as_bytes().to_vec();
+    lent.board.names = [0, 1, 1, 1, 2, 2, 0, 0];
+    lent.board.title = LinText {
+        present: 1,
+        start: 4,
+        len: 1,
+    };
+    lent.rows = vec![5, 1, 0, 1, 6, 0];
+    lent.cards = vec![51];
+    lent
+}
+
+/// The answer of every entry that is lent this board, which is the same.
+fn refused(lent: &Gathered) -> LinAnswer {
+    compared(lent);
+    let mut out = [7; 300];
+    let got = lent.lent().append_numbers(&mut out, 0);
+    assert_eq!(lent.lent().write_numbers(&mut out), got);
+    assert_eq!(lent.lent().same_numbers(small().lent()), got);
+    assert_eq!(small().lent().same_numbers(lent.lent()), got);
+    assert_eq!(out, [7; 300]);
+    got
+}
+
+fn with(change: impl FnOnce(&mut Gathered)) -> Gathered {
+    let mut lent = small();
+    change(&mut lent);
+    lent
+}
+
+#[test]
+fn an_accepted_board() {
+    compared(&small());
+    assert_eq!(small().lent().same(small().lent()), Ok(true));
+    let mut out = [0; 300];
+    let n = small().lent().write(&mut out).unwrap() as usize;
+    let text = "mn|c|pn|a,b,é,|qx||rh||md|3,,,|sv|0|\nsa|0|mb|d|an||pg||\npc|CA|pg||\n";
+    assert_eq!(out[..n], *text.as_bytes());
+}
+
+#[test]
+fn refuses_1() {
+    let long = |len| with(|l| l.text.resize(len, b' '));
+    compared(&long(LIMIT));
+    assert_eq!(refused(&long(LIMIT + 1)), answer(1, 0));
+    let mut worst = long(LIMIT + 1);
+    worst.cards = vec![52];
+    worst.board.names = [u32::MAX; 8];
+    assert_eq!(refused(&worst), answer(1, 0));
+}
+
+#[test]
+fn refuses_8() {
+    for code in [4, 5, u32::MAX] {
+        assert_eq!(refused(&with(|l| l.board.dealer = code)), answer(8, 0));
+        let sides = with(|l| l.board.vulnerability = code);
+        assert_eq!(refused(&sides), answer(8, 0));
+    }
+    for code in [2, 3, u32::MAX] {
+        assert_eq!(
+            refused(&with(|l| l.board.title.present = code)),
+            answer(8, 0)
+        );
+        let room = with(|l| l.board.room_board.present = code);
+        assert_eq!(refused(&room), answer(8, 0));
+        let header = with(|l| l.board.board_header.present = code);
+        assert_eq!(refused(&header), answer(8, 0));
+        assert_eq!(refused(&with(|l| l.board.claimed = code)), answer(8, 0));
+        assert_eq!(refused(&with(|l| l.rows[2] = code)), answer(8, 0));
+        assert_eq!(refused(&with(|l| l.rows[3] = code)), answer(8, 0));
+    }
+    for claim in [256, 512 + 9, u32::MAX] {
+        let claimed = with(|l| [l.board.claimed, l.board.claim] = [1, claim]);
+        assert_eq!(refused(&claimed), answer(8, 0));
+        // an absent claim is not looked at
+        compared(&with(|l| l.board.claim = claim));
+    }
+    for card in [52, 53, 255] {
+        assert_eq!(refused(&with(|l| l.cards.push(card))), answer(8, 0));
+    }
+    // 8 comes before 5
+    let both = with(|l| [l.board.dealer, l.board.names[0]] = [4, 9]);
+    assert_eq!(refused(&both), answer(8, 0));
+}
+
+#[test]
+fn refuses_5() {
+    for (start, len) in [(6, 1), (7, 0), (0, 7), (u32::MAX, 1), (1, u32::MAX)] {
+        let name = with(|l| l.board.names[..2].copy_from_slice(&[start, len]));
+        assert_eq!(refused(&name), answer(5, 0), "{start}, {len}");
+        let bid = with(|l| l.rows[..2].copy_from_slice(&[start, len]));
+        assert_eq!(refused(&bid), answer(5, 0));
+        let annotation = with(|l| l.rows[4..].copy_from_slice(&[start, len]));
+        assert_eq!(refused(&annotation), answer(5, 0));
+        let title = with(|l| [l.board.title.start, l.board.title.len] = [start, len]);
+        assert_eq!(refused(&title), answer(5, 0));
+        // what is absent is not looked at
+        compared(&with(|l| {
+            l.board.title.present = 0;
+            [l.board.title.start, l.board.title.len] = [start, len];
+        }));
+        compared(&with(|l| l.rows[3..].copy_from_slice(&[0, start, len])));
+        // nor is a rest of fewer than six words
+        compared(&with(|l| l.rows.extend([start, len, 2, 2, start])));
+    }
+    compared(&with(|l| l.board.names[..2].copy_from_slice(&[6, 0])));
+}
+
+#[test]
+fn refuses_6() {
+    for (start, len) in [(2, 1), (3, 1), (0, 3), (3, 2)] {
+        let name = with(|l| l.board.names[6..].copy_from_slice(&[start, len]));
+        assert_eq!(refused(&name), answer(6, 0), "{start}, {len}");
+    }
+    // a late 5 comes before an early 6
+    let both = with(|l| {
+        l.board.names[..2].copy_from_slice(&[2, 1]);
+        l.rows[5] = 1;
+    });
+    assert_eq!(refused(&both), answer(5, 0));
+    // an empty span within a character is UTF-8
+    compared(&with(|l| l.board.names[6..].copy_from_slice(&[3, 0])));
+    compared(&with(|l| l.text[2] = b'|'));
+}
+
+#[test]
+fn used_bytes_beyond_the_room() {
+    let append = |len: usize, used| {
+        let mut out = vec![7; len];
+        let lent = fresh();
+        let got = lent.lent().append_numbers(&mut out, used);
+        if got.refusal != 0 {
+            assert!(out.iter().all(|b| *b == 7));
+        }
+        got
+    };
+    assert_eq!(append(10, 10), answer(7, 43));
+    assert_eq!(append(10, 11), answer(8, 0));
+    assert_eq!(append(0, 0), answer(7, 43));
+    assert_eq!(append(0, u64::MAX), answer(8, 0));
+    let limit = LIMIT as u64;
+    for len in [LIMIT, LIMIT + 1, LIMIT + 100] {
+        assert_eq!(append(len, limit - 43), answer(0, limit));
+        assert_eq!(append(len, limit - 42), answer(7, 43));
+        assert_eq!(append(len, limit), answer(7, 43));
+        assert_eq!(append(len, limit + 1), answer(8, 0));
+        assert_eq!(append(len, 1 << 32), answer(8, 0));
+    }
+}
+
+#[test]
+fn equality_checks_both_boards_before_the_next() {
+    let bad = with(|l| l.board.vulnerability = 4);
+    let past = with(|l| l.board.names[0] = 9);
+    let cut = with(|l| l.board.names[..2].copy_from_slice(&[2, 1]));
+    let long = with(|l| l.text.resize(LIMIT + 1, b' '));
+    let ranked = [&long, &bad, &past, &cut];
+    for (a, numbers) in ranked.iter().zip([1, 8, 5, 6]) {
+        for (b, other) in ranked.iter().zip([1, 8, 5, 6]) {
+            let order = |n| [1, 8, 5, 6].iter().position(|m| *m == n);
+            let first = if order(numbers) < order(other) {
+                numbers
+            } else {
+                other
+            };
+            assert_eq!(a.lent().same_numbers(b.lent()), answer(first, 0));
+            holds(&(a.board, b.board), compare::equality(a.lent(), b.lent()));
+        }
+    }
+}
+
+#[test]
+fn wrappers_refuse() {
+    let board = |heading, play| Board::new(heading, vec![], play);
+    let none = board(Heading::default(), vec![Card(52)]);
+    assert_eq!(writer::write_lin(&none), Err(Refusal::OutOfRange));
+    let ill = Heading {
+        title: Some(b"\xFF"),
+        ..Heading::default()
+    };
+    let ill = board(ill, vec![]);
+    assert_eq!(writer::write_lin(&ill), Err(Refusal::SpanNotUtf8));
+    assert_eq!(writer::same_board(&ill, &none), Err(Refusal::OutOfRange));
+    let long = vec![b' '; LIMIT + 1];
+    let long = Heading {
+        title: Some(&long),
+        ..Heading::default()
+    };
+    let long = board(long, vec![]);
+    assert_eq!(writer::write_lin(&long), Err(Refusal::TextTooLong));
+    let mut file = Appender::new(200);
+    assert_eq!(file.append(&none), Err(Refusal::OutOfRange));
+    assert_eq!((file.used(), file.output()), (0, &[0; 200][..]));
+    let full = vec![b' '; LIMIT - 42];
+    let full = Heading {
+        title: Some(&full),
+        ..Heading::default()
+    };
+    let full = board(full, vec![]);
+    let needed = Refusal::OutputTooSmall(LIMIT as u64 + 1);
+    assert_eq!(writer::write_lin(&full), Err(needed));
+}
+
+// Play text
+
+#[test]
+fn play_texts() {
+    let shown = |cards: &[u8]| {
+        let play: Vec<Card> = cards.iter().map(|c| Card(*c)).collect();
+        writer::play_text(&play).unwrap()
+    };
+    assert_eq!(shown(&[]), "");
+    assert_eq!(
+        shown(&[26, 38, 30, 29, 1, 0, 10, 12]),
+        "D2 DA D6 D5|S3 S2 SQ SA"
+    );
+    assert_eq!(shown(&[12, 25, 38, 51, 0]), "SA HA DA CA|S2");
+    for n in 0..20_u8 {
+        let cards: Vec<u8> = (0..n).map(|c| c * 31 % 52).collect();
+        let len = 3 * usize::from(n);
+        for room in len.saturating_sub(2)..len + 2 {
+            holds(&(n, room), compare::play_text(&cards, room));
+        }
+        for place in 0..usize::from(n) {
+            let mut cards = cards.clone();
+            cards[place] = 52;
+            holds(&cards, compare::play_text(&cards, 0));
+        }
+    }
+    let mut out = [7; 2];
+    assert_eq!(writer::play_text_numbers(&[0; 9], &mut out), answer(7, 26));
+    assert_eq!(writer::play_text_numbers(&[0, 255], &mut []), answer(8, 0));
+    assert_eq!(writer::play_text_numbers(&[], &mut []), answer(0, 0));
+}
+
+#[test]
+fn play_texts_at_the_limit() {
+    let mut out = vec![0; LIMIT + 100];
+    let most = LIMIT / 3;
+    let fits = writer::play_text_numbers(&vec![0; most], &mut out);
+    assert_eq!(fits, answer(0, 3 * most as u64 - 1));
+    let over = writer::play_text_numbers(&vec![0; most + 1], &mut out);
+    assert_eq!(over, answer(7, 3 * most as u64 + 2));
+    for n in most - 1..most + 3 {
+        holds(&n, compare::play_text(&vec![51; n], LIMIT + 9));
+    }
+}
+
+// Equality
+
+#[test]
+fn equality_is_lopsided() {
+    let read = |text: &'static str| boards::board(text.as_bytes()).unwrap();
+    let same = |a, b| writer::same_board(&read(a), &read(b)).unwrap();
+    assert!(same("md|1SAA|", "md|1SAK|") && !same("md|1SAK|", "md|1SAA|"));
+    assert!(same("md|1SAK|", "md|1SKA|"));
+    assert!(!same("md|1SA|", "md|1SAA|"));
+    assert!(same("mn||pn|a|", "pn|a,|mn|b|mn||"));
+    assert!(!same("ah||", "") && !same("", "ah||"));
+    assert!(!same("mb|p!|", "mb|p|") && same("mb|p!!|", "mb|p!|"));
+    assert!(!same("mb|p|an||", "mb|p|") && !same("mc|0|", ""));
+    assert!(!same("pn|José|", "pn|Jose\u{301}|"));
+}
+
+#[test]
+fn pairs_of_boards() {
+    let rng = &mut Rng::new(41);
+    let mut equal = [0; 4];
+    for _ in 0..20_000 {
+        let (one, two) = built::pair(rng);
+        equal[usize::from(one == two) + 2 * usize::from(two == one)] += 1;
+        let (a, b) = (lent::scattered(rng, &one), lent::scattered(rng, &two));
+        holds(&(&one, &two), compare::equality(a.lent(), b.lent()));
+    }
+    assert!(equal.iter().all(|n| *n > 100), "{equal:?}");
+}
+
+// Against upstream
+
+/// The board that a text gives, lent again as the reader gave it.
+fn lent_again(bytes: &[u8]) {
+    let Ok(heading) = boards::heading(bytes) else {
+        return;
+    };
+    let mut rows = vec![0; ROW * heading.calls];
+    let mut cards = vec![0; heading.cards];
+    let board = boards::parse_lin_numbers(bytes, &mut rows, &mut cards).board;
+    let lent = Lent {
+        text: bytes,
+        board,
+        rows: &rows,
+        cards: &cards,
+    };
+    let text = std::str::from_utf8(bytes).unwrap();
+    let Ok(read) = parse_lin(text);
+    let want = write_lin(&read);
+    let mut out = vec![0; want.len()];
+    assert_eq!(lent.write(&mut out), Ok(want.len() as u64), "{text:?}");
+    assert_eq!(String::from_utf8(out).unwrap(), want);
+    assert_eq!(lent.same(gathered(&read).lent()), Ok(true));
+    holds(&text, compare::written(lent));
+}
+
+#[test]
+fn stored_texts() {
+    for text in oracle::tokens::texts() {
+        lent_again(text.as_bytes());
+    }
+}
+
+#[test]
+fn random_records() {
+    let rng = &mut Rng::new(42);
+    for _ in 0..5_000 {
+        lent_again(samples::record(rng, 10).as_bytes());
+    }
+    for n in 0..100 {
+        lent_again(samples::record(rng, 200).as_bytes());
+        lent_again(records::movie(rng, n).as_bytes());
+    }
+}
+
+#[test]
+fn realistic_boards() {
+    let rng = &mut Rng::new(43);
+    for n in 0..2_000 {
+        compared(&gathered(&records::board(rng, n)));
+    }
+}
+
+#[test]
+fn boards_built_by_hand() {
+    let rng = &mut Rng::new(44);
+    for _ in 0..20_000 {
+        let board = built::board(rng, 5, 9);
+        compared(&gathered(&board));
+        compared(&lent::scattered(rng, &board));
+    }
+    for _ in 0..50 {
+        let board = built::board(rng, 300, 300);
+        compared(&lent::scattered(rng, &board));
+    }
+}
+
+#[test]
+fn boards_with_faults() {
+    let rng = &mut Rng::new(45);
+    let mut met = [0; 9];
+    for _ in 0..20_000 {
+        let board = built::board(rng, 3, 4);
+        let mut lent = lent::scattered(rng, &board);
+        (0..1 + rng.below(3)).for_each(|_| lent::fault(rng, &mut lent));
+        let answer = lent.lent().append_numbers(&mut [0; 2_000], 0);
+        met[answer.refusal as usize] += 1;
+        compared(&lent);
+    }
+    assert!([0, 1, 5, 6, 8].iter().all(|n| met[*n] > 0), "{met:?}");
+}
+
+/// Every character in every text, cleaned as upstream cleans it.
+#[test]
+fn every_character() {
+    let Ok(fresh) = parse_lin("");
+    let all: Vec<char> = ('\0'..=char::MAX).collect();
+    for some in all.chunks(3_000) {
+        let text: String = some.iter().collect();
+        let board = LinData {
+            player_names: [(); 4].map(|()| text.clone()),
+            title: Some(text.clone()),
+            board_header: Some(text.clone()),
+            ..fresh.clone()
+        };
+        compared(&gathered(&board));
+    }
+}
+
+#[test]
+fn every_claim_and_every_card() {
+    for claim in 0..=255 {
+        let heading = Heading {
+            claim: Some(claim),
+            ..Heading::default()
+        };
+        assert!(headed(heading).ends_with(&format!("mc|{claim}|pg||\n")));
+    }
+    for seat in Seat::ALL {
+        for card in (0..52).map(Card) {
+            let mut heading = Heading::default();
+            heading.deal.add(seat, card);
+            headed(heading);
+        }
+    }
+}
+
+// Lists of appends
+
+#[test]
+fn lists_of_appends() {
+    let rng = &mut Rng::new(46);
+    for _ in 0..3_000 {
+        let len = rng.below(1_500);
+        let first: Vec<u8> = (0..len).map(|_| rng.byte()).collect();
+        let list = lent::calls(rng, 8);
+        holds(&(len, &list), compare::appends(first, &list));
+    }
+}
+
+#[test]
+fn a_long_list_of_appends() {
+    let rng = &mut Rng::new(47);
+    let list: Vec<Gathered> = (1..=2_500)
+        .map(|n| gathered(&records::board(rng, n)))
+        .collect();
+    let mut book = book::Book::new(LIMIT + 1_000);
+    let mut file = Appender::new(LIMIT + 1_000);
+    for call in &list {
+        assert_eq!(file.append_lent(call.lent()), book.enter(call.lent()));
+    }
+    assert_eq!(file.bytes(), book.bytes);
+    assert!(file.bytes().len() > LIMIT - 2_000);
+    let count = book.boards.len();
+    assert!(count < list.len());
+    assert_eq!(files::count_boards(file.bytes()), Ok(count as u64));
+    for number in [0, 1, count - 1] {
+        let board = files::file_board(file.bytes(), number as u64).unwrap();
+        assert_eq!(board, upstream::board(&book.boards[number]));
+    }
+}
+
+/// What is read back is settled, and settled it stays.
+#[test]
+fn settled_boards() {
+    let rng = &mut Rng::new(48);
+    for _ in 0..5_000 {
+        let board = built::board(rng, 4, 6);
+        let settled = book::settled(&board);
+        let want = upstream::board(&settled);
+        for board in [&board, &settled] {
+            let text = writer::write_lin(&upstream::board(board)).unwrap();
+            assert_eq!(boards::board(&text), Ok(want.clone()));
+        }
+        assert_eq!(upstream::board(&book::settled(&settled)), want);
+    }
+}
+
+#[test]
+fn damaged_texts_of_boards() {
+    let rng = &mut Rng::new(49);
+    for _ in 0..1_000 {
+        let text = records::file(rng, 1);
+        lent_again(&texts::damaged(rng, text.as_bytes(), 4));
+    }
+}
