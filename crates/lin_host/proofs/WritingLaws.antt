@@ -13,14 +13,14 @@ use Rattle.lin_spec.specs.Refusals.{Answer, refuseIf, unless}
 use Rattle.lin_spec.specs.Refusals.Answer.{refused}
 use Rattle.lin_spec.specs.Output.{Outcome}
 use Rattle.lin_spec.specs.Lent.{Lent, lent, lentChecks}
-use Rattle.lin_spec.specs.Append.{Filing, plain, writtenForm, extended, appended}
-use Rattle.lin_spec.specs.Equality.{sameBoards}
+use Rattle.lin_spec.specs.Append.{Filing, plain, writtenForm, extended, appended, append}
+use Rattle.lin_spec.specs.Equality.{sameBoards, sameBoard}
 use Rattle.lin_spec.specs.declared.Board.{Board}
 use Rattle.lin_spec.specs.declared.Refusal.{Refusal}
 use Rattle.lin_spec.specs.declared.Refusal.the-variants.{TextTooLong, OutOfRange}
 use Rattle.lin_host.specs.Answers.{outcomeNumbers}
 use Rattle.lin_host.specs.Codes.{boardOf, badCodes}
-use Rattle.lin_host.specs.Writing.{appendNumbers, equalityNumbers, sameNumbers}
+use Rattle.lin_host.specs.Writing.{lentNumbers, appendNumbers, equalityNumbers, sameNumbers}
 use Rattle.lin_host.specs.declared.boards.LinBoard.{LinBoard}
 
 -- the answer for a board and a test that are those of the numbers
@@ -32,6 +32,16 @@ pub comparing : (s : List ℕ) (b : LinBoard) (ws cs : List ℕ) (s2 : List ℕ)
     → t ≡ badCodes b → u ≡ badCodes b2 → x ≡ boardOf b → y ≡ boardOf b2
     → equalityNumbers (sameBoards (t || u) (lent s x ws cs) (lent s2 y ws2 cs2)) ≡ sameNumbers s b ws cs s2 b2 ws2 cs2
 comparing s b ws cs s2 b2 ws2 cs2 e f g h = rw (e, f, g, h)
+
+-- With codes in their ranges the exports are the entries
+
+pub append-plain : (s : List ℕ) (b : LinBoard) (ws cs o : List ℕ) (used : ℕ) → badCodes b ≡ false
+    → appendNumbers s b ws cs o used ≡ outcomeNumbers (append (lentNumbers s b ws cs) o used)
+append-plain s b ws cs o used e = rw e
+
+pub same-plain : (s : List ℕ) (b : LinBoard) (ws cs : List ℕ) (s2 : List ℕ) (b2 : LinBoard) (ws2 cs2 : List ℕ) → badCodes b ≡ false → badCodes b2 ≡ false
+    → sameNumbers s b ws cs s2 b2 ws2 cs2 ≡ equalityNumbers (sameBoard (lentNumbers s b ws cs) (lentNumbers s2 b2 ws2 cs2))
+same-plain s b ws cs s2 b2 ws2 cs2 e f = rw (e, f)
 
 -- A call with a code outside its range is refused by 1 or 8, whatever else it is lent: no answer shows what boardOf makes of such a code
 

@@ -34,8 +34,8 @@ fn compared(e: Equality) -> LinAnswer
     }
 }
 
-// The exports. A board is lent with the numbers that a heading gives: its rows are those of lin_parse_lin, its calls as many as there are whole rows,
-// and all cards are its play. A code outside its range is refusal 8.
+// The exports. A board is lent with the numbers that a heading gives, and with rows as lin_parse_lin fills them: its calls are the whole rows, its play
+// all cards. The places of absent texts and an absent claim are not looked at; a code outside its range is refusal 8.
 
 // Adds a board after the used bytes, and gives the new used count.
 #[no_mangle]
