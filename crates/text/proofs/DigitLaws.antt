@@ -4,7 +4,7 @@ use Prim.Native.Nat.{ℕ, zero, suc, _+_, _*_, _-_, _≤_, _<_, min}
 use native.Mathlib.Nat.{le-of-suc-le-suc}
 use native.Mathlib.Numerals.{add-one}
 use native.Mathlib.Omega.{arith}
-use mathlib.Core.Path.{_≡_, refl, ap, sym, _∙_}
+use mathlib.Core.Path.{_≡_, refl, ap, sym, subst, _∙_}
 use mathlib.Core.Bool.{Bool, true, false, _&&_, not, and-false}
 use mathlib.Core.List.{List, [], _∷_}
 use mathlib.Core.Option.{Option, none, some}
@@ -13,8 +13,11 @@ use lib.Seq.{drop-cons, take-all}
 use borrow.Author.Tests.{eq-eqb, ne-eqb, leb-true, le-leb, lt-leb}
 use lib.Dec.{leb}
 use Rattle.lin_spec.specs.Base.{pick, null}
-use Rattle.lin_spec.proofs.Base.{and-left, split}
+use Rattle.lin_spec.proofs.Base.{and-left, and-right, picked, split}
 use Rattle.lin_spec.specs.Board.{isDigit, allDigits, valueFrom, afterPlus, numberIn}
+use Rattle.text.specs.Digits.{numberOf}
+use Rattle.text.specs.declared.digits.MaybeNumber.{MaybeNumber}
+use Rattle.text.specs.declared.digits.MaybeNumber.the-variants.{Number}
 
 -- a number that is past the bound stays past it
 value-least : (n : ℕ) (s : List ℕ) → n ≤ valueFrom n s
@@ -123,3 +126,18 @@ module _ (s t : List ℕ) (bound : ℕ) (e : t ≡ afterPlus s) where
       let f = full top i n c h in
       let g = f .1 in
       simp (← e, not-empty z, f .0, lt-leb (valueFrom 0 t) bound (omega arith))
+
+-- a number that was read is at most the bound
+abbrev Most : (bound : ℕ) → Option ℕ → Type 0
+Most bound none = Unit
+Most bound (some n) = n ≤ bound
+
+most : (bound : ℕ) (s : List ℕ) → Most bound (numberIn bound s)
+unfolding numberIn
+most bound s =
+    let t = afterPlus s in
+    picked (Most bound) (not (null t) && (allDigits t && leb (valueFrom 0 t) bound))
+    (λ e. leb-true (valueFrom 0 t) bound (and-right (allDigits t) _ (and-right (not (null t)) _ e))) (λ _. tt)
+
+pub number-most : (bound : ℕ) (s : List ℕ) (r : MaybeNumber) (n : ℕ) → numberOf r ≡ numberIn bound s → r ≡ Number n → n ≤ bound
+number-most bound s r n e f = subst (Most bound) (sym e ∙ ap numberOf f) (most bound s)

@@ -22,7 +22,8 @@ fn after_plus(s: &[u8]) -> &[u8]
     s
 }
 
-fn is_digit(b: u8) -> bool
+// Whether a byte is a digit of ASCII.
+pub fn is_digit(b: u8) -> bool
     ensures { λ r. ⌜ r ≡ isDigit b ⌝ }
 {
     (b'0' <= b) & (b <= b'9')

@@ -5,6 +5,7 @@ mod utf8;
 mod white;
 
 pub use digits::MaybeNumber;
+pub use digits::is_digit;
 pub use digits::read_number;
 pub use parts::Fault;
 pub use parts::faulty;
@@ -14,6 +15,7 @@ pub use parts::same_bytes;
 pub use parts::shown;
 pub use utf8::is_utf8;
 pub use utf8::well_formed_len;
+pub use utf8::width;
 pub use white::is_blank;
 pub use white::is_command;
 pub use white::same_word;

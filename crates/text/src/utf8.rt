@@ -6,7 +6,7 @@ ghost use Rattle.lin_spec.specs.Utf8.{first, utf8, longest};
 ghost use Rattle.text.specs.Utf8.{bytesOf, lowOf, highOf, Front, Past, Eight};
 
 // How many bytes a character has that begins with `a`, 0 where none does. RFC 3629, 4: UTF8-1 to UTF8-4
-fn width(a: u8) -> usize
+pub fn width(a: u8) -> usize
     ensures { λ r. ⌜ r ≡ bytesOf (first a) ⌝ }
 {
     if a <= 0x7F {

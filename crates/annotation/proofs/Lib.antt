@@ -1,0 +1,5 @@
+pub mod PartLaws
+pub mod WordLaws
+pub mod AnnotationLaws
+pub mod NoteLaws
+pub mod Answers

@@ -1,0 +1,77 @@
+-- `annotation::annotation_text` meets its contract: each answer by the tests that led there.
+-- Assumes nothing.
+use Rattle.annotation.proofs.Answers.{write-long, write-past, write-ill, write-small, write-absent, write-done}
+use borrow.Author.Needs.{needs}
+use Rattle.annotation.proofs.entry.annotation_text.Statement.{statement}
+use Rattle.annotation.proofs.entry.annotation_text.Tie as tie
+use Rattle.annotation.proofs.entry.annotation_text.Reads as reads
+use Rattle.annotation.proofs.entry.annotation_text.Lts as lts
+use Rattle.annotation.proofs.entry.any_faulty.Reads as any-faulty-reads
+use Rattle.annotation.proofs.texts.annotation_len.Reads as annotation-len-reads
+use Rattle.annotation.proofs.texts.put_annotation.Reads as put-annotation-reads
+use Rattle.lin_spec.proofs.room.Reads as room-reads
+
+-- src/entry.rt:34:9
+returns : tie.Need-returns
+returns c = write-long _ _ _ _ (c .if1 .taken)
+
+-- src/entry.rt:36:8
+any-faulty-requires : tie.Need-any-faulty-requires
+any-faulty-requires c κs = search needs
+
+-- src/entry.rt:37:9
+returns-2 : tie.Need-returns-2
+returns-2 c = write-past _ _ _ _ (c .before .before .if1 .left) _ (c .before .any-faulty .ensures) (c .if2 .taken)
+
+-- src/entry.rt:39:8
+any-faulty-requires-2 : tie.Need-any-faulty-requires-2
+any-faulty-requires-2 c κs = search needs
+
+-- src/entry.rt:40:9
+returns-3 : tie.Need-returns-3
+returns-3 c = write-ill _ _ _ _ (c .before .before .before .before .if1 .left) _ (c .before .before .before .any-faulty .ensures) (c .before .before .if2 .left) _ (c .before .any-faulty2 .ensures) (c .if3 .taken)
+
+-- src/entry.rt:42:9
+annotation-len-requires : tie.Need-annotation-len-requires
+annotation-len-requires c κs = search needs
+
+-- src/entry.rt:43:9
+room-requires : tie.Need-room-requires
+room-requires c κs = search needs
+
+-- src/entry.rt:44:9
+returns-4 : tie.Need-returns-4
+returns-4 c = write-small _ _ _ _ (c .before .before .before .before .before .before .before .if1 .left) _ (c .before .before .before .before .before .before .any-faulty .ensures) (c .before .before .before .before .before .if2 .left) _ (c .before .before .before .before .any-faulty2 .ensures) (c .before .before .before .if3 .left) _ (c .before .before .annotation-len .ensures) _ (c .before .room .ensures) (c .if4 .taken)
+
+-- src/entry.rt:47:9
+returns-5 : tie.Need-returns-5
+returns-5 c = write-absent _ _ _ _ (c .before .before .before .before .before .before .before .before .if1 .left) _ (c .before .before .before .before .before .before .before .any-faulty .ensures) (c .before .before .before .before .before .before .if2 .left) _ (c .before .before .before .before .before .any-faulty2 .ensures) (c .before .before .before .before .if3 .left) _ (c .before .before .before .annotation-len .ensures) _ (c .before .before .room .ensures) (c .before .if4 .left) (c .if5 .taken)
+
+-- src/entry.rt:49:9
+put-annotation-requires : tie.Need-put-annotation-requires
+put-annotation-requires c κs = search needs
+
+-- src/entry.rt:30:1
+same-length : tie.Need-same-length
+same-length c = search needs
+
+-- src/entry.rt:30:1
+returns-6 : tie.Need-returns-6
+returns-6 c = write-done _ _ _ _ (c .before .before .before .before .before .before .before .before .before .before .before .before .if1 .left) _ (c .before .before .before .before .before .before .before .before .before .before .before .any-faulty .ensures) (c .before .before .before .before .before .before .before .before .before .before .if2 .left) _ (c .before .before .before .before .before .before .before .before .before .any-faulty2 .ensures) (c .before .before .before .before .before .before .before .before .if3 .left) _ (c .before .before .before .before .before .before .before .annotation-len .ensures) _ (c .before .before .before .before .before .before .room .ensures) (c .before .before .before .before .before .if4 .left) (c .before .before .before .before .if5 .left) (c .before .before .put-annotation .ensures)
+
+pub annotation-text-spec : {M : Type 1} → statement M
+annotation-text-spec =
+    tie.close
+    (tie.spec
+    returns
+    any-faulty-requires
+    returns-2
+    any-faulty-requires-2
+    returns-3
+    annotation-len-requires
+    room-requires
+    returns-4
+    returns-5
+    put-annotation-requires
+    same-length
+    returns-6)

@@ -1,0 +1,69 @@
+-- `annotation::word_len` meets its contract: the length of what the word is.
+-- Assumes nothing.
+use mathlib.Core.Path.{ap, sym, _∙_}
+use lib.ListN.{length}
+use denote.Ref.{now}
+use Rattle.annotation.specs.declared.words.Word.{Word}
+use Rattle.annotation.specs.Words.{wordText}
+use borrow.Author.Needs.{needs}
+use Rattle.annotation.proofs.words.word_len.Statement.{statement}
+use Rattle.annotation.proofs.words.word_len.Tie as tie
+use Rattle.annotation.proofs.words.word_len.Reads as reads
+use Rattle.annotation.proofs.words.word_len.Lts as lts
+use Rattle.annotation.proofs.words.mark_len.Reads as mark-len-reads
+use Rattle.annotation.proofs.words.shown.Reads as shown-reads
+
+-- src/words.rt:123:26
+enum-told : tie.Need-enum-told
+enum-told c = search needs
+
+-- src/words.rt:124:25
+enum-told-2 : tie.Need-enum-told-2
+enum-told-2 c = search needs
+
+-- src/words.rt:125:20
+enum-known-word : tie.Need-enum-known-word
+enum-known-word c = search needs
+
+-- src/words.rt:125:26
+shown-requires : tie.Need-shown-requires
+shown-requires c κs = search needs
+
+-- src/words.rt:126:20
+enum-known-word-2 : tie.Need-enum-known-word-2
+enum-known-word-2 c = search needs
+
+-- src/words.rt:126:26
+mark-len-requires : tie.Need-mark-len-requires
+mark-len-requires c κs = search needs
+
+-- src/words.rt:119:1
+returns : tie.Need-returns
+returns c = search needs
+
+-- src/words.rt:119:1
+returns-2 : tie.Need-returns-2
+returns-2 c = sym (ap (λ (w : Word). length (wordText (now (c .before .before .before .before .args .text)) (now (c .before .before .before .before .args .part)) w)) (c .enum-told2 .given .1))
+
+-- src/words.rt:119:1
+returns-3 : tie.Need-returns-3
+returns-3 c = ap length (c .shown .ensures) ∙ sym (ap (λ (w : Word). length (wordText (now (c .before .before .before .before .before .before .args .text)) (now (c .before .before .before .before .before .before .args .part)) w)) (c .before .before .word .given .1))
+
+-- src/words.rt:119:1
+returns-4 : tie.Need-returns-4
+returns-4 c = c .mark-len .ensures ∙ sym (ap (λ (w : Word). length (wordText (now (c .before .before .before .before .before .before .args .text)) (now (c .before .before .before .before .before .before .args .part)) w)) (c .before .before .word2 .given .1))
+
+pub word-len-spec : {M : Type 1} → statement M
+word-len-spec =
+    tie.close
+    (tie.spec
+    enum-told
+    enum-told-2
+    enum-known-word
+    shown-requires
+    enum-known-word-2
+    mark-len-requires
+    returns
+    returns-2
+    returns-3
+    returns-4)

@@ -1,0 +1,56 @@
+// The entry: the checks, each over the text, the raw annotation and all notes before the next; then the text. (01: From PBN; Eight refusals)
+use crate::notes::any_note_faulty;
+use crate::texts::annotation_len;
+use crate::texts::put_annotation;
+use lin_spec::AnnotationWritten;
+use lin_spec::LIMIT;
+use lin_spec::Refusal;
+use lin_spec::Span;
+use lin_spec::room;
+use text::Fault;
+use text::faulty;
+ghost use mathlib.Core.Path.{_≡_};
+ghost use mathlib.Core.List.{_∷_};
+ghost use Rattle.lin_spec.specs.Base.{any};
+ghost use Rattle.lin_spec.specs.Annotation.{noteSpans, annotationAnswer, Annotated, writeAnnotation};
+ghost use Rattle.text.specs.Fault.{faultOf};
+
+// Whether the raw annotation or a note has this fault.
+fn any_faulty(text: &[u8], raw: Span, notes: &[u32; 768], fault: Fault) -> bool
+    ensures { λ r. ⌜ r ≡ any (faultOf fault (now (text .entry))) (raw ∷ noteSpans (now (notes .entry))) ⌝ }
+{
+    if faulty(text, raw, fault) {
+        return true;
+    }
+    any_note_faulty(text, notes, fault)
+}
+
+// Writes the text of a raw annotation from the first byte of the output on, and gives its length; or says that there is none; or refuses. Only
+// the first changes the output.
+pub fn annotation_text(
+    text: &[u8],
+    raw: Span,
+    notes: &[u32; 768],
+    out: &mut [u8],
+) -> AnnotationWritten
+    ensures { λ r. ⌜ _≡_ {A = Annotated} (record { answer = annotationAnswer r; output = now (out .exit) }) (writeAnnotation (now (text .entry)) raw (now (notes .entry)) (now (out .entry))) ⌝ }
+{
+    if LIMIT < text.len() {
+        return AnnotationWritten::Refused(Refusal::TextTooLong);
+    }
+    if any_faulty(text, raw, notes, Fault::PastEnd) {
+        return AnnotationWritten::Refused(Refusal::SpanPastEnd);
+    }
+    if any_faulty(text, raw, notes, Fault::NotUtf8) {
+        return AnnotationWritten::Refused(Refusal::SpanNotUtf8);
+    }
+    let need = annotation_len(text, raw, notes);
+    if (room(out.len()) as u64) < need {
+        return AnnotationWritten::Refused(Refusal::OutputTooSmall(need));
+    }
+    if need == 0 {
+        return AnnotationWritten::Absent;
+    }
+    let n = put_annotation(out, 0, text, raw, notes);
+    AnnotationWritten::Length(n)
+}
