@@ -15,7 +15,7 @@ use Rattle.lin_spec.specs.Base.{pick, All, null, joinBy, ascii}
 use Rattle.lin_spec.specs.Refusals.{sat}
 use Rattle.lin_spec.specs.Writer.{orEmpty}
 use Rattle.lin_spec.specs.Annotation.{partLength, partsUpTo, annotationParts, partWord, wordsOf, joinedWords, annotationText}
-use Rattle.lin_spec.proofs.Base.{picked, split}
+use Rattle.lin_spec.proofs.Base.{split}
 use Rattle.lin_spec.proofs.Annotation.{part-some}
 use Rattle.output.specs.Put.{Room, Put}
 use Rattle.output.proofs.Laws.{Left, start, step}

@@ -1,10 +1,10 @@
 -- Which answer the entry gives, by the tests that it made. (01: Eight refusals)
 -- Assumes nothing.
-use Prim.Native.Nat.{ℕ, _+_, _≤_, _<_, min}
+use Prim.Native.Nat.{ℕ, _≤_, _<_}
 use native.Mathlib.Omega.{arith}
-use mathlib.Core.Path.{_≡_, refl, ap, sym, _∙_}
-use mathlib.Core.Bool.{Bool, true, false, _||_}
-use mathlib.Core.List.{List, [], _∷_}
+use mathlib.Core.Path.{_≡_, ap, sym, _∙_}
+use mathlib.Core.Bool.{Bool, true, false}
+use mathlib.Core.List.{List, _∷_}
 use mathlib.Core.Option.{Option, none, some}
 use lib.ListN.{length}
 use borrow.Author.Tests.{lt-ltb, le-ltb}
@@ -17,7 +17,6 @@ use Rattle.lin_spec.specs.Board.{mapOption}
 use Rattle.lin_spec.specs.Writer.{orEmpty}
 use Rattle.lin_spec.specs.Annotation.{noteSpans, annotationText, Annotated, writeAnnotation}
 use Rattle.lin_spec.specs.declared.Span.{Span}
-use Rattle.lin_spec.specs.declared.Refusal.{Refusal}
 use Rattle.lin_spec.specs.declared.Refusal.the-variants.{TextTooLong, SpanPastEnd, SpanNotUtf8, OutputTooSmall}
 use Rattle.output.specs.Put.{Put}
 use Rattle.output.proofs.Laws.{overlay-nil}

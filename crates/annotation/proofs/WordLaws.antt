@@ -4,21 +4,20 @@ use Prim.Native.Nat.{ℕ, zero, suc, _+_, _-_, _*_, _^_, _≤_, _<_, min}
 use Prim.Native.Char.{code}
 use native.Mathlib.Omega.{arith}
 use mathlib.Core.Path.{_≡_, refl, ap, sym, _∙_, subst}
-use mathlib.Core.Bool.{Bool, true, false, _&&_, _||_, not, and-false, false≢true}
+use mathlib.Core.Bool.{Bool, true, false, not, and-false, false≢true}
 use mathlib.Core.List.{List, [], _∷_, _++_, append-nil}
 use mathlib.Core.Option.{Option, none, some}
-use lib.ListN.{length, getD, take, drop, length-append}
+use lib.ListN.{length, getD, take, drop}
 use lib.Dec.{eqb, ltb}
 use borrow.Author.Tests.{eq-eqb, ne-eqb, eqb-true, lt-ltb, le-ltb}
-use Rattle.lin_spec.specs.Base.{pick, null, eqList, starts, ascii}
-use Rattle.lin_spec.specs.Records.{span, bytesAt}
+use Rattle.lin_spec.specs.Base.{pick, eqList, starts}
+use Rattle.lin_spec.specs.Records.{span}
 use Rattle.lin_spec.specs.Refusals.{sat}
 use Rattle.lin_spec.specs.Board.{isDigit, endsIn, numberIn}
-use Rattle.lin_spec.specs.Annotation.{noteOf, run, isMark, charBytes, partLength, nagWord, noteText, noteWord, isClosed, between, partWord}
+use Rattle.lin_spec.specs.Annotation.{noteOf, run, isMark, charBytes, partLength, nagWord, noteText, noteWord, between, partWord}
 use Rattle.lin_spec.specs.Utf8.{first}
 use Rattle.lin_spec.specs.declared.Span.{Span}
 use Rattle.lin_spec.proofs.Base.{picked, allBelow, same-below}
-use Rattle.lin_spec.proofs.Annotation.{part-some}
 use Rattle.text.specs.Digits.{numberOf}
 use Rattle.text.specs.declared.digits.MaybeNumber.{MaybeNumber}
 use Rattle.text.specs.declared.digits.MaybeNumber.the-variants.{Number, Nothing as NoNumber}

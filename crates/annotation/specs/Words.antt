@@ -1,7 +1,7 @@
 -- The word of a part as the code tells it, by the first byte; and words one after the other, with spaces. (01: From PBN, "Annotation parts ..")
 use Prim.Native.Nat.{ℕ, suc}
 use Prim.Native.Char.{code}
-use mathlib.Core.Bool.{Bool, true, false, _||_, not}
+use mathlib.Core.Bool.{Bool, false, _||_, not}
 use mathlib.Core.List.{List, [], _∷_, _++_}
 use mathlib.Core.Option.{Option, none, some}
 use lib.ListN.{drop}

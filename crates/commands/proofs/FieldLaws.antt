@@ -1,34 +1,28 @@
--- Laws of the fields of a heading: the names by pieces, sv, the dealer's digit, a small number. (01: Board)
+-- Laws of the fields of a heading: the names by pieces, sv, the dealer's digit. (01: Board)
 -- Assumes nothing.
-use Prim.Native.Nat.{ℕ, zero, suc, _+_, _-_, _^_, _≤_, _<_}
+use Prim.Native.Nat.{ℕ, suc, _+_, _-_, _^_, _≤_, _<_}
 use native.Mathlib.Omega.{arith}
-use mathlib.Core.Path.{_≡_, refl, ap, sym, subst, _∙_}
-use mathlib.Core.Bool.{Bool, true, false, _&&_, _||_, not, false≢true}
+use mathlib.Core.Path.{_≡_, refl, ap, sym, _∙_}
+use mathlib.Core.Bool.{Bool, true, false, _||_, not, false≢true}
 use mathlib.Core.List.{List, [], _∷_, _++_, append-assoc, append-nil}
-use mathlib.Core.Option.{Option, none, some}
 use native.Mathlib.Numerals.{add-one}
 use lib.ListN.{length, getD, set, take, drop, length-drop, length-set, drop-of-length-le}
 use lib.Seq.{take-all, take-suc-set, drop-set-lt, drop-cons, set-split}
-use lib.Dec.{eqb, leb}
-use borrow.Author.Tests.{leb-true}
-use Rattle.lin_spec.specs.Base.{pick, null, ascii}
+use lib.Dec.{eqb}
+use Rattle.lin_spec.specs.Base.{pick, ascii}
 use Rattle.lin_spec.specs.Records.{span, endOf, part, bytesAt}
 use Rattle.lin_spec.specs.White.{sameWord}
 use Rattle.lin_spec.specs.Tokens.{Pieces, cut}
 use Rattle.lin_spec.specs.Tokens.Pieces.{end, piece}
 use Rattle.lin_spec.specs.Cursor.{findFrom}
-use Rattle.lin_spec.specs.Board.{named, valueFrom, allDigits, afterPlus, numberIn, readSv}
+use Rattle.lin_spec.specs.Board.{named, readSv}
 use Rattle.lin_spec.specs.Reading.{spanText}
 use Rattle.lin_spec.specs.declared.Span.{Span}
-use Rattle.lin_spec.specs.declared.Vulnerability.{Vulnerability}
 use Rattle.lin_spec.specs.declared.Vulnerability.the-variants.{None, NorthSouth, EastWest, Both}
-use Rattle.lin_spec.proofs.Base.{picked, and-left, and-right, split}
+use Rattle.lin_spec.proofs.Base.{split}
 use Rattle.lin_spec.proofs.Records.{part-length}
 use Rattle.lin_spec.proofs.Reading.{part-most}
 use Rattle.lin_spec.proofs.Cursor.{find-within, find-after, cut-at, cut-end}
-use Rattle.text.specs.Digits.{numberOf}
-use Rattle.text.specs.declared.digits.MaybeNumber.{MaybeNumber}
-use Rattle.text.specs.declared.digits.MaybeNumber.the-variants.{Number}
 use Rattle.commands.specs.Fields.{isDealer, namesFrom}
 
 -- a field that the command does not change, and one that it does
@@ -39,21 +33,6 @@ off false a b h = refl
 pub changed : {A : Type 0} (t : Bool) (a b : A) {x : A} → not t ≡ false → x ≡ a → x ≡ pick t a b
 changed true a b h e = e
 changed false a b h e = absurd (false≢true (sym h))
-
--- mc: what a number at most 255 is
-abbrev SmallOption : Option ℕ → Type 0
-SmallOption none = Unit
-SmallOption (some n) = n ≤ 255
-
-number-small : (s : List ℕ) → SmallOption (numberIn 255 s)
-unfolding numberIn
-number-small s =
-    let t = afterPlus s in
-    picked SmallOption (not (null t) && (allDigits t && leb (valueFrom 0 t) 255))
-    (λ e. leb-true (valueFrom 0 t) 255 (and-right (allDigits t) _ (and-right (not (null t)) _ e))) (λ _. tt)
-
-pub small : (r : MaybeNumber) (n : ℕ) (s : List ℕ) → numberOf r ≡ numberIn 255 s → r ≡ Number n → n ≤ 255
-small r n s e f = subst SmallOption (sym e ∙ ap numberOf f) (number-small s)
 
 -- md: the digit of a dealer
 pub dealer-none : (s : List ℕ) → length s ≡ 0 → false ≡ isDealer s

@@ -1,18 +1,17 @@
 -- Laws of the number that digits give, for a loop that stops counting at a bound. (01: Board, mc)
 -- Assumes nothing.
-use Prim.Native.Nat.{ℕ, zero, suc, _+_, _*_, _-_, _≤_, _<_, min}
-use native.Mathlib.Nat.{le-of-suc-le-suc}
+use Prim.Native.Nat.{ℕ, suc, _+_, _*_, _-_, _≤_, _<_, min}
 use native.Mathlib.Numerals.{add-one}
 use native.Mathlib.Omega.{arith}
 use mathlib.Core.Path.{_≡_, refl, ap, sym, subst, _∙_}
-use mathlib.Core.Bool.{Bool, true, false, _&&_, not, and-false}
+use mathlib.Core.Bool.{true, false, _&&_, not, and-false}
 use mathlib.Core.List.{List, [], _∷_}
 use mathlib.Core.Option.{Option, none, some}
 use lib.ListN.{length, getD, take, drop, drop-of-length-le}
 use lib.Seq.{drop-cons, take-all}
 use borrow.Author.Tests.{eq-eqb, ne-eqb, leb-true, le-leb, lt-leb}
 use lib.Dec.{leb}
-use Rattle.lin_spec.specs.Base.{pick, null}
+use Rattle.lin_spec.specs.Base.{null}
 use Rattle.lin_spec.proofs.Base.{and-left, and-right, picked, split}
 use Rattle.lin_spec.specs.Board.{isDigit, allDigits, valueFrom, afterPlus, numberIn}
 use Rattle.text.specs.Digits.{numberOf}

@@ -1,6 +1,7 @@
 -- `commands::on_claim` meets its contract: the number of the trimmed value, or none.
 -- Assumes nothing.
-use Rattle.commands.proofs.FieldLaws.{off, changed, small}
+use Rattle.text.proofs.DigitLaws.{number-most}
+use Rattle.commands.proofs.FieldLaws.{off, changed}
 use Rattle.lin_spec.specs.Board.{numberIn}
 use Rattle.lin_spec.specs.White.{trim}
 use Rattle.text.specs.Digits.{numberOf}
@@ -37,7 +38,7 @@ enum-known-n c = search needs
 
 -- src/fields.rt:150:55
 cast-t11 : tie.Need-cast-t11
-cast-t11 c = omega (arith, small _ _ _ (c .before .before .before .read-number .ensures) (c .before .n .given .1))
+cast-t11 c = omega (arith, number-most 255 _ _ _ (c .before .before .before .read-number .ensures) (c .before .n .given .1))
 
 -- src/fields.rt:151:33
 enum-told : tie.Need-enum-told
