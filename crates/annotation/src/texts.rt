@@ -3,10 +3,10 @@
 use crate::parts::part_len;
 use crate::words::part_word;
 use crate::words::put_word;
-use crate::words::shown;
 use crate::words::word_len;
 use lin_spec::Span;
 use output::sat_add;
+use text::shown;
 ghost use mathlib.Core.Path.{_≡_};
 ghost use Prim.Native.Nat.{_+_};
 ghost use lib.ListN.{length};

@@ -5,8 +5,8 @@ use lin_spec::Span;
 use output::put_byte;
 use output::put_bytes;
 use text::MaybeNumber;
-use text::part;
 use text::read_number;
+use text::shown;
 ghost use mathlib.Core.Path.{_≡_};
 ghost use Prim.Native.Nat.{_<_};
 ghost use lib.ListN.{length};
@@ -95,13 +95,6 @@ pub(crate) fn part_word(part: &[u8], notes: &[u32; 768]) -> Word
         return Word::Itself;
     }
     Word::Nothing
-}
-
-// The bytes of a span.
-pub(crate) fn shown(text: &[u8], x: Span) -> &[u8]
-    ensures { λ r. ⌜ now r ≡ bytesAt (now (text .entry)) x ⌝ }
-{
-    part(text, x.start as usize, x.len as usize)
 }
 
 // How many bytes a mark has: those of `$1` and `$2` one, those of `$3` to `$6` two.

@@ -14,7 +14,7 @@ use Rattle.annotation.proofs.texts.annotation_len.Tie as tie
 use Rattle.annotation.proofs.texts.annotation_len.Reads as reads
 use Rattle.annotation.proofs.texts.annotation_len.Lts as lts
 use Rattle.annotation.proofs.texts.words_len.Reads as words-len-reads
-use Rattle.annotation.proofs.words.shown.Reads as shown-reads
+use Rattle.text.proofs.shown.Reads as shown-reads
 
 -- src/texts.rt:71:21
 shown-requires : tie.Need-shown-requires

@@ -11,7 +11,7 @@ use Rattle.annotation.proofs.texts.put_annotation.Tie as tie
 use Rattle.annotation.proofs.texts.put_annotation.Reads as reads
 use Rattle.annotation.proofs.texts.put_annotation.Lts as lts
 use Rattle.annotation.proofs.texts.put_words.Reads as put-words-reads
-use Rattle.annotation.proofs.words.shown.Reads as shown-reads
+use Rattle.text.proofs.shown.Reads as shown-reads
 
 -- src/texts.rt:79:30
 shown-requires : tie.Need-shown-requires

@@ -12,7 +12,7 @@ use Rattle.annotation.proofs.words.put_word.Reads as reads
 use Rattle.annotation.proofs.words.put_word.Lts as lts
 use Rattle.annotation.proofs.words.put_mark.Reads as put-mark-reads
 use Rattle.annotation.proofs.words.put_spaced.Reads as put-spaced-reads
-use Rattle.annotation.proofs.words.shown.Reads as shown-reads
+use Rattle.text.proofs.shown.Reads as shown-reads
 
 -- src/words.rt:167:26
 enum-told : tie.Need-enum-told

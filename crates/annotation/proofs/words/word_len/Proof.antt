@@ -11,7 +11,7 @@ use Rattle.annotation.proofs.words.word_len.Tie as tie
 use Rattle.annotation.proofs.words.word_len.Reads as reads
 use Rattle.annotation.proofs.words.word_len.Lts as lts
 use Rattle.annotation.proofs.words.mark_len.Reads as mark-len-reads
-use Rattle.annotation.proofs.words.shown.Reads as shown-reads
+use Rattle.text.proofs.shown.Reads as shown-reads
 
 -- src/words.rt:123:26
 enum-told : tie.Need-enum-told
