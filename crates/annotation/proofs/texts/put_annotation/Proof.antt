@@ -13,11 +13,11 @@ use Rattle.annotation.proofs.texts.put_annotation.Lts as lts
 use Rattle.annotation.proofs.texts.put_words.Reads as put-words-reads
 use Rattle.text.proofs.shown.Reads as shown-reads
 
--- src/texts.rt:79:30
+-- src/texts.rt:85:30
 shown-requires : tie.Need-shown-requires
 shown-requires c κs = search needs
 
--- src/texts.rt:79:5
+-- src/texts.rt:85:5
 put-words-requires : tie.Need-put-words-requires
 put-words-requires c κs = room-as (sym (ap (partsText (now (c .before .before .before .before .args .text)) (now (c .before .before .before .before .args .notes))) (c .shown .ensures) ∙ text-is (now (c .before .before .before .before .args .text)) (now (c .before .before .before .before .args .notes)) _)) (c .before .before .before .before .pre)
 

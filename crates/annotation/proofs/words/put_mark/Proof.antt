@@ -13,115 +13,115 @@ use Rattle.annotation.proofs.words.put_mark.Reads as reads
 use Rattle.annotation.proofs.words.put_mark.Lts as lts
 use Rattle.annotation.proofs.words.put_spaced.Reads as put-spaced-reads
 
--- src/words.rt:151:44
+-- src/words.rt:156:44
 slice-aggregate-put-spaced : tie.Need-slice-aggregate-put-spaced
 slice-aggregate-put-spaced c = search needs
 
--- src/words.rt:151:17
+-- src/words.rt:156:17
 put-spaced-requires : tie.Need-put-spaced-requires
 unfolding nagWord eqList
 put-spaced-requires c κs = room-as (ap (λ (d : ℕ). spacedWord (c .before .before .before .before .args .later) (nagText d)) (c .before .before .match .keys1)) (c .before .before .before .before .pre)
 
--- src/words.rt:152:44
+-- src/words.rt:157:44
 slice-aggregate-put-spaced-2 : tie.Need-slice-aggregate-put-spaced-2
 slice-aggregate-put-spaced-2 c = search needs
 
--- src/words.rt:152:17
+-- src/words.rt:157:17
 put-spaced-requires-2 : tie.Need-put-spaced-requires-2
 unfolding nagWord eqList
 put-spaced-requires-2 c κs = room-as (ap (λ (d : ℕ). spacedWord (c .before .before .before .before .args .later) (nagText d)) (c .before .before .match .keys2)) (c .before .before .before .before .pre)
 
--- src/words.rt:153:44
+-- src/words.rt:158:44
 slice-aggregate-put-spaced-3 : tie.Need-slice-aggregate-put-spaced-3
 slice-aggregate-put-spaced-3 c = search needs
 
--- src/words.rt:153:17
+-- src/words.rt:158:17
 put-spaced-requires-3 : tie.Need-put-spaced-requires-3
 unfolding nagWord eqList
 put-spaced-requires-3 c κs = room-as (ap (λ (d : ℕ). spacedWord (c .before .before .before .before .args .later) (nagText d)) (c .before .before .match .keys3)) (c .before .before .before .before .pre)
 
--- src/words.rt:154:44
+-- src/words.rt:159:44
 slice-aggregate-put-spaced-4 : tie.Need-slice-aggregate-put-spaced-4
 slice-aggregate-put-spaced-4 c = search needs
 
--- src/words.rt:154:17
+-- src/words.rt:159:17
 put-spaced-requires-4 : tie.Need-put-spaced-requires-4
 unfolding nagWord eqList
 put-spaced-requires-4 c κs = room-as (ap (λ (d : ℕ). spacedWord (c .before .before .before .before .args .later) (nagText d)) (c .before .before .match .keys4)) (c .before .before .before .before .pre)
 
--- src/words.rt:155:44
+-- src/words.rt:160:44
 slice-aggregate-put-spaced-5 : tie.Need-slice-aggregate-put-spaced-5
 slice-aggregate-put-spaced-5 c = search needs
 
--- src/words.rt:155:17
+-- src/words.rt:160:17
 put-spaced-requires-5 : tie.Need-put-spaced-requires-5
 unfolding nagWord eqList
 put-spaced-requires-5 c κs = room-as (ap (λ (d : ℕ). spacedWord (c .before .before .before .before .args .later) (nagText d)) (c .before .before .match .keys5)) (c .before .before .before .before .pre)
 
--- src/words.rt:156:44
+-- src/words.rt:161:44
 slice-aggregate-put-spaced-6 : tie.Need-slice-aggregate-put-spaced-6
 slice-aggregate-put-spaced-6 c = search needs
 
--- src/words.rt:156:17
+-- src/words.rt:161:17
 put-spaced-requires-6 : tie.Need-put-spaced-requires-6
 unfolding nagWord eqList
 put-spaced-requires-6 c κs = room-as (ap (λ (d : ℕ). spacedWord (c .before .before .before .before .args .later) (nagText d)) (c .before .before .match .keys6)) (c .before .before .before .before .pre)
 
--- src/words.rt:146:1
+-- src/words.rt:151:1
 same-length : tie.Need-same-length
 same-length c = search needs
 
--- src/words.rt:146:1
+-- src/words.rt:151:1
 returns : tie.Need-returns
 unfolding nagWord eqList
 returns c = put-as (sym (ap (λ (d : ℕ). spacedWord (c .before .before .before .before .before .before .before .args .later) (nagText d)) (c .before .before .before .before .before .match .keys1))) (c .before .before .put-spaced .ensures)
 
--- src/words.rt:146:1
+-- src/words.rt:151:1
 same-length-2 : tie.Need-same-length-2
 same-length-2 c = search needs
 
--- src/words.rt:146:1
+-- src/words.rt:151:1
 returns-2 : tie.Need-returns-2
 unfolding nagWord eqList
 returns-2 c = put-as (sym (ap (λ (d : ℕ). spacedWord (c .before .before .before .before .before .before .before .args .later) (nagText d)) (c .before .before .before .before .before .match .keys2))) (c .before .before .put-spaced2 .ensures)
 
--- src/words.rt:146:1
+-- src/words.rt:151:1
 same-length-3 : tie.Need-same-length-3
 same-length-3 c = search needs
 
--- src/words.rt:146:1
+-- src/words.rt:151:1
 returns-3 : tie.Need-returns-3
 unfolding nagWord eqList
 returns-3 c = put-as (sym (ap (λ (d : ℕ). spacedWord (c .before .before .before .before .before .before .before .args .later) (nagText d)) (c .before .before .before .before .before .match .keys3))) (c .before .before .put-spaced3 .ensures)
 
--- src/words.rt:146:1
+-- src/words.rt:151:1
 same-length-4 : tie.Need-same-length-4
 same-length-4 c = search needs
 
--- src/words.rt:146:1
+-- src/words.rt:151:1
 returns-4 : tie.Need-returns-4
 unfolding nagWord eqList
 returns-4 c = put-as (sym (ap (λ (d : ℕ). spacedWord (c .before .before .before .before .before .before .before .args .later) (nagText d)) (c .before .before .before .before .before .match .keys4))) (c .before .before .put-spaced4 .ensures)
 
--- src/words.rt:146:1
+-- src/words.rt:151:1
 same-length-5 : tie.Need-same-length-5
 same-length-5 c = search needs
 
--- src/words.rt:146:1
+-- src/words.rt:151:1
 returns-5 : tie.Need-returns-5
 unfolding nagWord eqList
 returns-5 c = put-as (sym (ap (λ (d : ℕ). spacedWord (c .before .before .before .before .before .before .before .args .later) (nagText d)) (c .before .before .before .before .before .match .keys5))) (c .before .before .put-spaced5 .ensures)
 
--- src/words.rt:146:1
+-- src/words.rt:151:1
 same-length-6 : tie.Need-same-length-6
 same-length-6 c = search needs
 
--- src/words.rt:146:1
+-- src/words.rt:151:1
 returns-6 : tie.Need-returns-6
 unfolding nagWord eqList
 returns-6 c = put-as (sym (ap (λ (d : ℕ). spacedWord (c .before .before .before .before .before .before .before .args .later) (nagText d)) (c .before .before .before .before .before .match .keys6))) (c .before .before .put-spaced6 .ensures)
 
--- src/words.rt:146:1
+-- src/words.rt:151:1
 returns-7 : tie.Need-returns-7
 returns-7 c =
     let m = c .match .rest in

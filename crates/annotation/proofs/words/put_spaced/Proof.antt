@@ -13,35 +13,35 @@ use Rattle.annotation.proofs.words.put_spaced.Lts as lts
 use Rattle.output.proofs.put_byte.Reads as put-byte-reads
 use Rattle.output.proofs.put_bytes.Reads as put-bytes-reads
 
--- src/words.rt:136:9
+-- src/words.rt:141:9
 returns : tie.Need-returns
 returns c = put-as (sym (spaced-none (c .before .before .before .args .later) (now (c .before .before .before .args .w)) (c .if1 .taken))) (put-none _ _)
 
--- src/words.rt:139:9
+-- src/words.rt:144:9
 put-bytes-requires : tie.Need-put-bytes-requires
 put-bytes-requires c κs = room-as (spaced-first (c .before .before .before .before .before .args .later) (now (c .before .before .before .before .before .args .w)) (not-true _ (c .before .if2 .taken))) (c .before .before .before .before .before .pre)
 
--- src/words.rt:139:9
+-- src/words.rt:144:9
 same-length : tie.Need-same-length
 same-length c = search needs
 
--- src/words.rt:139:9
+-- src/words.rt:144:9
 returns-2 : tie.Need-returns-2
 returns-2 c = put-as (sym (spaced-first (c .before .before .before .before .before .before .before .before .args .later) (now (c .before .before .before .before .before .before .before .before .args .w)) (not-true _ (c .before .before .before .before .if2 .taken)))) (c .before .before .put-bytes .ensures)
 
--- src/words.rt:141:9
+-- src/words.rt:146:9
 put-byte-requires : tie.Need-put-byte-requires
 put-byte-requires c κs = roomy _ _ (start (room-as (spaced-later (c .before .before .before .before .before .args .later) (now (c .before .before .before .before .before .args .w)) (not-false _ (c .before .if2 .left)) (c .before .before .if1 .left)) (c .before .before .before .before .before .pre)))
 
--- src/words.rt:142:5
+-- src/words.rt:147:5
 put-bytes-requires-2 : tie.Need-put-bytes-requires-2
 put-bytes-requires-2 c κs = roomy _ _ (step (start (room-as (spaced-later (c .before .before .before .before .before .before .before .before .before .args .later) (now (c .before .before .before .before .before .before .before .before .before .args .w)) (not-false _ (c .before .before .before .before .before .if2 .left)) (c .before .before .before .before .before .before .if1 .left)) (c .before .before .before .before .before .before .before .before .before .pre))) (c .before .before .before .put-byte .ensures))
 
--- src/words.rt:131:1
+-- src/words.rt:136:1
 same-length-2 : tie.Need-same-length-2
 same-length-2 c = search needs
 
--- src/words.rt:131:1
+-- src/words.rt:136:1
 returns-3 : tie.Need-returns-3
 returns-3 c = put-as (sym (spaced-later (c .before .before .before .before .before .before .before .before .before .before .before .before .args .later) (now (c .before .before .before .before .before .before .before .before .before .before .before .before .args .w)) (not-false _ (c .before .before .before .before .before .before .before .before .if2 .left)) (c .before .before .before .before .before .before .before .before .before .if1 .left))) (finish (step (step (start (room-as (spaced-later (c .before .before .before .before .before .before .before .before .before .before .before .before .args .later) (now (c .before .before .before .before .before .before .before .before .before .before .before .before .args .w)) (not-false _ (c .before .before .before .before .before .before .before .before .if2 .left)) (c .before .before .before .before .before .before .before .before .before .if1 .left)) (c .before .before .before .before .before .before .before .before .before .before .before .before .pre))) (c .before .before .before .before .before .before .put-byte .ensures)) (c .before .before .put-bytes2 .ensures)))
 

@@ -14,63 +14,63 @@ use Rattle.annotation.proofs.words.put_mark.Reads as put-mark-reads
 use Rattle.annotation.proofs.words.put_spaced.Reads as put-spaced-reads
 use Rattle.text.proofs.shown.Reads as shown-reads
 
--- src/words.rt:167:26
+-- src/words.rt:179:26
 enum-told : tie.Need-enum-told
 enum-told c = search needs
 
--- src/words.rt:168:36
+-- src/words.rt:180:36
 enum-told-2 : tie.Need-enum-told-2
 enum-told-2 c = search needs
 
--- src/words.rt:168:25
+-- src/words.rt:180:25
 put-spaced-requires : tie.Need-put-spaced-requires
 put-spaced-requires c κs = room-as (ap (λ (w : Word). spacedWord (c .before .before .before .before .before .before .args .later) (wordText (now (c .before .before .before .before .before .before .args .text)) (now (c .before .before .before .before .before .before .args .part)) w)) (c .before .enum-told2 .given .1)) (c .before .before .before .before .before .before .pre)
 
--- src/words.rt:169:20
+-- src/words.rt:181:20
 enum-known-word : tie.Need-enum-known-word
 enum-known-word c = search needs
 
--- src/words.rt:169:53
+-- src/words.rt:181:53
 shown-requires : tie.Need-shown-requires
 shown-requires c κs = search needs
 
--- src/words.rt:169:26
+-- src/words.rt:181:26
 put-spaced-requires-2 : tie.Need-put-spaced-requires-2
 put-spaced-requires-2 c κs = room-as (ap (λ (w : Word). spacedWord (c .before .before .before .before .before .before .before .before .args .later) (wordText (now (c .before .before .before .before .before .before .before .before .args .text)) (now (c .before .before .before .before .before .before .before .before .args .part)) w)) (c .before .before .before .word .given .1) ∙ ap (spacedWord (c .before .before .before .before .before .before .before .before .args .later)) (sym (c .shown .ensures))) (c .before .before .before .before .before .before .before .before .pre)
 
--- src/words.rt:170:20
+-- src/words.rt:182:20
 enum-known-word-2 : tie.Need-enum-known-word-2
 enum-known-word-2 c = search needs
 
--- src/words.rt:170:26
+-- src/words.rt:182:26
 put-mark-requires : tie.Need-put-mark-requires
 put-mark-requires c κs = room-as (ap (λ (w : Word). spacedWord (c .before .before .before .before .before .before .before .args .later) (wordText (now (c .before .before .before .before .before .before .before .args .text)) (now (c .before .before .before .before .before .before .before .args .part)) w)) (c .before .before .word2 .given .1)) (c .before .before .before .before .before .before .before .pre)
 
--- src/words.rt:162:1
+-- src/words.rt:167:1
 returns : tie.Need-returns
 returns c = put-as (sym (ap (λ (w : Word). spacedWord (c .before .before .before .before .before .args .later) (wordText (now (c .before .before .before .before .before .args .text)) (now (c .before .before .before .before .before .args .part)) w)) (c .enum-told .given .1))) (put-none _ _)
 
--- src/words.rt:162:1
+-- src/words.rt:167:1
 same-length : tie.Need-same-length
 same-length c = search needs
 
--- src/words.rt:162:1
+-- src/words.rt:167:1
 returns-2 : tie.Need-returns-2
 returns-2 c = put-as (sym (ap (λ (w : Word). spacedWord (c .before .before .before .before .before .before .before .before .before .args .later) (wordText (now (c .before .before .before .before .before .before .before .before .before .args .text)) (now (c .before .before .before .before .before .before .before .before .before .args .part)) w)) (c .before .before .before .before .enum-told2 .given .1))) (c .before .before .put-spaced .ensures)
 
--- src/words.rt:162:1
+-- src/words.rt:167:1
 same-length-2 : tie.Need-same-length-2
 same-length-2 c = search needs
 
--- src/words.rt:162:1
+-- src/words.rt:167:1
 returns-3 : tie.Need-returns-3
 returns-3 c = put-as (ap (spacedWord (c .before .before .before .before .before .before .before .before .before .before .before .args .later)) (c .before .before .before .shown .ensures) ∙ sym (ap (λ (w : Word). spacedWord (c .before .before .before .before .before .before .before .before .before .before .before .args .later) (wordText (now (c .before .before .before .before .before .before .before .before .before .before .before .args .text)) (now (c .before .before .before .before .before .before .before .before .before .before .before .args .part)) w)) (c .before .before .before .before .before .before .word .given .1))) (c .before .before .put-spaced2 .ensures)
 
--- src/words.rt:162:1
+-- src/words.rt:167:1
 same-length-3 : tie.Need-same-length-3
 same-length-3 c = search needs
 
--- src/words.rt:162:1
+-- src/words.rt:167:1
 returns-4 : tie.Need-returns-4
 returns-4 c = put-as (sym (ap (λ (w : Word). spacedWord (c .before .before .before .before .before .before .before .before .before .before .args .later) (wordText (now (c .before .before .before .before .before .before .before .before .before .before .args .text)) (now (c .before .before .before .before .before .before .before .before .before .before .args .part)) w)) (c .before .before .before .before .before .word2 .given .1))) (c .before .before .put-mark .ensures)
 

@@ -13,43 +13,43 @@ use Rattle.annotation.proofs.words.word_len.Lts as lts
 use Rattle.annotation.proofs.words.mark_len.Reads as mark-len-reads
 use Rattle.text.proofs.shown.Reads as shown-reads
 
--- src/words.rt:123:26
+-- src/words.rt:128:26
 enum-told : tie.Need-enum-told
 enum-told c = search needs
 
--- src/words.rt:124:25
+-- src/words.rt:129:25
 enum-told-2 : tie.Need-enum-told-2
 enum-told-2 c = search needs
 
--- src/words.rt:125:20
+-- src/words.rt:130:20
 enum-known-word : tie.Need-enum-known-word
 enum-known-word c = search needs
 
--- src/words.rt:125:26
+-- src/words.rt:130:26
 shown-requires : tie.Need-shown-requires
 shown-requires c κs = search needs
 
--- src/words.rt:126:20
+-- src/words.rt:131:20
 enum-known-word-2 : tie.Need-enum-known-word-2
 enum-known-word-2 c = search needs
 
--- src/words.rt:126:26
+-- src/words.rt:131:26
 mark-len-requires : tie.Need-mark-len-requires
 mark-len-requires c κs = search needs
 
--- src/words.rt:119:1
+-- src/words.rt:124:1
 returns : tie.Need-returns
 returns c = search needs
 
--- src/words.rt:119:1
+-- src/words.rt:124:1
 returns-2 : tie.Need-returns-2
 returns-2 c = sym (ap (λ (w : Word). length (wordText (now (c .before .before .before .before .args .text)) (now (c .before .before .before .before .args .part)) w)) (c .enum-told2 .given .1))
 
--- src/words.rt:119:1
+-- src/words.rt:124:1
 returns-3 : tie.Need-returns-3
 returns-3 c = ap length (c .shown .ensures) ∙ sym (ap (λ (w : Word). length (wordText (now (c .before .before .before .before .before .before .args .text)) (now (c .before .before .before .before .before .before .args .part)) w)) (c .before .before .word .given .1))
 
--- src/words.rt:119:1
+-- src/words.rt:124:1
 returns-4 : tie.Need-returns-4
 returns-4 c = c .mark-len .ensures ∙ sym (ap (λ (w : Word). length (wordText (now (c .before .before .before .before .before .before .args .text)) (now (c .before .before .before .before .before .before .args .part)) w)) (c .before .before .word2 .given .1))
 
