@@ -56,7 +56,7 @@ pub fn texts() -> Vec<String> {
     texts::distinct(GROUPS.iter().flat_map(|(_, texts)| texts()).collect())
 }
 
-const SEATS: [Direction; 4] = [
+pub(crate) const SEATS: [Direction; 4] = [
     Direction::South,
     Direction::West,
     Direction::North,

@@ -7,7 +7,10 @@ pub mod error;
 #[path = "../upstream/src/lin/mod.rs"]
 pub mod lin;
 
+pub mod appends;
 pub mod boards;
+pub mod built;
+pub mod equality;
 pub mod files;
 pub mod listing;
 pub mod random;
@@ -16,6 +19,7 @@ pub mod texts;
 pub mod tokens;
 pub mod utf8;
 pub mod vectors;
+pub mod writer;
 
 pub use bridge_types;
 

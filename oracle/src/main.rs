@@ -1,7 +1,7 @@
 //! Writes the upstream's answers as vector files: `oracle SUBJECT DIR`; and
 //! the stored runs of linlist: `oracle runs CRATES`.
 
-use oracle::{boards, files, listing, tokens, utf8, vectors::Vectors};
+use oracle::{appends, boards, equality, files, listing, tokens, utf8, vectors::Vectors, writer};
 use std::{env, fs, io, path::Path, process::ExitCode};
 
 struct Subject {
@@ -35,6 +35,21 @@ const SUBJECTS: &[Subject] = &[
         name: "listing",
         about: "what linlist prints, by parse_lin_file",
         vectors: listing::vectors,
+    },
+    Subject {
+        name: "writer",
+        about: "a board written and its play as text, by write_lin and format_cardplay_by_trick",
+        vectors: writer::vectors,
+    },
+    Subject {
+        name: "equality",
+        about: "whether two boards are equal, by LinData's ==",
+        vectors: equality::vectors,
+    },
+    Subject {
+        name: "appends",
+        about: "lists of append calls by a plain book, whose text parse_lin_file reads",
+        vectors: appends::vectors,
     },
 ];
 
