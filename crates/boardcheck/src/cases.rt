@@ -39,6 +39,16 @@ pub fn case_at(file: &[u8], text: Field, at: usize) -> Case {
     }
 }
 
+// The board whose fields begin at a place of the file, with no text before them.
+pub fn board_at(file: &[u8], at: usize) -> Case {
+    let none = Field {
+        start: at,
+        len: 0,
+        next: at,
+    };
+    case_at(file, none, at)
+}
+
 // The text that a board is of.
 pub fn text_of(file: &[u8], case: Case) -> &[u8] {
     let f = case.text;
@@ -46,7 +56,7 @@ pub fn text_of(file: &[u8], case: Case) -> &[u8] {
 }
 
 // The byte at a place, 255 beyond the end.
-pub(crate) fn byte_at(s: &[u8], at: usize) -> u8 {
+pub fn byte_at(s: &[u8], at: usize) -> u8 {
     if at < s.len() {
         return s[at];
     }

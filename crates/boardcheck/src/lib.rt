@@ -1,13 +1,28 @@
-// Boards held to the oracle's answers: what the programs share that replay them. (01: Records; Board; refusal 3)
+// Boards held to the oracle's answers, and boards lent as the oracle has them: what the programs share that replay them.
+// (01: Records; Board; Eight refusals)
 mod cases;
+mod faults;
 mod fields;
 mod groups;
 mod lent;
+mod made;
 mod rows;
 
 pub use cases::Case;
+pub use cases::board_at;
+pub use cases::byte_at;
 pub use cases::case_at;
 pub use cases::text_of;
+pub use faults::Faults;
+pub use faults::LONG;
+pub use faults::TEXTS;
+pub use faults::board_with;
+pub use faults::faults_of;
+pub use faults::faulty_board;
+pub use faults::faulty_card;
+pub use faults::faulty_text;
+pub use faults::first_of;
+pub use faults::row_with;
 pub use fields::fresh;
 pub use fields::heading_holds;
 pub use fields::unset;
@@ -26,5 +41,8 @@ pub use lent::refusal_is;
 pub use lent::refused;
 pub use lent::untouched;
 pub use lent::words_left;
+pub use made::board_of;
+pub use made::cards_of;
+pub use made::put_rows;
 pub use rows::span_at;
 pub use rows::word_at;
