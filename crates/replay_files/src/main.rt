@@ -1,7 +1,6 @@
 // Replays the oracle's files: the count of each text, its boards by number, with rows to spare and too few, the numbers that no board
 // has, the board cursor, and the names found; then the refusals. (01: File; names; Eight refusals, 1 to 4)
 mod names;
-mod numbers;
 mod refusals;
 mod sections;
 mod texts;
@@ -10,6 +9,10 @@ use crate::texts::Text;
 use crate::texts::text_at;
 use boardcheck::Call;
 use boardcheck::Group;
+use file::count_boards;
+use filecheck::boards;
+use filecheck::count_is;
+use filecheck::missing;
 use text::part;
 use vectors::Score;
 use vectors::counted;
@@ -30,10 +33,13 @@ enum Entry {
 
 // The score after a text: a case for each text, for each board or for each name.
 fn scored(score: Score, file: &[u8], t: Text, entry: Entry) -> Score {
+    let f = t.text;
+    let all = t.boards;
+    let text = part(file, f.start, f.len);
     match entry {
-        Entry::Count => counted(score, numbers::count(file, t)),
-        Entry::Number(call) => numbers::boards(score, file, t, call),
-        Entry::Missing => counted(score, numbers::missing(file, t)),
+        Entry::Count => counted(score, count_is(count_boards(text), t.count)),
+        Entry::Number(call) => boards(score, file, all.start, t.count, text, call),
+        Entry::Missing => counted(score, missing(text, t.count)),
         Entry::Cursor => counted(score, sections::agrees(file, t)),
         Entry::Finder => names::agree(score, file, t),
     }

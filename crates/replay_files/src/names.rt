@@ -1,7 +1,7 @@
 // The name finder over a text. (01: "the finder counts a file's boards with a given name ..")
-use crate::numbers::count_is;
 use crate::texts::Text;
 use file::find_name;
+use filecheck::count_is;
 use text::part;
 use vectors::Score;
 use vectors::counted;

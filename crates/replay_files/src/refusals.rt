@@ -1,7 +1,4 @@
 // The refusals of the file's entries, each with what it carries, beside the nearest text that is read. (01: Eight refusals, 1 to 4)
-use crate::numbers::count_is;
-use crate::numbers::none;
-use crate::numbers::with;
 use boardcheck::MARK;
 use boardcheck::WORD;
 use boardcheck::refusal_is;
@@ -13,6 +10,9 @@ use file::count_boards;
 use file::file_heading;
 use file::find_name;
 use file::open_boards;
+use filecheck::count_is;
+use filecheck::none;
+use filecheck::with;
 use lin_spec::LIMIT;
 use lin_spec::Verdict;
 use text::part;

@@ -1,8 +1,6 @@
 // The board cursor stepped over a text: its boards are those of the oracle, in order, and each is `parse_lin` of its part of the text,
 // with spans moved by the part's start. (01: File, "parts begin at ..", "Otherwise each line ..")
-use crate::texts::PLACES;
 use crate::texts::Text;
-use crate::texts::WORDS;
 use board::parse_lin;
 use boardcheck::Case;
 use boardcheck::Group;
@@ -19,6 +17,8 @@ use file::OpenedBoards;
 use file::Section;
 use file::file_board;
 use file::open_boards;
+use filecheck::PLACES;
+use filecheck::WORDS;
 use lin_spec::Board;
 use lin_spec::MaybeSpan;
 use lin_spec::Span;

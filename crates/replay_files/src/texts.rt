@@ -6,12 +6,6 @@ use vectors::field_at;
 use vectors::number_at;
 use vectors::passed;
 
-// The words that are lent: 32 rows, more than any board of the file has calls, and five words that are no row.
-pub const WORDS: usize = 197;
-
-// The places for cards, more than any board of the file has.
-pub const PLACES: usize = 64;
-
 // Where the fields stand, and the numbers of names and boards.
 pub struct Text {
     pub text: Field,

@@ -1,7 +1,5 @@
 // Calls with several faults: the first in the order 1, 8, 5, 6, 7. (01: Eight refusals, "All other calls ..")
-use crate::refusals::is;
 use crate::refusals::stayed;
-use crate::refusals::within;
 use boardcheck::Faults;
 use boardcheck::MARK;
 use boardcheck::faults_of;
@@ -12,6 +10,8 @@ use boardcheck::first_of;
 use lin_spec::Written;
 use vectors::Score;
 use vectors::counted;
+use writecheck::answer_is;
+use writecheck::append_within;
 
 // `é`, and as many spaces as make it too long.
 const SPACE: usize = 1_048_577;
@@ -67,7 +67,7 @@ fn count_of(number: u32) -> u64 {
 fn called(space: &[u8], f: Faults, out: &mut [u8], room: usize, used: usize) -> Written {
     let none = [0u32; 0];
     let text = faulty_text(space, f);
-    within(
+    append_within(
         text,
         faulty_board(f),
         &none,
@@ -91,7 +91,7 @@ fn tried(score: Score, space: &[u8], n: usize) -> Score {
     let number = number_of(f, w);
     counted(
         score,
-        is(answer, number, count_of(number)) & stayed(&out, number),
+        answer_is(answer, number, count_of(number)) & stayed(&out, number),
     )
 }
 

@@ -1,11 +1,11 @@
 // An output longer than the longest text: its room is 1,048,576 bytes. (01: Writer, "Every output's room ..")
-use crate::refusals::is;
 use boardcheck::MARK;
 use cardtext::format_cardplay_by_trick;
 use lin_spec::Board;
 use vectors::Score;
 use vectors::counted;
 use vectors::filled;
+use writecheck::answer_is;
 use writer::append;
 use writer::write_lin;
 
@@ -16,7 +16,10 @@ const OUT: usize = 1_048_578;
 fn refused(score: Score, out: &mut [u8; OUT], used: usize, number: u32, count: u64) -> Score {
     let none = [0u32; 0];
     let answer = append(b"", Board::new(), &none, b"", out, used);
-    counted(score, is(answer, number, count) & filled(out, 0, MARK))
+    counted(
+        score,
+        answer_is(answer, number, count) & filled(out, 0, MARK),
+    )
 }
 
 // It is accepted where it ends with the room, and the bytes after the room are as they were.
@@ -24,7 +27,7 @@ fn last(score: Score, out: &mut [u8; OUT]) -> Score {
     let none = [0u32; 0];
     let answer = append(b"", Board::new(), &none, b"", out, 1_048_533);
     let kept = filled(out, 1_048_576, MARK);
-    counted(score, is(answer, 0, 1_048_576) & kept)
+    counted(score, answer_is(answer, 0, 1_048_576) & kept)
 }
 
 // An output that is longer than its room is refused by none.
@@ -32,7 +35,10 @@ fn taken(score: Score, out: &mut [u8; OUT]) -> Score {
     let none = [0u32; 0];
     let board = write_lin(b"", Board::new(), &none, b"", out);
     let play = format_cardplay_by_trick(&[0, 51], out);
-    counted(counted(score, is(board, 0, 43)), is(play, 0, 5))
+    counted(
+        counted(score, answer_is(board, 0, 43)),
+        answer_is(play, 0, 5),
+    )
 }
 
 pub fn cases(score: Score) -> Score {

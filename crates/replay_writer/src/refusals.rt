@@ -4,56 +4,33 @@ use boardcheck::LONG;
 use boardcheck::MARK;
 use boardcheck::TEXTS;
 use boardcheck::board_with;
-use boardcheck::least;
-use boardcheck::refusal_is;
 use boardcheck::row_with;
-use cardtext::format_cardplay_by_trick;
 use lin_spec::Board;
 use lin_spec::Deal;
 use lin_spec::LIMIT;
 use lin_spec::Span;
-use lin_spec::Written;
 use text::part;
 use vectors::Score;
 use vectors::counted;
 use vectors::filled;
+use writecheck::answer_is;
+use writecheck::append_within;
+use writecheck::play_within;
 use writer::append;
 use writer::write_lin;
-
-// Whether an answer is the refusal of this number with this count; or, where the number is 0, the count.
-pub fn is(answer: Written, number: u32, count: u64) -> bool {
-    match answer {
-        Written::Length(n) => (number == 0) & (n as u64 == count),
-        Written::Refused(r) => refusal_is(r, number, 0, count),
-    }
-}
 
 // Whether the output is as it was, if the call was refused.
 pub fn stayed(out: &[u8], number: u32) -> bool {
     (number == 0) | filled(out, 0, MARK)
 }
 
-// Appends a board with the first bytes of an output.
-pub fn within(
-    text: &[u8],
-    board: Board,
-    rows: &[u32],
-    cards: &[u8],
-    out: &mut [u8],
-    room: usize,
-    used: usize,
-) -> Written {
-    let n = least(room, out.len());
-    append(text, board, rows, cards, &mut out[..n], used)
-}
-
-// A board is written so into so much room, by append after no used byte and by write_lin.
+// A board is written so, by append after no used byte and by write_lin.
 fn lent(text: &[u8], board: Board, rows: &[u32], cards: &[u8], number: u32, count: u64) -> bool {
     let mut out = [MARK; 128];
     let mut out2 = [MARK; 128];
     let first = append(text, board, rows, cards, &mut out, 0);
     let second = write_lin(text, board, rows, cards, &mut out2);
-    let both = is(first, number, count) & is(second, number, count);
+    let both = answer_is(first, number, count) & answer_is(second, number, count);
     both & stayed(&out, number) & stayed(&out2, number)
 }
 
@@ -61,8 +38,11 @@ fn lent(text: &[u8], board: Board, rows: &[u32], cards: &[u8], number: u32, coun
 fn fresh(score: Score, room: usize, used: usize, number: u32, count: u64) -> Score {
     let none = [0u32; 0];
     let mut out = [MARK; 128];
-    let answer = within(b"", Board::new(), &none, b"", &mut out, room, used);
-    counted(score, is(answer, number, count) & stayed(&out, number))
+    let answer = append_within(b"", Board::new(), &none, b"", &mut out, room, used);
+    counted(
+        score,
+        answer_is(answer, number, count) & stayed(&out, number),
+    )
 }
 
 // Rooms around the 43 bytes of a fresh board, and used bytes around the room.
@@ -194,17 +174,14 @@ fn counts(score: Score) -> Score {
     huge(s, Deal { counts: long }, 4_294_967_390)
 }
 
-// Writes a play with the first bytes of an output.
-fn play_within(cards: &[u8], out: &mut [u8], room: usize) -> Written {
-    let n = least(room, out.len());
-    format_cardplay_by_trick(cards, &mut out[..n])
-}
-
 // The play is written so into so much room.
 fn play(score: Score, cards: &[u8], room: usize, number: u32, count: u64) -> Score {
     let mut out = [MARK; 16];
     let answer = play_within(cards, &mut out, room);
-    counted(score, is(answer, number, count) & stayed(&out, number))
+    counted(
+        score,
+        answer_is(answer, number, count) & stayed(&out, number),
+    )
 }
 
 // Plays with little room, none, and with a card that is none: 8 comes before 7.

@@ -1,13 +1,7 @@
 // One case written, and held to the oracle's text: the answer, the bytes, and those around them. (01: Writer; refusal 7)
 use crate::cases::Case;
 use boardcheck::MARK;
-use boardcheck::WORD;
-use boardcheck::board_of;
 use boardcheck::cards_of;
-use boardcheck::least;
-use boardcheck::put_rows;
-use boardcheck::refusal_is;
-use cardtext::format_cardplay_by_trick;
 use check::same;
 use lin_spec::Written;
 use std::num::wrapping_add_usize;
@@ -15,12 +9,10 @@ use std::num::wrapping_sub_usize;
 use text::part;
 use vectors::Field;
 use vectors::filled;
-use vectors::words;
-use writer::append;
-use writer::write_lin;
-
-// The words of 128 rows, more than any board of the file has calls, and five words that are no row.
-const WORDS: usize = 773;
+use writecheck::answer_is;
+use writecheck::append_case;
+use writecheck::play_within;
+use writecheck::write_case;
 
 // More bytes than are written of any board of the file.
 pub const ROOM: usize = 16_384;
@@ -78,45 +70,28 @@ fn room_for(end: usize, space: Space) -> usize {
     }
 }
 
-// Lends the board to the entry. Its text is the file from the board's own place on.
-fn lent(file: &[u8], case: Case, entry: Entry, out: &mut [u8]) -> Written {
-    let mut rows = [WORD; WORDS];
-    let from = case.at;
+// Writes the case with the first bytes of an output.
+fn within(file: &[u8], case: Case, entry: Entry, out: &mut [u8], room: usize) -> Written {
     let board = case.board;
-    let n = put_rows(file, board, from, &mut rows);
-    let text = part(file, from, file.len());
-    let cards = cards_of(file, board);
-    let made = board_of(file, board, from);
     match entry {
-        Entry::Write => write_lin(text, made, words(&rows, n), cards, out),
-        Entry::Append => append(text, made, words(&rows, n), cards, out, USED),
-        Entry::Play => format_cardplay_by_trick(cards, out),
+        Entry::Write => write_case(file, board, case.at, out, room),
+        Entry::Append => append_case(file, board, case.at, out, room, USED),
+        Entry::Play => play_within(cards_of(file, board), out, room),
     }
 }
 
-// Lends it with the first bytes of an output.
-fn within(file: &[u8], case: Case, entry: Entry, out: &mut [u8], room: usize) -> Written {
-    let n = least(room, out.len());
-    lent(file, case, entry, &mut out[..n])
-}
-
-// Whether the answer is this count, and the output has the text after the used bytes, which are as they were, as are those after it.
+// Whether the answer is the place after the text, and the output has the text after the used bytes, which are as they were, as are those
+// after it.
 fn wrote(answer: Written, out: &[u8], text: &[u8], used: usize) -> bool {
     let end = wrapping_add_usize(used, text.len());
-    let Written::Length(n) = answer else {
-        return false;
-    };
     let before = filled(part(out, 0, used), 0, MARK);
     let here = same(part(out, used, text.len()), text);
-    (n == end) & before & here & filled(out, end, MARK)
+    answer_is(answer, 0, end as u64) & before & here & filled(out, end, MARK)
 }
 
 // Whether the answer is refusal 7 with this count, and the output is as it was.
 fn too_small(answer: Written, out: &[u8], bytes: usize) -> bool {
-    match answer {
-        Written::Length(_) => false,
-        Written::Refused(r) => refusal_is(r, 7, 0, bytes as u64) & filled(out, 0, MARK),
-    }
+    answer_is(answer, 7, bytes as u64) & filled(out, 0, MARK)
 }
 
 // Whether the case agrees.

@@ -1,20 +1,20 @@
--- `replay_files::numbers::boards` is safe and ends. The invariant says nothing, and the measure is the number of boards left.
+-- `filecheck::boards` is safe and ends. The invariant says nothing, and the measure is the number of boards left.
 -- Assumes nothing.
 use borrow.Author.Needs.{needs}
-use Rattle.replay_files.proofs.numbers.boards.Statement.{statement}
-use Rattle.replay_files.proofs.numbers.boards.Tie as tie
+use Rattle.filecheck.proofs.boards.Statement.{statement}
+use Rattle.filecheck.proofs.boards.Tie as tie
 
 abbrev Inv-loop : tie.InvT-loop
-Inv-loop file t call s₀ at₀ n₀ left₀ s at n left = Unit {0}
+Inv-loop file first count text call s₀ at₀ n₀ left₀ s at n left = Unit {0}
 
 abbrev μ-loop : tie.MeasureT-loop
-μ-loop file t call s₀ at₀ n₀ left₀ s at n left = left
+μ-loop file first count text call s₀ at₀ n₀ left₀ s at n left = left
 
 loop-holds : tie.Need-loop-holds Inv-loop μ-loop
 loop-holds c = search needs
 
-case-at-requires : tie.Need-case-at-requires Inv-loop μ-loop
-case-at-requires c κs = search needs
+board-at-requires : tie.Need-board-at-requires Inv-loop μ-loop
+board-at-requires c κs = search needs
 
 scored-requires : tie.Need-scored-requires Inv-loop μ-loop
 scored-requires c κs = search needs
@@ -41,7 +41,7 @@ boards-spec =
     Inv-loop
     μ-loop
     loop-holds
-    case-at-requires
+    board-at-requires
     scored-requires
     wrapping-add-usize-requires
     sub-left

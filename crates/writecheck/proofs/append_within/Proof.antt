@@ -1,11 +1,11 @@
--- `replay_writer::refusals::within` is safe: the bytes that it lends are no more than there are.
+-- `writecheck::append_within` is safe: the bytes that it lends are no more than there are.
 -- Assumes nothing.
 use borrow.Author.Needs.{needs}
 use lib.ListN.{length, length-take}
 use native.Mathlib.Omega.{arith}
 use borrow.Author.Needs.{needs}
-use Rattle.replay_writer.proofs.refusals.within.Statement.{statement}
-use Rattle.replay_writer.proofs.refusals.within.Tie as tie
+use Rattle.writecheck.proofs.append_within.Statement.{statement}
+use Rattle.writecheck.proofs.append_within.Tie as tie
 
 least-requires : tie.Need-least-requires
 least-requires c κs = search needs
@@ -25,8 +25,8 @@ same-length c = search needs
 returns : tie.Need-returns
 returns c = search needs
 
-pub within-spec : {M : Type 1} → statement M
-within-spec =
+pub append-within-spec : {M : Type 1} → statement M
+append-within-spec =
     tie.close
     (tie.spec
     least-requires

@@ -1,11 +1,11 @@
--- `replay_writer::refusals::play_within` is safe: the bytes that it lends are no more than there are.
+-- `writecheck::play_within` is safe: the bytes that it lends are no more than there are.
 -- Assumes nothing.
 use borrow.Author.Needs.{needs}
 use lib.ListN.{length, length-take}
 use native.Mathlib.Omega.{arith}
 use borrow.Author.Needs.{needs}
-use Rattle.replay_writer.proofs.refusals.play_within.Statement.{statement}
-use Rattle.replay_writer.proofs.refusals.play_within.Tie as tie
+use Rattle.writecheck.proofs.play_within.Statement.{statement}
+use Rattle.writecheck.proofs.play_within.Tie as tie
 
 least-requires : tie.Need-least-requires
 least-requires c κs = search needs

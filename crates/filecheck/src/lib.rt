@@ -1,7 +1,5 @@
-// The count of a file, and its boards by number. (01: File; refusals 3 and 4)
-use crate::texts::PLACES;
-use crate::texts::Text;
-use crate::texts::WORDS;
+// A file's boards by number, held to the oracle's, and the numbers that no board has: what the programs share that replay files.
+// (01: File; refusals 3 and 4)
 use boardcheck::Call;
 use boardcheck::Case;
 use boardcheck::Group;
@@ -9,22 +7,25 @@ use boardcheck::MARK;
 use boardcheck::WORD;
 use boardcheck::answered;
 use boardcheck::asked;
-use boardcheck::case_at;
+use boardcheck::board_at;
 use boardcheck::heading_holds;
 use boardcheck::least;
 use boardcheck::lent_to;
 use boardcheck::refused;
-use boardcheck::text_of;
 use boardcheck::untouched;
 use file::Counted;
-use file::count_boards;
 use file::file_board;
 use file::file_heading;
 use lin_spec::Heading;
 use std::num::wrapping_add_usize;
-use text::part;
 use vectors::Score;
 use vectors::counted;
+
+// The words that are lent: 32 rows, more than any board of a file has calls, and five words that are no row.
+pub const WORDS: usize = 197;
+
+// The places for cards, more than any board of a file has.
+pub const PLACES: usize = 64;
 
 // Whether a count is this one, and no refusal.
 pub fn count_is(c: Counted, n: usize) -> bool {
@@ -34,13 +35,7 @@ pub fn count_is(c: Counted, n: usize) -> bool {
     }
 }
 
-pub fn count(file: &[u8], t: Text) -> bool {
-    let f = t.text;
-    count_is(count_boards(part(file, f.start, f.len)), t.count)
-}
-
-fn heading(file: &[u8], case: Case, number: usize) -> bool {
-    let text = text_of(file, case);
+fn heading(file: &[u8], case: Case, text: &[u8], number: usize) -> bool {
     heading_holds(file, case, text, file_heading(text, number))
 }
 
@@ -59,39 +54,44 @@ pub fn with(
 }
 
 // The board of a number agrees with what the group lends.
-fn board(file: &[u8], case: Case, number: usize, group: Group) -> bool {
+fn board(file: &[u8], case: Case, text: &[u8], number: usize, group: Group) -> bool {
     let mut rows = [WORD; WORDS];
     let mut cards = [MARK; PLACES];
     let lent = lent_to(case, group);
-    let text = text_of(file, case);
     let h = with(text, number, &mut rows, lent.words, &mut cards, lent.places);
     answered(file, case, text, lent, h, &rows, &cards)
 }
 
 // The score after one board, if the group asks it.
-fn scored(score: Score, file: &[u8], case: Case, number: usize, call: Call) -> Score {
+fn scored(score: Score, file: &[u8], case: Case, text: &[u8], number: usize, call: Call) -> Score {
     match call {
-        Call::Heading => counted(score, heading(file, case, number)),
+        Call::Heading => counted(score, heading(file, case, text, number)),
         Call::Board(group) => {
             if !asked(case, group) {
                 return score;
             }
-            counted(score, board(file, case, number, group))
+            counted(score, board(file, case, text, number, group))
         }
     }
 }
 
-// Each board by its number.
-pub fn boards(score: Score, file: &[u8], t: Text, call: Call) -> Score {
-    let all = t.boards;
+// Each board of a text by its number. Their fields begin at a place of the file.
+pub fn boards(
+    score: Score,
+    file: &[u8],
+    first: usize,
+    count: usize,
+    text: &[u8],
+    call: Call,
+) -> Score {
     let mut s = score;
-    let mut at = all.start;
+    let mut at = first;
     let mut n = 0;
-    let mut left = t.count;
+    let mut left = count;
     while 0 < left {
-        let case = case_at(file, t.text, at);
+        let case = board_at(file, at);
         let end = case.play;
-        s = scored(s, file, case, n, call);
+        s = scored(s, file, case, text, n, call);
         at = end.next;
         n = wrapping_add_usize(n, 1);
         left -= 1;
@@ -115,9 +115,7 @@ pub fn none(text: &[u8], number: usize, count: usize) -> bool {
 }
 
 // The number after the last, one that is 0 in 32 bits, and the greatest.
-pub fn missing(file: &[u8], t: Text) -> bool {
-    let f = t.text;
-    let text = part(file, f.start, f.len);
-    let last = none(text, t.count, t.count);
-    last & beyond(text, 4_294_967_296, t.count) & beyond(text, usize::MAX, t.count)
+pub fn missing(text: &[u8], count: usize) -> bool {
+    let last = none(text, count, count);
+    last & beyond(text, 4_294_967_296, count) & beyond(text, usize::MAX, count)
 }

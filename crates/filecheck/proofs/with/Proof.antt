@@ -1,10 +1,10 @@
--- `replay_files::numbers::with` is safe: the words and places that it lends are no more than there are.
+-- `filecheck::with` is safe: the words and places that it lends are no more than there are.
 -- Assumes nothing.
 use borrow.Author.Needs.{needs}
 use lib.ListN.{length-take}
 use native.Mathlib.Omega.{arith}
-use Rattle.replay_files.proofs.numbers.with.Statement.{statement}
-use Rattle.replay_files.proofs.numbers.with.Tie as tie
+use Rattle.filecheck.proofs.with.Statement.{statement}
+use Rattle.filecheck.proofs.with.Tie as tie
 
 least-requires : tie.Need-least-requires
 least-requires c κs = search needs
