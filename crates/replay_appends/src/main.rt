@@ -79,6 +79,9 @@ fn replay(file: &[u8], asked: Asked) -> Score {
         if file.len() < next {
             return counted(score, false);
         }
+        if list.calls < list.count {
+            return counted(score, false);
+        }
         score = one(score, file, list, asked);
         at = next;
     }

@@ -33,6 +33,12 @@ counted-requires-2 c κs = search needs
 returns-2 : tie.Need-returns-2 Inv-loop μ-loop
 returns-2 c = search needs
 
+counted-requires-3 : tie.Need-counted-requires-3 Inv-loop μ-loop
+counted-requires-3 c κs = search needs
+
+returns-3 : tie.Need-returns-3 Inv-loop μ-loop
+returns-3 c = search needs
+
 one-requires : tie.Need-one-requires Inv-loop μ-loop
 one-requires c κs = search needs
 
@@ -42,8 +48,8 @@ loop-less c = search needs
 loop-again : tie.Need-loop-again Inv-loop μ-loop
 loop-again c = search needs
 
-returns-3 : tie.Need-returns-3 Inv-loop μ-loop
-returns-3 c = search needs
+returns-4 : tie.Need-returns-4 Inv-loop μ-loop
+returns-4 c = search needs
 
 pub replay-spec : {M : Type 1} → statement M
 replay-spec =
@@ -58,7 +64,9 @@ replay-spec =
     returns
     counted-requires-2
     returns-2
+    counted-requires-3
+    returns-3
     one-requires
     loop-less
     loop-again
-    returns-3)
+    returns-4)
