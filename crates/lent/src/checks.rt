@@ -79,7 +79,7 @@ fn name_faulty(text: &[u8], names: [Span; 4], fault: Fault) -> bool
 }
 
 // Whether a text that is present has this fault.
-fn present_faulty(text: &[u8], x: MaybeSpan, fault: Fault) -> bool
+pub fn present_faulty(text: &[u8], x: MaybeSpan, fault: Fault) -> bool
     ensures { λ r. ⌜ r ≡ any (faultOf fault (now (text .entry))) (spanIn (optionOf x)) ⌝ }
 {
     match x {

@@ -7,3 +7,4 @@ pub use checks::any_faulty;
 pub use checks::bad_cards;
 pub use checks::bad_number;
 pub use checks::check;
+pub use checks::present_faulty;

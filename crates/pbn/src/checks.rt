@@ -1,0 +1,131 @@
+// The checks of a PBN record: 1, 8, 5 and 6, each over all that is lent before the next. (01: From PBN; Eight refusals)
+use lent::present_faulty;
+use lin_spec::LIMIT;
+use lin_spec::MaybeNumber;
+use lin_spec::MaybeSpan;
+use lin_spec::PbnBoard;
+use lin_spec::PbnCall;
+use lin_spec::Refusal;
+use lin_spec::Span;
+use lin_spec::Verdict;
+use text::Fault;
+use text::faulty;
+ghost use mathlib.Core.Path.{_≡_};
+ghost use mathlib.Core.Bool.{_||_};
+ghost use Prim.Native.Nat.{_-_, _≤_};
+ghost use lib.ListN.{length};
+ghost use Rattle.lin_spec.specs.Base.{any};
+ghost use Rattle.lin_spec.specs.Lent.{spanIn};
+ghost use Rattle.lin_spec.specs.Pbn.{pbnRow, pbnRows, rawOf, badEntry, badCall, badBoardNumber, rawSpans, nameSpans};
+ghost use Rattle.text.specs.Fault.{faultOf};
+ghost use Rattle.lent.specs.Calls.{rowAt};
+
+// The call that the six words from i on give.
+pub(crate) fn call_at(calls: &[u32], i: usize) -> PbnCall
+    requires { ⌜ 6 ≤ length (now calls) - i ⌝ }
+    ensures { λ r. ⌜ r ≡ rowAt pbnRow (now (calls .entry)) i ⌝ }
+{
+    let annotation = Span {
+        start: calls[i + 4],
+        len: calls[i + 5],
+    };
+    PbnCall {
+        kind: calls[i],
+        level: calls[i + 1],
+        strain: calls[i + 2],
+        annotated: calls[i + 3],
+        annotation,
+    }
+}
+
+// Whether a number of a call is outside its range. Level and strain are those of a bid alone.
+fn bad_call(c: PbnCall) -> bool
+    ensures { λ r. ⌜ r ≡ badCall c ⌝ }
+{
+    let bid = (c.level == 0) | ((7 < c.level) | (4 < c.strain));
+    (5 < c.kind) | (((c.kind == 3) & bid) | (1 < c.annotated))
+}
+
+// Whether a call has such a number.
+fn bad_calls(calls: &[u32]) -> bool
+    ensures { λ r. ⌜ r ≡ any badCall (pbnRows (now (calls .entry))) ⌝ }
+{
+    let mut i = 0;
+    while 6 <= calls.len() - i {
+        if bad_call(call_at(calls, i)) {
+            return true;
+        }
+        i += 6;
+    }
+    false
+}
+
+// Whether an entry of a play is neither a card nor a gap.
+fn bad_entry(b: u8) -> bool
+    ensures { λ r. ⌜ r ≡ badEntry b ⌝ }
+{
+    (51 < b) & (b != 255)
+}
+
+// Whether a play has such an entry.
+fn bad_plays(plays: &[u8]) -> bool
+    ensures { λ r. ⌜ r ≡ any badEntry (now (plays .entry)) ⌝ }
+{
+    let mut i = 0;
+    while i < plays.len() {
+        if bad_entry(plays[i]) {
+            return true;
+        }
+        i += 1;
+    }
+    false
+}
+
+// Whether a board number is outside 1 to 65,535.
+fn bad_board_number(n: MaybeNumber) -> bool
+    ensures { λ r. ⌜ r ≡ badBoardNumber n ⌝ }
+{
+    match n {
+        MaybeNumber::Absent => false,
+        MaybeNumber::Number(k) => (k == 0) | (65_535 < k),
+    }
+}
+
+// Whether the raw annotation of a call has this fault.
+fn raw_faulty(text: &[u8], c: PbnCall, fault: Fault) -> bool
+    ensures { λ r. ⌜ r ≡ any (faultOf fault (now (text .entry))) (spanIn (rawOf c)) ⌝ }
+{
+    if c.annotated == 0 {
+        return false;
+    }
+    faulty(text, c.annotation, fault)
+}
+
+// Whether the raw annotation of a call has it, dropped calls among them.
+fn raws_faulty(text: &[u8], calls: &[u32], fault: Fault) -> bool
+    ensures { λ r. ⌜ r ≡ any (faultOf fault (now (text .entry))) (rawSpans (pbnRows (now (calls .entry)))) ⌝ }
+{
+    let mut i = 0;
+    while 6 <= calls.len() - i {
+        if raw_faulty(text, call_at(calls, i), fault) {
+            return true;
+        }
+        i += 6;
+    }
+    false
+}
+
+// Whether a name has this fault.
+fn names_faulty(text: &[u8], names: [MaybeSpan; 4], fault: Fault) -> bool
+    ensures { λ r. ⌜ r ≡ any (faultOf fault (now (text .entry))) (nameSpans names) ⌝ }
+{
+    let mut seat = 0;
+    while seat < 4 {
+        let name = names[seat];
+        if present_faulty(text, name, fault) {
+            return true;
+        }
+        seat += 1;
+    }
+    false
+}

@@ -1,0 +1,2 @@
+// Boards made from PBN records: `from_board`. (01: From PBN; upstream's writer.rs)
+mod checks;
