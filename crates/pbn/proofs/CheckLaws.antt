@@ -5,15 +5,23 @@ use mathlib.Core.Path.{_≡_, refl, ap, sym, _∙_}
 use mathlib.Core.Bool.{Bool, true, false, _&&_, _||_, not, or-assoc, or-false}
 use mathlib.Core.List.{List, [], _∷_, _++_}
 use mathlib.Core.Option.{Option, none, some}
+use lib.ListN.{length}
 use lib.Dec.{eqb, ltb}
 use borrow.Author.Tests.{lt-ltb, le-ltb, eq-eqb, ne-eqb}
 use Rattle.lin_spec.specs.Base.{pick, any}
-use Rattle.lin_spec.specs.Records.{optionOf}
+use Rattle.lin_spec.specs.Records.{limit, optionOf}
+use Rattle.lin_spec.specs.Refusals.{unless, passesEnd, illSpan}
+use Rattle.lin_spec.specs.Refusals.Answer.{refused, accepted}
 use Rattle.lin_spec.specs.Lent.{spanIn}
-use Rattle.lin_spec.specs.Pbn.{gap, rawOf, badEntry, badBoardNumber, rawSpans, nameSpans}
+use Rattle.lin_spec.specs.Pbn.{gap, pbnRows, rawOf, badEntry, badCall, badBoardNumber, badPbn, rawSpans, nameSpans, pbnSpans}
+use Rattle.lin_spec.specs.Annotation.{noteSpans}
 use Rattle.lin_spec.specs.declared.Span.{Span}
 use Rattle.lin_spec.specs.declared.MaybeSpan.{MaybeSpan}
 use Rattle.lin_spec.specs.declared.PbnCall.{PbnCall}
+use Rattle.lin_spec.specs.declared.PbnBoard.{PbnBoard}
+use Rattle.lin_spec.specs.declared.Refusal.{Refusal}
+use Rattle.lin_spec.specs.declared.Refusal.the-variants.{TextTooLong, OutOfRange, SpanPastEnd, SpanNotUtf8}
+use Rattle.pbn.specs.Record.{pbn, pbnChecks, checked}
 
 -- an entry of the play, by the two tests that are made of it
 pub bad-entry : (c : ℕ) → 51 < c → (c ≡ 255 → ⊥) → true ≡ badEntry c
@@ -45,3 +53,87 @@ module _ (f : Span → Bool) (c : PbnCall) where
   pub raw-some : (c .annotated ≡ 0 → ⊥) → f (c .annotation) ≡ any f (spanIn (rawOf c))
   unfolding any
   raw-some h = simp (ne-eqb (c .annotated) 0 h) (sym (or-false (f (c .annotation))))
+
+-- All spans: the names, the texts that may be absent, those of the calls and those of the notes
+
+module _ (f : Span → Bool) (s : List ℕ) (ms : List MaybeSpan) (b : PbnBoard) (ws ns : List ℕ) where
+  abbrev all : Bool
+  all = any f (pbnSpans (pbn s ms b ws [] ns))
+
+  spans-any : all
+      ≡ (any f (nameSpans ms)
+      || (any f (spanIn (optionOf (b .event)))
+      || (any f (spanIn (optionOf (b .date))) || (any f (spanIn (optionOf (b .id))) || (any f (rawSpans (pbnRows ws)) || any f (noteSpans ns))))))
+  unfolding pbnSpans
+  spans-any = simp any-append
+
+  module _ (t : Bool) (et : t ≡ any f (nameSpans ms)) where
+    pub in-names : t ≡ true → true ≡ all
+    in-names h = sym (spans-any ∙ simp (← et, h))
+
+    module _ (ht : t ≡ false) (u : Bool) (eu : u ≡ any f (spanIn (optionOf (b .event)))) where
+      pub in-event : u ≡ true → true ≡ all
+      in-event h = sym (spans-any ∙ simp (← et, ht, ← eu, h))
+
+      module _ (hu : u ≡ false) (v : Bool) (ev : v ≡ any f (spanIn (optionOf (b .date)))) where
+        pub in-date : v ≡ true → true ≡ all
+        in-date h = sym (spans-any ∙ simp (← et, ht, ← eu, hu, ← ev, h))
+
+        module _ (hv : v ≡ false) (w : Bool) (ew : w ≡ any f (spanIn (optionOf (b .id)))) where
+          pub in-id : w ≡ true → true ≡ all
+          in-id h = sym (spans-any ∙ simp (← et, ht, ← eu, hu, ← ev, hv, ← ew, h))
+
+          module _ (hw : w ≡ false) (x : Bool) (ex : x ≡ any f (rawSpans (pbnRows ws))) where
+            pub in-raws : x ≡ true → true ≡ all
+            in-raws h = sym (spans-any ∙ simp (← et, ht, ← eu, hu, ← ev, hv, ← ew, hw, ← ex, h))
+
+            pub in-notes : x ≡ false → (y : Bool) → y ≡ any f (noteSpans ns) → y ≡ all
+            in-notes h y ey = sym (spans-any ∙ simp (← et, ht, ← eu, hu, ← ev, hv, ← ew, hw, ← ex, h, ← ey))
+
+-- A number outside its range: the board's, or else one of a call, or else one of the play
+
+module _ (a b c : Bool) (h : a ≡ false) where
+  pub number-calls : b ≡ true → true ≡ (a || (b || c))
+  number-calls k = sym (simp (h, k))
+
+  pub number-plays : b ≡ false → (t : Bool) → t ≡ c → t ≡ (a || (b || c))
+  number-plays k t e = e ∙ sym (simp (h, k))
+
+-- The verdict, by the tests that led there
+
+-- the cards name no span
+spans-alike : (s : List ℕ) (ms : List MaybeSpan) (b : PbnBoard) (ws ps ns : List ℕ) → pbnSpans (pbn s ms b ws ps ns) ≡ pbnSpans (pbn s ms b ws [] ns)
+unfolding pbnSpans
+spans-alike s ms b ws ps ns = refl
+
+module _ (other : Bool) (s : List ℕ) (ms : List MaybeSpan) (b : PbnBoard) (ws ps ns : List ℕ) where
+  abbrev Says : Refusal → Type 0
+  Says r = refused r ≡ checked other (pbn s ms b ws ps ns)
+
+  pub check-long : limit < length s → Says TextTooLong
+  unfolding unless pbnChecks
+  check-long h = simp (lt-ltb limit (length s) h)
+
+  module _ (h : length s ≤ limit) where
+    pub check-other : other ≡ true → Says OutOfRange
+    unfolding unless pbnChecks
+    check-other o = simp (le-ltb limit (length s) h, o)
+
+    module _ (o : other ≡ false) (t : Bool) (et : t ≡ (badBoardNumber (b .number) || (any badCall (pbnRows ws) || any badEntry ps))) where
+      pub check-number : t ≡ true → Says OutOfRange
+      unfolding unless pbnChecks badPbn
+      check-number k = simp (le-ltb limit (length s) h, o, ← et, k)
+
+      module _ (k : t ≡ false) (u : Bool) (eu : u ≡ any (passesEnd s) (pbnSpans (pbn s ms b ws [] ns))) where
+        pub check-past : u ≡ true → Says SpanPastEnd
+        unfolding unless pbnChecks badPbn
+        check-past l = simp (le-ltb limit (length s) h, o, ← et, k, spans-alike s ms b ws ps ns, ← eu, l)
+
+        module _ (l : u ≡ false) (w : Bool) (ew : w ≡ any (illSpan s) (pbnSpans (pbn s ms b ws [] ns))) where
+          pub check-ill : w ≡ true → Says SpanNotUtf8
+          unfolding unless pbnChecks badPbn
+          check-ill m = simp (le-ltb limit (length s) h, o, ← et, k, spans-alike s ms b ws ps ns, ← eu, l, ← ew, m)
+
+          pub check-good : w ≡ false → accepted tt ≡ checked other (pbn s ms b ws ps ns)
+          unfolding unless pbnChecks badPbn
+          check-good m = simp (le-ltb limit (length s) h, o, ← et, k, spans-alike s ms b ws ps ns, ← eu, l, ← ew, m)

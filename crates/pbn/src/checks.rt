@@ -1,4 +1,5 @@
 // The checks of a PBN record: 1, 8, 5 and 6, each over all that is lent before the next. (01: From PBN; Eight refusals)
+use annotation::any_note_faulty;
 use lent::present_faulty;
 use lin_spec::LIMIT;
 use lin_spec::MaybeNumber;
@@ -12,13 +13,16 @@ use text::Fault;
 use text::faulty;
 ghost use mathlib.Core.Path.{_≡_};
 ghost use mathlib.Core.Bool.{_||_};
+ghost use mathlib.Core.List.{[]};
 ghost use Prim.Native.Nat.{_-_, _≤_};
 ghost use lib.ListN.{length};
 ghost use Rattle.lin_spec.specs.Base.{any};
 ghost use Rattle.lin_spec.specs.Lent.{spanIn};
-ghost use Rattle.lin_spec.specs.Pbn.{pbnRow, pbnRows, rawOf, badEntry, badCall, badBoardNumber, rawSpans, nameSpans};
+ghost use Rattle.lin_spec.specs.Pbn.{pbnRow, pbnRows, rawOf, badEntry, badCall, badBoardNumber, badPbn, rawSpans, nameSpans, pbnSpans};
 ghost use Rattle.text.specs.Fault.{faultOf};
 ghost use Rattle.lent.specs.Calls.{rowAt};
+ghost use Rattle.lent.specs.Checks.{verdictOf};
+ghost use Rattle.pbn.specs.Record.{pbn, checked};
 
 // The call that the six words from i on give.
 pub(crate) fn call_at(calls: &[u32], i: usize) -> PbnCall
@@ -128,4 +132,80 @@ fn names_faulty(text: &[u8], names: [MaybeSpan; 4], fault: Fault) -> bool
         seat += 1;
     }
     false
+}
+
+// Whether a number of the record is outside its range.
+fn bad_record(number: MaybeNumber, calls: &[u32], plays: &[u8]) -> bool
+    ensures { λ r. ⌜ r ≡ (badBoardNumber number || (any badCall (pbnRows (now (calls .entry))) || any badEntry (now (plays .entry)))) ⌝ }
+{
+    if bad_board_number(number) {
+        return true;
+    }
+    if bad_calls(calls) {
+        return true;
+    }
+    bad_plays(plays)
+}
+
+// Whether a text that the record names has this fault.
+fn any_faulty(
+    text: &[u8],
+    names: [MaybeSpan; 4],
+    board: PbnBoard,
+    calls: &[u32],
+    notes: &[u32; 768],
+    fault: Fault,
+) -> bool
+    ensures { λ r. ⌜ r ≡ any (faultOf fault (now (text .entry))) (pbnSpans (pbn (now (text .entry)) names board (now (calls .entry)) [] (now (notes .entry)))) ⌝ }
+{
+    let event = board.event;
+    let date = board.date;
+    let id = board.id;
+    if names_faulty(text, names, fault) {
+        return true;
+    }
+    if present_faulty(text, event, fault) {
+        return true;
+    }
+    if present_faulty(text, date, fault) {
+        return true;
+    }
+    if present_faulty(text, id, fault) {
+        return true;
+    }
+    if raws_faulty(text, calls, fault) {
+        return true;
+    }
+    any_note_faulty(text, notes, fault)
+}
+
+// The first of the checks that meets the record. `other` says whether another number of the call is outside its range.
+pub(crate) fn check(
+    other: bool,
+    text: &[u8],
+    names: [MaybeSpan; 4],
+    board: PbnBoard,
+    calls: &[u32],
+    plays: &[u8],
+    notes: &[u32; 768],
+) -> Verdict
+    ensures { λ r. ⌜ verdictOf r ≡ checked other (pbn (now (text .entry)) names board (now (calls .entry)) (now (plays .entry)) (now (notes .entry))) ⌝ }
+{
+    let number = board.number;
+    if LIMIT < text.len() {
+        return Verdict::Refused(Refusal::TextTooLong);
+    }
+    if other {
+        return Verdict::Refused(Refusal::OutOfRange);
+    }
+    if bad_record(number, calls, plays) {
+        return Verdict::Refused(Refusal::OutOfRange);
+    }
+    if any_faulty(text, names, board, calls, notes, Fault::PastEnd) {
+        return Verdict::Refused(Refusal::SpanPastEnd);
+    }
+    if any_faulty(text, names, board, calls, notes, Fault::NotUtf8) {
+        return Verdict::Refused(Refusal::SpanNotUtf8);
+    }
+    Verdict::Accepted
 }
