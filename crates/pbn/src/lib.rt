@@ -1,2 +1,4 @@
 // Boards made from PBN records: `from_board`. (01: From PBN; upstream's writer.rs)
+mod calls;
 mod checks;
+mod texts;
