@@ -22,7 +22,7 @@ use Rattle.output.proofs.Laws.{Left, store}
 use Rattle.cleaning.specs.Texts.{cleanByte, kept, afterText, headerText, nameAt, namesPieces, namesText}
 
 module _ (p q : ℕ) where
-  clean-cons : (b : ℕ) (s : List ℕ) → clean p q (b ∷ s) ≡ cleanByte p q b ∷ clean p q s
+  pub clean-cons : (b : ℕ) (s : List ℕ) → clean p q (b ∷ s) ≡ cleanByte p q b ∷ clean p q s
   unfolding clean
   clean-cons b s = refl
 

@@ -5,9 +5,12 @@ mod texts;
 
 pub use calls::calls_len;
 pub use calls::put_calls;
+pub use names::name_len;
 pub use names::names_len;
+pub use names::put_name;
 pub use names::put_names;
 pub use texts::Marks;
+pub use texts::clean_part;
 pub use texts::header_len;
 pub use texts::put_header;
 pub use texts::put_text;

@@ -62,7 +62,7 @@ fn name_bytes_len(s: &[u8], marks: Marks) -> u64
 }
 
 // Puts the name of a span.
-fn put_name(out: &mut [u8], at: usize, text: &[u8], x: Span, marks: Marks) -> usize
+pub fn put_name(out: &mut [u8], at: usize, text: &[u8], x: Span, marks: Marks) -> usize
     requires { ⌜ Room (now out) at (cleanName (marks .pipe) (marks .line) (bytesAt (now text) x)) ⌝ }
     ensures { λ r. ⌜ Put (now (out .entry)) at (cleanName (marks .pipe) (marks .line) (bytesAt (now (text .entry)) x)) (now (out .exit)) r ⌝ }
 {
@@ -70,7 +70,7 @@ fn put_name(out: &mut [u8], at: usize, text: &[u8], x: Span, marks: Marks) -> us
 }
 
 // How many bytes it has.
-fn name_len(text: &[u8], x: Span, marks: Marks) -> u64
+pub fn name_len(text: &[u8], x: Span, marks: Marks) -> u64
     ensures { λ r. ⌜ r ≡ length (cleanName (marks .pipe) (marks .line) (bytesAt (now (text .entry)) x)) ⌝ }
 {
     name_bytes_len(shown(text, x), marks)

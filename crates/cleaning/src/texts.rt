@@ -6,9 +6,10 @@ use output::put_bytes;
 use output::sat_add;
 use text::shown;
 ghost use mathlib.Core.Path.{_≡_};
-ghost use Prim.Native.Nat.{ℕ};
+ghost use Prim.Native.Nat.{ℕ, _-_, _≤_};
 ghost use lib.ListN.{length};
-ghost use Rattle.lin_spec.specs.Records.{bytesAt};
+ghost use Rattle.lin_spec.specs.Output.{overlay};
+ghost use Rattle.lin_spec.specs.Records.{bytesAt, part};
 ghost use Rattle.lin_spec.specs.Refusals.{sat};
 ghost use Rattle.lin_spec.specs.Writer.{clean};
 ghost use Rattle.output.specs.Put.{Room, Put};
@@ -33,6 +34,18 @@ pub(crate) fn clean_byte(b: u8, marks: Marks) -> u8
         return marks.line;
     }
     b
+}
+
+// Cleans the bytes of an output from one place to another, where they stand.
+pub fn clean_part(out: &mut [u8], from: usize, to: usize, marks: Marks)
+    requires { ⌜ (from ≤ to) × (to ≤ length (now out)) ⌝ }
+    ensures { λ r. ⌜ now (out .exit) ≡ overlay (now (out .entry)) from (clean (marks .pipe) (marks .line) (part (now (out .entry)) from (to - from))) ⌝ }
+{
+    let mut i = from;
+    while i < to {
+        out[i] = clean_byte(out[i], marks);
+        i += 1;
+    }
 }
 
 // Puts a text, cleaned.
