@@ -1,3 +1,4 @@
 pub mod CheckLaws
 pub mod TextLaws
 pub mod CallLaws
+pub mod NameLaws

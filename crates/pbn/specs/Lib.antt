@@ -1,3 +1,4 @@
 pub mod Record
 pub mod Texts
 pub mod Calls
+pub mod Names

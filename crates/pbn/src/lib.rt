@@ -1,4 +1,5 @@
 // Boards made from PBN records: `from_board`. (01: From PBN; upstream's writer.rs)
 mod calls;
 mod checks;
+mod names;
 mod texts;
