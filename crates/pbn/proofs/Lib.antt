@@ -2,3 +2,4 @@ pub mod CheckLaws
 pub mod TextLaws
 pub mod CallLaws
 pub mod NameLaws
+pub mod DealingLaws

@@ -1,11 +1,12 @@
 -- Laws of the texts that are made, before cleaning: an empty text acts as absent, the label, the title. (01: From PBN)
 -- Assumes nothing.
-use Prim.Native.Nat.{ℕ}
+use Prim.Native.Nat.{ℕ, _+_}
 use native.Mathlib.Omega.{arith}
 use mathlib.Core.Path.{_≡_, refl, ap, sym, _∙_}
 use mathlib.Core.List.{List, [], _∷_, _++_, append-nil}
 use mathlib.Core.Option.{Option, none, some}
-use lib.ListN.{length}
+use mathlib.Core.Bool.{Bool, true, false}
+use lib.ListN.{length, length-append}
 use Rattle.lin_spec.specs.Base.{ascii}
 use Rattle.lin_spec.specs.Records.{bytesAt}
 use Rattle.lin_spec.specs.Writer.{orEmpty, present}
@@ -16,7 +17,7 @@ use Rattle.lin_spec.specs.declared.MaybeSpan.the-variants.{Absent, Present}
 use Rattle.lin_spec.specs.declared.MaybeNumber.{MaybeNumber}
 use Rattle.pbn.specs.declared.texts.Label.{Label}
 use Rattle.pbn.specs.declared.texts.Label.the-variants.{Id}
-use Rattle.pbn.specs.Texts.{labelBy, emptyBy, datedText, titleText}
+use Rattle.pbn.specs.Texts.{labelBy, labelled, labelBytes, emptyBy, datedText, titleText, labelsText, labelledText}
 
 -- a text that is present, by its length
 
@@ -54,3 +55,19 @@ title-dated s e d y k = ap (titleText s e) k ∙ go (textBy s e)
     go : (o : Option (List ℕ)) → orEmpty (titleOf o (some (bytesAt s y))) ≡ orEmpty o ++ (ascii " - " ++ (bytesAt s y ++ []))
     go none = ap (λ (t : List ℕ). ascii " - " ++ t) (sym (append-nil (bytesAt s y)))
     go (some t) = ap (λ (u : List ℕ). t ++ (ascii " - " ++ u)) (sym (append-nil (bytesAt s y)))
+
+pub dated-long : (s : List ℕ) (e : MaybeSpan) (y : Span) → length (datedText s e y) ≡ length (emptyBy s e) + (3 + length (bytesAt s y))
+unfolding datedText
+dated-long s e y = simp (length-append, append-nil) (omega arith)
+
+-- room-and-board and header, by the label
+module _ (s : List ℕ) (l : Label) where
+  pub labelled-yes : (t : Bool) → t ≡ labelled l → t ≡ true → labelledText s l ≡ labelsText s l
+  labelled-yes t e f = simp (← e, f)
+
+  pub labelled-no : (t : Bool) → t ≡ labelled l → t ≡ false → labelledText s l ≡ []
+  labelled-no t e f = simp (← e, f)
+
+  pub labels-long : length (labelsText s l) ≡ 14 + (length (labelBytes s l) + (length (labelBytes s l) + length (labelBytes s l)))
+  unfolding labelsText
+  labels-long = simp (length-append, append-nil) (omega arith)

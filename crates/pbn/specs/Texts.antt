@@ -3,7 +3,7 @@ use Prim.Native.Nat.{ℕ}
 use mathlib.Core.Bool.{Bool, true, false}
 use mathlib.Core.List.{List, [], _∷_, _++_}
 use mathlib.Core.Option.{Option, none, some}
-use Rattle.lin_spec.specs.Base.{ascii}
+use Rattle.lin_spec.specs.Base.{pick, ascii}
 use Rattle.lin_spec.specs.Records.{bytesAt}
 use Rattle.lin_spec.specs.Decimal.{decimal}
 use Rattle.lin_spec.specs.Writer.{orEmpty}
@@ -48,3 +48,6 @@ labelsPieces s l = ascii "o" ∷ labelBytes s l ∷ ascii ",BOARD " ∷ labelByt
 
 unfoldable pub labelsText : (s : List ℕ) → Label → List ℕ
 labelsText s l = joined (labelsPieces s l)
+
+abbrev pub labelledText : (s : List ℕ) → Label → List ℕ
+labelledText s l = pick (labelled l) (labelsText s l) []

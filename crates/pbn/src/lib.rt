@@ -1,5 +1,6 @@
 // Boards made from PBN records: `from_board`. (01: From PBN; upstream's writer.rs)
 mod calls;
 mod checks;
+mod dealing;
 mod names;
 mod texts;

@@ -1,11 +1,13 @@
 // Title, room-and-board and header as they are before cleaning: by the event, the date, and the id or the number. Put into an output at a
 // place that has room, and how many bytes they have. (01: From PBN)
+use cleaning::text_len;
 use lin_spec::MaybeNumber;
 use lin_spec::MaybeSpan;
 use lin_spec::Span;
 use output::decimal_len;
 use output::put_bytes;
 use output::put_decimal;
+use output::sat_add;
 use text::shown;
 ghost use mathlib.Core.Path.{_≡_};
 ghost use mathlib.Core.List.{List};
@@ -13,9 +15,10 @@ ghost use mathlib.Core.Option.{none};
 ghost use Prim.Native.Nat.{ℕ};
 ghost use lib.ListN.{length};
 ghost use Rattle.lin_spec.specs.Records.{bytesAt};
+ghost use Rattle.lin_spec.specs.Refusals.{sat};
 ghost use Rattle.lin_spec.specs.Pbn.{labelOf, textBy, filledBy};
 ghost use Rattle.output.specs.Put.{Room, Put};
-ghost use Rattle.pbn.specs.Texts.{labelBy, labelled, labelBytes, emptyBy, datedText, titleText, labelsText};
+ghost use Rattle.pbn.specs.Texts.{labelBy, labelled, labelBytes, emptyBy, datedText, titleText, labelsText, labelledText};
 
 const DASH: [u8; 3] = *b" - ";
 
@@ -152,4 +155,37 @@ fn put_labels(out: &mut [u8], at: usize, text: &[u8], l: Label) -> usize
     let d = put_label(out, c, text, l);
     let e = put_bytes(out, d, &BOARD);
     put_label(out, e, text, l)
+}
+
+// Puts room-and-board and header, nothing where there is no label.
+pub(crate) fn put_labelled(out: &mut [u8], at: usize, text: &[u8], l: Label) -> usize
+    requires { ⌜ Room (now out) at (labelledText (now text) l) ⌝ }
+    ensures { λ r. ⌜ Put (now (out .entry)) at (labelledText (now (text .entry)) l) (now (out .exit)) r ⌝ }
+{
+    if is_labelled(l) {
+        return put_labels(out, at, text, l);
+    }
+    at
+}
+
+// How many bytes they have.
+pub(crate) fn labelled_len(text: &[u8], l: Label) -> u64
+    ensures { λ r. ⌜ r ≡ sat (length (labelledText (now (text .entry)) l)) ⌝ }
+{
+    if is_labelled(l) {
+        let n = label_len(text, l);
+        return sat_add(14, sat_add(n, sat_add(n, n)));
+    }
+    0
+}
+
+// How many bytes the title has.
+pub(crate) fn title_len(text: &[u8], event: MaybeSpan, date: MaybeSpan) -> u64
+    ensures { λ r. ⌜ r ≡ sat (length (titleText (now (text .entry)) event date)) ⌝ }
+{
+    let n = text_len(text, event);
+    match date {
+        MaybeSpan::Absent => n,
+        MaybeSpan::Present(d) => sat_add(n, sat_add(3, shown(text, d).len() as u64)),
+    }
 }
