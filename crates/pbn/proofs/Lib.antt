@@ -3,3 +3,4 @@ pub mod TextLaws
 pub mod CallLaws
 pub mod NameLaws
 pub mod DealingLaws
+pub mod RawLaws

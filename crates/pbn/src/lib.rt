@@ -3,4 +3,6 @@ mod calls;
 mod checks;
 mod dealing;
 mod names;
+mod raw;
+mod rows;
 mod texts;
