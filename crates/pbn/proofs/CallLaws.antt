@@ -94,9 +94,9 @@ module _ (c : PbnCall) where
   pub bid-short : c .kind < 3 → 1 ≡ length (bidBytes c)
   bid-short h =
       picked (λ (o : Option (List ℕ)). 1 ≡ length (orEmpty o)) (eqb (c .kind) 0) (λ _. refl) λ x.
-          picked (λ (o : Option (List ℕ)). 1 ≡ length (orEmpty o)) (eqb (c .kind) 1) (λ _. refl) λ y.
-          picked (λ (o : Option (List ℕ)). 1 ≡ length (orEmpty o)) (eqb (c .kind) 2) (λ _. refl) λ z.
-          absurd (let l = eqb-false (c .kind) 0 x in let m = eqb-false (c .kind) 1 y in let n = eqb-false (c .kind) 2 z in omega arith)
+      picked (λ (o : Option (List ℕ)). 1 ≡ length (orEmpty o)) (eqb (c .kind) 1) (λ _. refl) λ y.
+      picked (λ (o : Option (List ℕ)). 1 ≡ length (orEmpty o)) (eqb (c .kind) 2) (λ _. refl) λ z.
+      absurd (let l = eqb-false (c .kind) 0 x in let m = eqb-false (c .kind) 1 y in let n = eqb-false (c .kind) 2 z in omega arith)
 
   pub bid-long : c .kind ≡ 3 → 2 ≡ length (bidBytes c)
   bid-long e = sym (ap length (bid-level e))

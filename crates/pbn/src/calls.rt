@@ -20,6 +20,9 @@ ghost use Rattle.pbn.specs.Calls.{keptLetter, bidBytes, noteBytes, callB
 
 const STRAINS: [u8; 5] = *b"CDHSN";
 
+// The entry of a play that is no card.
+const GAP: u8 = 255;
+
 // Whether a call is kept.
 fn is_kept(c: PbnCall) -> bool
     ensures { λ r. ⌜ r ≡ isKept c ⌝ }
@@ -54,7 +57,7 @@ pub(crate) fn kept_calls(calls: &[u32]) -> usize
 fn kept_card(b: u8) -> usize
     ensures { λ r. ⌜ (r ≡ length (keptLetter b)) × (r ≤ 1) ⌝ }
 {
-    if b == 255 {
+    if b == GAP {
         return 0;
     }
     1
@@ -78,7 +81,7 @@ fn put_card(cards: &mut [u8], at: usize, b: u8) -> usize
     requires { ⌜ Room (now cards) at (keptLetter b) ⌝ }
     ensures { λ r. ⌜ Put (now (cards .entry)) at (keptLetter b) (now (cards .exit)) r ⌝ }
 {
-    if b == 255 {
+    if b == GAP {
         return at;
     }
     put_byte(cards, at, b)

@@ -70,7 +70,13 @@ pub(crate) fn name_spans(text: &[u8], names: [MaybeSpan; 4], marks: Marks) -> [S
     let d = one_len(text, e, marks) as u32;
     let south = Span { start: 0, len: a };
     let west = Span { start: a, len: b };
-    let north = Span { start: a + b, len: c };
-    let east = Span { start: a + b + c, len: d };
+    let north = Span {
+        start: a + b,
+        len: c,
+    };
+    let east = Span {
+        start: a + b + c,
+        len: d,
+    };
     [south, west, north, east]
 }

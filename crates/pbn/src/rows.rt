@@ -26,7 +26,14 @@ fn put_noted(out: &mut [u32], at: usize, start: u32, len: u32) -> usize
 }
 
 // Stores the row of a call: its bid, no alert, its annotation.
-pub(crate) fn put_row(out: &mut [u32], at: usize, bid: u32, len: u32, start: u32, note: u32) -> usize
+pub(crate) fn put_row(
+    out: &mut [u32],
+    at: usize,
+    bid: u32,
+    len: u32,
+    start: u32,
+    note: u32,
+) -> usize
     requires { ⌜ Room (now out) at (rowText bid len start note) ⌝ }
     ensures { λ r. ⌜ Put (now (out .entry)) at (rowText bid len start note) (now (out .exit)) r ⌝ }
 {

@@ -134,7 +134,13 @@ fn put_dated(out: &mut [u8], at: usize, text: &[u8], event: MaybeSpan, date: Spa
 }
 
 // Puts the title, nothing where it is absent.
-pub(crate) fn put_title(out: &mut [u8], at: usize, text: &[u8], event: MaybeSpan, date: MaybeSpan) -> usize
+pub(crate) fn put_title(
+    out: &mut [u8],
+    at: usize,
+    text: &[u8],
+    event: MaybeSpan,
+    date: MaybeSpan,
+) -> usize
     requires { ⌜ Room (now out) at (titleText (now text) event date) ⌝ }
     ensures { λ r. ⌜ Put (now (out .entry)) at (titleText (now (text .entry)) event date) (now (out .exit)) r ⌝ }
 {
