@@ -63,7 +63,7 @@ pub(crate) const SEATS: [Direction; 4] = [
     Direction::East,
 ];
 
-fn seat(d: Direction) -> u8 {
+pub(crate) fn seat(d: Direction) -> u8 {
     match d {
         Direction::South => 0,
         Direction::West => 1,
@@ -72,7 +72,7 @@ fn seat(d: Direction) -> u8 {
     }
 }
 
-fn vulnerability(v: Vulnerability) -> u8 {
+pub(crate) fn vulnerability(v: Vulnerability) -> u8 {
     match v {
         Vulnerability::None => 0,
         Vulnerability::NorthSouth => 1,
@@ -81,7 +81,7 @@ fn vulnerability(v: Vulnerability) -> u8 {
     }
 }
 
-fn number(card: &Card) -> u8 {
+pub(crate) fn number(card: &Card) -> u8 {
     let place = |letters: &str, c| letters.find(c).expect("a letter of a card") as u8;
     13 * place("SHDC", card.suit.to_char()) + place("23456789TJQKA", card.rank.to_char())
 }
@@ -98,7 +98,7 @@ fn marks(board: &LinData) -> [u8; 7] {
     ]
 }
 
-fn held(deal: &Deal) -> Vec<u8> {
+pub(crate) fn held(deal: &Deal) -> Vec<u8> {
     let hand = |d| {
         deal.hand(d)
             .cards()
@@ -112,7 +112,7 @@ fn call_marks(call: &BidWithAnnotation) -> u8 {
     u8::from(call.alert) + 2 * u8::from(call.annotation.is_some())
 }
 
-fn text_of(x: &Option<String>) -> &[u8] {
+pub(crate) fn text_of(x: &Option<String>) -> &[u8] {
     x.as_deref().unwrap_or("").as_bytes()
 }
 

@@ -7,12 +7,14 @@ pub mod error;
 #[path = "../upstream/src/lin/mod.rs"]
 pub mod lin;
 
+pub mod annotation;
 pub mod appends;
 pub mod boards;
 pub mod built;
 pub mod equality;
 pub mod files;
 pub mod listing;
+pub mod pbn;
 pub mod random;
 pub mod records;
 pub mod texts;

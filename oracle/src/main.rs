@@ -1,7 +1,10 @@
 //! Writes the upstream's answers as vector files: `oracle SUBJECT DIR`; and
 //! the stored runs of linlist: `oracle runs CRATES`.
 
-use oracle::{appends, boards, equality, files, listing, tokens, utf8, vectors::Vectors, writer};
+use oracle::{
+    annotation, appends, boards, equality, files, listing, pbn, tokens, utf8, vectors::Vectors,
+    writer,
+};
 use std::{env, fs, io, path::Path, process::ExitCode};
 
 struct Subject {
@@ -51,6 +54,16 @@ const SUBJECTS: &[Subject] = &[
         about: "lists of append calls by a plain book, whose text parse_lin_file reads",
         vectors: appends::vectors,
     },
+    Subject {
+        name: "annotation",
+        about: "the text of a raw annotation with notes, by from_board with one call",
+        vectors: annotation::vectors,
+    },
+    Subject {
+        name: "pbn",
+        about: "the board made of a PBN record, by from_board",
+        vectors: pbn::vectors,
+    },
 ];
 
 fn main() -> ExitCode {
@@ -76,7 +89,7 @@ fn main() -> ExitCode {
 fn usage() -> ExitCode {
     eprintln!("usage: oracle SUBJECT DIR, which writes DIR/SUBJECT.bin");
     for s in SUBJECTS {
-        eprintln!("  {:8}{}", s.name, s.about);
+        eprintln!("  {:11}{}", s.name, s.about);
     }
     eprintln!("or oracle runs CRATES, which writes the runs of linlist below CRATES");
     ExitCode::from(2)
@@ -111,12 +124,18 @@ mod tests {
     use super::{listing, SUBJECTS};
     use std::{fs, path::Path};
 
-    /// The vectors that the replay programs have are those of the generator.
+    /// The vectors that the replay programs have are those of the generator. A
+    /// subject that no program replays has no stored file.
     #[test]
     fn stored_vectors_are_fresh() {
         let crates = Path::new(env!("CARGO_MANIFEST_DIR")).join("../crates");
         for s in SUBJECTS {
-            let file = crates.join(format!("replay_{0}/data/{0}.bin", s.name));
+            let program = crates.join(format!("replay_{}", s.name));
+            if !program.is_dir() {
+                println!("{}: no program", s.name);
+                continue;
+            }
+            let file = program.join(format!("data/{}.bin", s.name));
             let stored = fs::read(&file).unwrap();
             assert!(stored == (s.vectors)().bytes(), "{}", file.display());
         }

@@ -1,0 +1,338 @@
+//! PBN cases: records as a PBN reader gives them, and the board that
+//! `from_board` makes of each. A case is these fields:
+//!
+//! - twelve bytes, 1 or 0 but for the dealer and the vulnerability: whether the
+//!   names S, W, N, E, the event, the date, the id, the number and the dealer are
+//!   given; the dealer, 0 where it is not; the vulnerability; whether there is a
+//!   result;
+//! - the names S, W, N, E, the event, the date, the id, each empty where it is
+//!   absent;
+//! - the number, and the result in two's complement, each 0 where it is absent;
+//! - the cards held;
+//! - four bytes for each of the n calls: its kind (pass, double, redouble, bid,
+//!   continue, blank as 0 to 5), the level and the strain of a bid (C D H S N as
+//!   0 to 4), else 0, and 1 if it is annotated, else 0;
+//! - n fields with the raw annotations, each empty where it is absent;
+//! - the play, a byte for each entry: a card, or 255 for a gap;
+//! - the number m of notes, and 2m fields number, text, number, text ..;
+//! - the fields of the board, as in the subject boards after the text.
+
+pub mod calls;
+pub mod heads;
+pub mod mixed;
+
+use crate::{
+    annotation::{put_notes, Notes},
+    boards,
+    lin::LinData,
+    vectors::Vectors,
+};
+use bridge_types::{
+    AnnotatedCall, Auction, Board, Call, Card, Deal, Direction, PlaySequence, PlayerNames, Strain,
+    Trick, Vulnerability,
+};
+use std::collections::HashSet;
+
+/// A record in document 01's words: the names in the order of LIN, and the play
+/// as a list of entries.
+#[derive(Clone, Default)]
+pub struct Record {
+    pub names: [Option<String>; 4],
+    pub event: Option<String>,
+    pub date: Option<String>,
+    pub id: Option<String>,
+    pub number: Option<u32>,
+    pub dealer: Option<Direction>,
+    pub deal: Deal,
+    pub vulnerable: Vulnerability,
+    pub calls: Vec<AnnotatedCall>,
+    pub notes: Notes,
+    pub play: Vec<Option<Card>>,
+    pub result: Option<i32>,
+}
+
+/// A name, and the records that go by it.
+type Group = (&'static str, fn() -> Vec<Record>);
+
+pub const GROUPS: &[Group] = &[
+    ("named", mixed::named),
+    ("names", heads::names),
+    ("given", heads::given),
+    ("titles", heads::titles),
+    ("texts", heads::texts),
+    ("labels", heads::labels),
+    ("numbers", heads::numbers),
+    ("dealers", heads::dealers),
+    ("results", heads::results),
+    ("deals", heads::deals),
+    ("single", calls::single),
+    ("dropped", calls::dropped),
+    ("auctions", calls::auctions),
+    ("cleaned", calls::cleaned),
+    ("notes", calls::notes),
+    ("gaps", calls::gaps),
+    ("plays", calls::plays),
+    ("random", mixed::random),
+    ("long", mixed::long),
+];
+
+pub const STRAINS: [Strain; 5] = [
+    Strain::Clubs,
+    Strain::Diamonds,
+    Strain::Hearts,
+    Strain::Spades,
+    Strain::NoTrump,
+];
+
+/// Upstream's form of the record. The entries of the play fill the tricks in
+/// order, and the last trick is filled up with gaps.
+fn board(record: &Record) -> Board {
+    let [south, west, north, east] = record.names.clone();
+    let names = PlayerNames {
+        north,
+        east,
+        south,
+        west,
+    };
+    let trick = |entries: &[Option<Card>]| {
+        let mut cards = [None; 4];
+        cards[..entries.len()].copy_from_slice(entries);
+        Trick { cards }
+    };
+    Board {
+        number: record.number,
+        board_id: record.id.clone(),
+        event: record.event.clone(),
+        date: record.date.clone(),
+        player_names: record.names.iter().any(Option::is_some).then_some(names),
+        dealer: record.dealer,
+        vulnerable: record.vulnerable,
+        deal: record.deal.clone(),
+        auction: (!record.calls.is_empty()).then(|| Auction {
+            calls: record.calls.clone(),
+            notes: record.notes.clone().into_iter().collect(),
+        }),
+        play: (!record.play.is_empty()).then(|| PlaySequence {
+            tricks: record.play.chunks(4).map(trick).collect(),
+        }),
+        result: record.result,
+    }
+}
+
+fn made(record: &Record) -> LinData {
+    LinData::from_board(&board(record))
+}
+
+fn marks(record: &Record) -> [u8; 12] {
+    let [s, w, n, e] = record.names.each_ref().map(|n| n.is_some().into());
+    [
+        s,
+        w,
+        n,
+        e,
+        record.event.is_some().into(),
+        record.date.is_some().into(),
+        record.id.is_some().into(),
+        record.number.is_some().into(),
+        record.dealer.is_some().into(),
+        record.dealer.map_or(0, boards::seat),
+        boards::vulnerability(record.vulnerable),
+        record.result.is_some().into(),
+    ]
+}
+
+fn call_bytes(call: &AnnotatedCall) -> [u8; 4] {
+    let annotated = call.annotation.is_some().into();
+    let place = |strain| STRAINS.iter().position(|s| *s == strain);
+    match call.call {
+        Call::Pass => [0, 0, 0, annotated],
+        Call::Double => [1, 0, 0, annotated],
+        Call::Redouble => [2, 0, 0, annotated],
+        Call::Bid { level, strain } => {
+            [3, level, place(strain).expect("a strain") as u8, annotated]
+        }
+        Call::Continue => [4, 0, 0, annotated],
+        Call::Blank => [5, 0, 0, annotated],
+    }
+}
+
+fn entry(card: &Option<Card>) -> u8 {
+    card.as_ref().map_or(255, boards::number)
+}
+
+fn put_record(out: &mut Vectors, record: &Record) {
+    out.field(&marks(record));
+    record
+        .names
+        .iter()
+        .for_each(|n| out.field(boards::text_of(n)));
+    out.field(boards::text_of(&record.event));
+    out.field(boards::text_of(&record.date));
+    out.field(boards::text_of(&record.id));
+    out.number(record.number.unwrap_or(0) as usize);
+    out.field(&record.result.unwrap_or(0).to_le_bytes());
+    out.field(&boards::held(&record.deal));
+    out.field(&record.calls.iter().flat_map(call_bytes).collect::<Vec<_>>());
+    for call in &record.calls {
+        out.field(boards::text_of(&call.annotation));
+    }
+    out.field(&record.play.iter().map(entry).collect::<Vec<_>>());
+    put_notes(out, &record.notes);
+}
+
+fn put(out: &mut Vectors, record: &Record) {
+    put_record(out, record);
+    boards::put(out, &made(record));
+}
+
+/// What a record is stored as.
+fn key(record: &Record) -> Vec<u8> {
+    let mut out = Vectors::new();
+    put_record(&mut out, record);
+    out.bytes().to_vec()
+}
+
+pub fn all() -> Vec<Record> {
+    let mut seen = HashSet::new();
+    let all = GROUPS.iter().flat_map(|(_, records)| records());
+    all.filter(|r| seen.insert(key(r))).collect()
+}
+
+pub fn vectors() -> Vectors {
+    let mut out = Vectors::new();
+    for record in all() {
+        out.case();
+        put(&mut out, &record);
+    }
+    out
+}
+
+#[cfg(test)]
+mod tests {
+    use super::*;
+    use crate::{
+        built,
+        vectors::{fields, number},
+    };
+
+    #[test]
+    fn fields_of_a_case() {
+        let mut out = Vectors::new();
+        put(&mut out, &mixed::named()[0]);
+        let all = fields(out.bytes()).unwrap();
+        assert_eq!(all[0], [0, 0, 1, 0, 1, 1, 0, 1, 0, 0, 3, 1]);
+        let texts = [
+            b"".as_slice(),
+            b"",
+            b"N,1|",
+            b"",
+            b"Cup",
+            b"2026.09.14",
+            b"",
+        ];
+        assert_eq!(all[1..8], texts);
+        assert_eq!(number(all[8]), Some(6));
+        assert_eq!(all[9], (-1i32).to_le_bytes());
+        assert_eq!(all[10], [12]);
+        assert_eq!(all[11], [3, 1, 4, 1, 5, 0, 0, 0]);
+        assert_eq!(all[12..14], [b"=1=$2z".as_slice(), b""]);
+        assert_eq!(all[14], [255, 12]);
+        assert_eq!([all[15], all[16]].map(number), [Some(1), Some(1)]);
+        assert_eq!(all[17], b"weak");
+        assert_eq!(all[18], [3, 3, 1, 1, 1, 0, 0]);
+        let texts = [b"".as_slice(), b"", b"N1/", b"", b"Cup - 2026.09.14"];
+        assert_eq!(all[19..24], texts);
+        assert_eq!(all[24..26], [b"o6,BOARD 6".as_slice(), b"Board 6"]);
+        assert_eq!(all[26..28], [[12], [2]]);
+        assert_eq!(all[28..30], [b"1N".as_slice(), b"weak ?"]);
+        assert_eq!(all[30], [12]);
+        assert_eq!(all.len(), 31);
+    }
+
+    #[test]
+    fn fields_give_the_cases_again() {
+        let vectors = super::vectors();
+        assert!(vectors.cases() >= 2_000 && vectors.bytes().len() <= 1_000_000);
+        assert!(fields(vectors.bytes()).is_some());
+        let mut again = Vectors::new();
+        for record in all() {
+            put(&mut again, &record);
+        }
+        assert!(again.bytes() == vectors.bytes());
+        assert!(super::vectors().bytes() == vectors.bytes());
+    }
+
+    /// The records keep to document 01's ranges, and the replay lends 128 rows,
+    /// 128 places for cards and 16,384 bytes.
+    #[test]
+    fn ranges_and_rows() {
+        for record in all() {
+            assert!(record.number.is_none_or(|n| (1..=65_535).contains(&n)));
+            for call in &record.calls {
+                if let Call::Bid { level, .. } = call.call {
+                    assert!((1..=7).contains(&level));
+                }
+            }
+            assert!(record.calls.len() < 128 && record.play.len() < 128);
+            let own = &built::bytes(&made(&record));
+            assert!(own.len() < 16_384);
+        }
+    }
+
+    /// What the records are to show.
+    #[test]
+    fn records_of_every_kind() {
+        let all = all();
+        let results: HashSet<_> = all.iter().map(|r| r.result).collect();
+        for r in [i32::MIN, -1, 0, 13, 255, 256, i32::MAX] {
+            assert!(results.contains(&Some(r)), "{r}");
+        }
+        let claims: HashSet<_> = all.iter().map(|r| made(r).claim).collect();
+        assert_eq!(claims.len(), 257);
+        for side in built::SIDES {
+            for dealer in [None].into_iter().chain(built::SEATS.map(Some)) {
+                for rest in 0..4 {
+                    let of = |r: &&Record| {
+                        let by = r.number.is_some_and(|n| n % 4 == rest);
+                        r.vulnerable == side && r.dealer == dealer && by
+                    };
+                    assert!(all.iter().filter(of).count() >= 2);
+                }
+            }
+        }
+        let calls: HashSet<_> = all.iter().flat_map(|r| &r.calls).map(call_bytes).collect();
+        assert_eq!(calls.len(), 80);
+        let gaps = all.iter().filter(|r| r.play.contains(&None)).count();
+        println!("plays with gaps {gaps}");
+        assert!(gaps >= 200);
+    }
+
+    /// No text that is made needs cleaning, and no call is alerted.
+    #[test]
+    fn texts_are_clean() {
+        let clean = |t: &String| !t.contains(['|', '\r', '\n']);
+        for board in all().iter().map(made) {
+            assert!(board
+                .player_names
+                .iter()
+                .all(|n| clean(n) && !n.contains(',')));
+            let texts = [board.title, board.room_board, board.board_header];
+            assert!(texts.iter().flatten().all(clean));
+            for call in board.auction {
+                assert!(!call.alert && call.annotation.iter().all(clean));
+            }
+        }
+    }
+
+    #[test]
+    fn every_group_has_records_of_its_own() {
+        let mut seen = HashSet::new();
+        for (name, records) in GROUPS {
+            let new = records().into_iter().filter(|r| seen.insert(key(r)));
+            let n = new.count();
+            println!("{name}: {n}");
+            assert!(n > 0, "{name}");
+        }
+        assert_eq!(seen.len(), all().len());
+    }
+}
