@@ -262,8 +262,8 @@ mod tests {
         assert!(super::vectors().bytes() == vectors.bytes());
     }
 
-    /// The records keep to document 01's ranges, and the replay lends 128 rows,
-    /// 128 places for cards and 16,384 bytes.
+    /// The records keep to document 01's ranges, and 128 rows, 128 places for cards
+    /// and 16,384 bytes are enough for a replay.
     #[test]
     fn ranges_and_rows() {
         for record in all() {

@@ -44,5 +44,6 @@ pub use lent::words_left;
 pub use made::board_of;
 pub use made::cards_of;
 pub use made::put_rows;
+pub use made::span_of;
 pub use rows::span_at;
 pub use rows::word_at;

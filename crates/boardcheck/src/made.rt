@@ -25,7 +25,7 @@ fn word(n: usize) -> u32 {
 }
 
 // A field's bytes, as a span of the file from a place on.
-fn span_of(f: Field, from: usize) -> Span {
+pub fn span_of(f: Field, from: usize) -> Span {
     Span {
         start: word(wrapping_sub_usize(f.start, from)),
         len: word(f.len),
