@@ -27,11 +27,12 @@ abbrev pub accepts : {A : Type 0} → Answer A → Bool
 accepts (refused r) = false
 accepts (accepted a) = true
 
--- "a refused call leaves both as they were"
+-- a refused call leaves the output and the used count as they were: "T and L then stay"
 abbrev pub Stays : Event → Type 0
 Stays e = (r : Refusal) → e .answer ≡ refused r → e .next ≡ e .before
 
--- a reader's answer over the bytes t "isn't refused and gives exactly" the board b: lent again, with as many rows and cards as it names, it means b
+-- a reader's answer over the bytes t is no refusal and gives the board b, "Fields compare by bytes, hands by counts": lent again, with as many rows and
+-- cards as it says, it means b
 pub record Gives (t : List ℕ) (b : BoardOf (List ℕ)) (r : Reading) : Type 0 where
   pub verdict : r .heading .verdict ≡ Accepted
   pub calls : r .heading .calls ≡ length (b .calls)
