@@ -18,7 +18,7 @@ use Rattle.lin_spec.specs.Board.{CallOf, BoardOf, mapOption, mapCall, ma
 use Rattle.lin_spec.specs.Decimal.{digit, decimal}
 use Rattle.lin_spec.specs.File.{parseLinFile}
 use Rattle.lin_spec.specs.Writer.{clean, orEmpty, present, written, settled}
-use Rattle.lin_spec.specs.Pbn.{Pbn, gap, claimFrom, bidOf, rawOf, titleOf, labelOf, annotationBy, textBy, filledBy, nameBy, keptBy, keptCalls, keptCards, fromBoard, callTexts, boardTexts, laidNames, laidOption, laidCalls, laid, badEntry, badCall, badBoardNumber, badPbn, rawSpans, nameSpans, pbnSpans}
+use Rattle.lin_spec.specs.Pbn.{Pbn, pbnNames, gap, claimFrom, bidOf, rawOf, titleOf, labelOf, annotationBy, textBy, filledBy, nameBy, keptBy, keptCalls, keptCards, fromBoard, callTexts, boardTexts, laidNames, laidOption, laidCalls, laid, badEntry, badCall, badBoardNumber, badPbn, rawSpans, nameSpans, pbnSpans}
 use Rattle.lin_spec.specs.Lent.{spanIn}
 use Rattle.lin_spec.specs.Annotation.{noteSpans, annotationText}
 use Rattle.lin_spec.specs.declared.MaybeSpan.{MaybeSpan}
@@ -95,9 +95,8 @@ laid-out b =
 
 -- What it makes
 
--- what the types of the parameters say: four names, 208 counts, 256 notes of three words
+-- what the types of the parameters say: 208 counts, 256 notes of three words
 pub record PbnTyped (x : Pbn) : Type 0 where
-  pub names : length (x .board .names) ≡ 4
   pub counts : length (x .board .deal .counts) ≡ 208
   pub notes : length (x .notes) ≡ 768
 
@@ -137,7 +136,7 @@ module _ (x : Pbn) (sound : badPbn x ≡ false) where
   unfolding fromBoard
   made-valid p q t =
       record {
-        names = length-map (x .board .names) (nameBy p q s) ∙ t .names;
+        names = refl;
         deal = t .counts;
         cards = kept-cards (x .plays) plays-sound;
         claim = claim-most (x .board .result);
@@ -222,7 +221,7 @@ made-free p q f x h =
     let title = titleOf (filledBy t (b .event)) (filledBy t (b .date)) in
     let label = labelOf (filledBy t (b .id)) (b .number) in
     record {
-      names = map-each (All Free) (nameBy p q t) (λ y. free-name p q f (orEmpty (textBy t y))) (b .names);
+      names = map-each (All Free) (nameBy p q t) (λ y. free-name p q f (orEmpty (textBy t y))) (pbnNames b);
       title = option-each (All Free) (clean p q) (free-clean p q f) title;
       room = option-each (All Free) (λ l. clean p q (ascii "o" ++ (l ++ (ascii ",BOARD " ++ l)))) (λ l. free-clean p q f (ascii "o" ++ (l ++ (ascii ",BOARD " ++ l)))) label;
       header = option-each (All Free) (λ l. clean p q (ascii "Board " ++ l)) (λ l. free-clean p q f (ascii "Board " ++ l)) label;
@@ -252,7 +251,7 @@ module _ (p q : ℕ) (f : Fit p q) (x : Pbn) (typed : PbnTyped x) (well : All (�
 
   w₁ : All W (spanIn (optionOf (x .board .event)) ++ (spanIn (optionOf (x .board .date)) ++ (spanIn (optionOf (x .board .id)) ++ raws)))
   unfolding pbnSpans
-  w₁ = all-right W (nameSpans (x .board .names)) _ well
+  w₁ = all-right W (nameSpans (pbnNames (x .board))) _ well
 
   w₂ : All W (spanIn (optionOf (x .board .date)) ++ (spanIn (optionOf (x .board .id)) ++ raws))
   w₂ = all-right W (spanIn (optionOf (x .board .event))) _ w₁
@@ -331,7 +330,7 @@ module _ (p q : ℕ) (f : Fit p q) (x : Pbn) (typed : PbnTyped x) (well : All (�
       let b = x .board in
       let label = label-utf8 (filledBy (x .text) (b .id)) (b .number) (filled-utf8 (b .id) (all-left W (spanIn (optionOf (b .id))) _ w₃)) in
       record {
-        names = names-utf8 (b .names) (unfold pbnSpans in all-left W (nameSpans (b .names)) _ well);
+        names = names-utf8 (pbnNames b) (unfold pbnSpans in all-left W (nameSpans (pbnNames b)) _ well);
         title =
             cleaned-utf8 (λ t. t) (λ t k. k) (titleOf (filledBy (x .text) (b .event)) (filledBy (x .text) (b .date)))
             (title-utf8 (filledBy (x .text) (b .event)) (filledBy (x .text) (b .date)) (filled-utf8 (b .event) (all-left W (spanIn (optionOf (b .event))) _ w₁)) (filled-utf8 (b .date) (all-left W (spanIn (optionOf (b .date))) _ w₂)));

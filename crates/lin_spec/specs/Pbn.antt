@@ -1,5 +1,6 @@
 -- A board made from a PBN record. (01: From PBN, `from_board`)
 use Prim.Native.Nat.{ℕ, _+_, _%_}
+use Prim.Native.Char.{code}
 use mathlib.Core.Bool.{Bool, false, _&&_, _||_, not}
 use mathlib.Core.List.{List, [], _∷_, _++_, map}
 use mathlib.Core.Option.{Option, none, some}
@@ -50,6 +51,13 @@ pub record Pbn : Type 0 where
   pub calls : List PbnCall
   pub plays : List ℕ
   pub notes : List ℕ
+
+abbrev pub pbn : (text : List ℕ) → PbnBoard → (calls plays notes : List ℕ) → Pbn
+pbn s b ws ps ns = record { text = s; board = b; calls = pbnRows ws; plays = ps; notes = ns }
+
+-- its names, in the order S, W, N, E
+abbrev pub pbnNames : PbnBoard → List MaybeSpan
+pbnNames b = b .south ∷ b .west ∷ b .north ∷ b .east ∷ []
 
 -- "A result outside 0 to 255 gives no claim"
 abbrev pub claimFrom : MaybeResult → Option ℕ
@@ -126,7 +134,7 @@ fromBoard p q x =
     let s = x .text in
     let label = labelOf (filledBy s (b .id)) (b .number) in
     record {
-      names = map (nameBy p q s) (b .names);
+      names = map (nameBy p q s) (pbnNames b);
       dealt = record { dealer = dealerBy (b .dealer) (b .number); deal = b .deal .counts };
       vulnerability = b .vulnerability;
       title = mapOption (clean p q) (titleOf (filledBy s (b .event)) (filledBy s (b .date)));
@@ -207,7 +215,7 @@ nameSpans (x ∷ xs) = spanIn (optionOf x) ++ nameSpans xs
 unfoldable pub pbnSpans : Pbn → List Span
 pbnSpans x =
     let b = x .board in
-    nameSpans (b .names)
+    nameSpans (pbnNames b)
     ++ (spanIn (optionOf (b .event)) ++ (spanIn (optionOf (b .date)) ++ (spanIn (optionOf (b .id)) ++ (rawSpans (x .calls) ++ noteSpans (x .notes)))))
 
 -- what `from_board` gives: the heading with its length, and the rows, the cards and the output afterwards
@@ -242,3 +250,7 @@ convertBoard other p q x o rows cards =
     ∷ spanNotUtf8 (x .text) (pbnSpans x)
     ∷ (fewRows (laid b) rows cards ++ (tooSmall (room o) (length t) ∷ [])))
     (laid b)) t rows cards o
+
+-- "pipe to `/`, CR and LF each to a space"
+abbrev pub convert : Pbn → (o rows cards : List ℕ) → Conversion
+convert x o rows cards = convertBoard false (code "/") (code " ") x o rows cards

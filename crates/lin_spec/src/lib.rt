@@ -287,9 +287,12 @@ pub struct PbnCall {
     pub annotation: Span,
 }
 
-// A PBN record. Its calls, its play and its notes stand in lists lent beside it. The names are in the order of LIN.
+// A PBN record. Its calls, its play and its notes stand in lists lent beside it. The first four are the names, in the order of LIN.
 pub struct PbnBoard {
-    pub names: [MaybeSpan; 4],
+    pub south: MaybeSpan,
+    pub west: MaybeSpan,
+    pub north: MaybeSpan,
+    pub east: MaybeSpan,
     pub event: MaybeSpan,
     pub date: MaybeSpan,
     pub id: MaybeSpan,

@@ -10,10 +10,10 @@ use lib.Dec.{eqb, ltb}
 use borrow.Author.Tests.{lt-ltb, le-ltb, eq-eqb, ne-eqb}
 use Rattle.lin_spec.specs.Base.{pick, any}
 use Rattle.lin_spec.specs.Records.{limit, optionOf}
-use Rattle.lin_spec.specs.Refusals.{unless, passesEnd, illSpan}
+use Rattle.lin_spec.specs.Refusals.{Answer, refuseIf, unless, passesEnd, illSpan}
 use Rattle.lin_spec.specs.Refusals.Answer.{refused, accepted}
 use Rattle.lin_spec.specs.Lent.{spanIn}
-use Rattle.lin_spec.specs.Pbn.{gap, pbnRows, rawOf, badEntry, badCall, badBoardNumber, badPbn, rawSpans, nameSpans, pbnSpans}
+use Rattle.lin_spec.specs.Pbn.{pbn, pbnNames, gap, pbnRows, rawOf, badEntry, badCall, badBoardNumber, badPbn, rawSpans, nameSpans, pbnSpans}
 use Rattle.lin_spec.specs.Annotation.{noteSpans}
 use Rattle.lin_spec.specs.declared.Span.{Span}
 use Rattle.lin_spec.specs.declared.MaybeSpan.{MaybeSpan}
@@ -21,7 +21,7 @@ use Rattle.lin_spec.specs.declared.PbnCall.{PbnCall}
 use Rattle.lin_spec.specs.declared.PbnBoard.{PbnBoard}
 use Rattle.lin_spec.specs.declared.Refusal.{Refusal}
 use Rattle.lin_spec.specs.declared.Refusal.the-variants.{TextTooLong, OutOfRange, SpanPastEnd, SpanNotUtf8}
-use Rattle.pbn.specs.Record.{pbn, pbnChecks, checked}
+use Rattle.pbn.specs.Record.{pbnChecks, checked}
 
 -- an entry of the play, by the two tests that are made of it
 pub bad-entry : (c : ℕ) → 51 < c → (c ≡ 255 → ⊥) → true ≡ badEntry c
@@ -56,18 +56,18 @@ module _ (f : Span → Bool) (c : PbnCall) where
 
 -- All spans: the names, the texts that may be absent, those of the calls and those of the notes
 
-module _ (f : Span → Bool) (s : List ℕ) (ms : List MaybeSpan) (b : PbnBoard) (ws ns : List ℕ) where
+module _ (f : Span → Bool) (s : List ℕ) (b : PbnBoard) (ws ns : List ℕ) where
   abbrev all : Bool
-  all = any f (pbnSpans (pbn s ms b ws [] ns))
+  all = any f (pbnSpans (pbn s b ws [] ns))
 
   spans-any : all
-      ≡ (any f (nameSpans ms)
+      ≡ (any f (nameSpans (pbnNames b))
       || (any f (spanIn (optionOf (b .event)))
       || (any f (spanIn (optionOf (b .date))) || (any f (spanIn (optionOf (b .id))) || (any f (rawSpans (pbnRows ws)) || any f (noteSpans ns))))))
   unfolding pbnSpans
   spans-any = simp any-append
 
-  module _ (t : Bool) (et : t ≡ any f (nameSpans ms)) where
+  module _ (t : Bool) (et : t ≡ any f (nameSpans (pbnNames b))) where
     pub in-names : t ≡ true → true ≡ all
     in-names h = sym (spans-any ∙ simp (← et, h))
 
@@ -101,39 +101,56 @@ module _ (a b c : Bool) (h : a ≡ false) where
 
 -- The verdict, by the tests that led there
 
--- the cards name no span
-spans-alike : (s : List ℕ) (ms : List MaybeSpan) (b : PbnBoard) (ws ps ns : List ℕ) → pbnSpans (pbn s ms b ws ps ns) ≡ pbnSpans (pbn s ms b ws [] ns)
-unfolding pbnSpans
-spans-alike s ms b ws ps ns = refl
+-- the four checks, by what each of them says
+four : (long out past ill : Bool) → Answer Unit
+unfolding unless
+four a b c d = unless (refuseIf a TextTooLong ∷ refuseIf b OutOfRange ∷ refuseIf c SpanPastEnd ∷ refuseIf d SpanNotUtf8 ∷ []) tt
 
-module _ (other : Bool) (s : List ℕ) (ms : List MaybeSpan) (b : PbnBoard) (ws ps ns : List ℕ) where
-  abbrev Says : Refusal → Type 0
-  Says r = refused r ≡ checked other (pbn s ms b ws ps ns)
+module _ (other : Bool) (s : List ℕ) (b : PbnBoard) (ws ps ns : List ℕ) where
+  abbrev bad : Bool
+  bad = badBoardNumber (b .number) || (any badCall (pbnRows ws) || any badEntry ps)
 
-  pub check-long : limit < length s → Says TextTooLong
-  unfolding unless pbnChecks
-  check-long h = simp (lt-ltb limit (length s) h)
+  -- the cards name no span
+  abbrev spans : List Span
+  spans = pbnSpans (pbn s b ws [] ns)
+
+  abbrev verdict : Answer Unit
+  verdict = checked other (pbn s b ws ps ns)
+
+  is-four : (x y z w : Bool) → x ≡ ltb limit (length s) → y ≡ (other || bad) → z ≡ any (passesEnd s) spans → w ≡ any (illSpan s) spans → four x y z w ≡ verdict
+  unfolding pbnChecks badPbn pbnSpans four
+  is-four x y z w ex ey ez ew = λ i. four (ex i) (ey i) (ez i) (ew i)
+
+  pub check-long : limit < length s → refused TextTooLong ≡ verdict
+  unfolding four unless
+  check-long h = is-four true (other || bad) (any (passesEnd s) spans) (any (illSpan s) spans) (sym (lt-ltb limit (length s) h)) refl refl refl
 
   module _ (h : length s ≤ limit) where
-    pub check-other : other ≡ true → Says OutOfRange
-    unfolding unless pbnChecks
-    check-other o = simp (le-ltb limit (length s) h, o)
+    abbrev short : false ≡ ltb limit (length s)
+    short = sym (le-ltb limit (length s) h)
 
-    module _ (o : other ≡ false) (t : Bool) (et : t ≡ (badBoardNumber (b .number) || (any badCall (pbnRows ws) || any badEntry ps))) where
-      pub check-number : t ≡ true → Says OutOfRange
-      unfolding unless pbnChecks badPbn
-      check-number k = simp (le-ltb limit (length s) h, o, ← et, k)
+    pub check-other : other ≡ true → refused OutOfRange ≡ verdict
+    unfolding four unless
+    check-other o = is-four false true (any (passesEnd s) spans) (any (illSpan s) spans) short (sym (ap (λ (t : Bool). t || bad) o)) refl refl
 
-      module _ (k : t ≡ false) (u : Bool) (eu : u ≡ any (passesEnd s) (pbnSpans (pbn s ms b ws [] ns))) where
-        pub check-past : u ≡ true → Says SpanPastEnd
-        unfolding unless pbnChecks badPbn
-        check-past l = simp (le-ltb limit (length s) h, o, ← et, k, spans-alike s ms b ws ps ns, ← eu, l)
+    module _ (o : other ≡ false) (t : Bool) (et : t ≡ bad) where
+      number : (u : Bool) → t ≡ u → u ≡ (other || bad)
+      number u k = sym k ∙ et ∙ sym (ap (λ (v : Bool). v || bad) o)
 
-        module _ (l : u ≡ false) (w : Bool) (ew : w ≡ any (illSpan s) (pbnSpans (pbn s ms b ws [] ns))) where
-          pub check-ill : w ≡ true → Says SpanNotUtf8
-          unfolding unless pbnChecks badPbn
-          check-ill m = simp (le-ltb limit (length s) h, o, ← et, k, spans-alike s ms b ws ps ns, ← eu, l, ← ew, m)
+      pub check-number : t ≡ true → refused OutOfRange ≡ verdict
+      unfolding four unless
+      check-number k = is-four false true (any (passesEnd s) spans) (any (illSpan s) spans) short (number true k) refl refl
 
-          pub check-good : w ≡ false → accepted tt ≡ checked other (pbn s ms b ws ps ns)
-          unfolding unless pbnChecks badPbn
-          check-good m = simp (le-ltb limit (length s) h, o, ← et, k, spans-alike s ms b ws ps ns, ← eu, l, ← ew, m)
+      module _ (k : t ≡ false) (u : Bool) (eu : u ≡ any (passesEnd s) spans) where
+        pub check-past : u ≡ true → refused SpanPastEnd ≡ verdict
+        unfolding four unless
+        check-past l = is-four false false true (any (illSpan s) spans) short (number false k) (sym l ∙ eu) refl
+
+        module _ (l : u ≡ false) (w : Bool) (ew : w ≡ any (illSpan s) spans) where
+          pub check-ill : w ≡ true → refused SpanNotUtf8 ≡ verdict
+          unfolding four unless
+          check-ill m = is-four false false false true short (number false k) (sym l ∙ eu) (sym m ∙ ew)
+
+          pub check-good : w ≡ false → accepted tt ≡ verdict
+          unfolding four unless
+          check-good m = is-four false false false false short (number false k) (sym l ∙ eu) (sym m ∙ ew)

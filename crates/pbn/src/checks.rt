@@ -1,4 +1,5 @@
 // The checks of a PBN record: 1, 8, 5 and 6, each over all that is lent before the next. (01: From PBN; Eight refusals)
+use crate::names::names_of;
 use annotation::any_note_faulty;
 use lent::present_faulty;
 use lin_spec::LIMIT;
@@ -18,11 +19,11 @@ ghost use Prim.Native.Nat.{_-_, _≤_};
 ghost use lib.ListN.{length};
 ghost use Rattle.lin_spec.specs.Base.{any};
 ghost use Rattle.lin_spec.specs.Lent.{spanIn};
-ghost use Rattle.lin_spec.specs.Pbn.{pbnRow, pbnRows, rawOf, badEntry, badCall, badBoardNumber, badPbn, rawSpans, nameSpans, pbnSpans};
+ghost use Rattle.lin_spec.specs.Pbn.{pbn, pbnNames, pbnRow, pbnRows, rawOf, badEntry, badCall, badBoardNumber, badPbn, rawSpans, nameSpans, pbnSpans};
 ghost use Rattle.text.specs.Fault.{faultOf};
 ghost use Rattle.lent.specs.Calls.{rowAt};
 ghost use Rattle.lent.specs.Checks.{verdictOf};
-ghost use Rattle.pbn.specs.Record.{pbn, checked};
+ghost use Rattle.pbn.specs.Record.{checked};
 
 // The call that the six words from i on give.
 pub(crate) fn call_at(calls: &[u32], i: usize) -> PbnCall
@@ -119,8 +120,8 @@ fn raws_faulty(text: &[u8], calls: &[u32], fault: Fault) -> bool
     false
 }
 
-// Whether a name has this fault.
-fn names_faulty(text: &[u8], names: [MaybeSpan; 4], fault: Fault) -> bool
+// Whether one of these names has this fault.
+fn one_faulty(text: &[u8], names: [MaybeSpan; 4], fault: Fault) -> bool
     ensures { λ r. ⌜ r ≡ any (faultOf fault (now (text .entry))) (nameSpans names) ⌝ }
 {
     let mut seat = 0;
@@ -132,6 +133,13 @@ fn names_faulty(text: &[u8], names: [MaybeSpan; 4], fault: Fault) -> bool
         seat += 1;
     }
     false
+}
+
+// Whether a name of the record has it.
+fn names_faulty(text: &[u8], board: PbnBoard, fault: Fault) -> bool
+    ensures { λ r. ⌜ r ≡ any (faultOf fault (now (text .entry))) (nameSpans (pbnNames board)) ⌝ }
+{
+    one_faulty(text, names_of(board), fault)
 }
 
 // Whether a number of the record is outside its range.
@@ -148,20 +156,13 @@ fn bad_record(number: MaybeNumber, calls: &[u32], plays: &[u8]) -> bool
 }
 
 // Whether a text that the record names has this fault.
-fn any_faulty(
-    text: &[u8],
-    names: [MaybeSpan; 4],
-    board: PbnBoard,
-    calls: &[u32],
-    notes: &[u32; 768],
-    fault: Fault,
-) -> bool
-    ensures { λ r. ⌜ r ≡ any (faultOf fault (now (text .entry))) (pbnSpans (pbn (now (text .entry)) names board (now (calls .entry)) [] (now (notes .entry)))) ⌝ }
+fn any_faulty(text: &[u8], board: PbnBoard, calls: &[u32], notes: &[u32; 768], fault: Fault) -> bool
+    ensures { λ r. ⌜ r ≡ any (faultOf fault (now (text .entry))) (pbnSpans (pbn (now (text .entry)) board (now (calls .entry)) [] (now (notes .entry)))) ⌝ }
 {
     let event = board.event;
     let date = board.date;
     let id = board.id;
-    if names_faulty(text, names, fault) {
+    if names_faulty(text, board, fault) {
         return true;
     }
     if present_faulty(text, event, fault) {
@@ -183,13 +184,12 @@ fn any_faulty(
 pub(crate) fn check(
     other: bool,
     text: &[u8],
-    names: [MaybeSpan; 4],
     board: PbnBoard,
     calls: &[u32],
     plays: &[u8],
     notes: &[u32; 768],
 ) -> Verdict
-    ensures { λ r. ⌜ verdictOf r ≡ checked other (pbn (now (text .entry)) names board (now (calls .entry)) (now (plays .entry)) (now (notes .entry))) ⌝ }
+    ensures { λ r. ⌜ verdictOf r ≡ checked other (pbn (now (text .entry)) board (now (calls .entry)) (now (plays .entry)) (now (notes .entry))) ⌝ }
 {
     let number = board.number;
     if LIMIT < text.len() {
@@ -201,10 +201,10 @@ pub(crate) fn check(
     if bad_record(number, calls, plays) {
         return Verdict::Refused(Refusal::OutOfRange);
     }
-    if any_faulty(text, names, board, calls, notes, Fault::PastEnd) {
+    if any_faulty(text, board, calls, notes, Fault::PastEnd) {
         return Verdict::Refused(Refusal::SpanPastEnd);
     }
-    if any_faulty(text, names, board, calls, notes, Fault::NotUtf8) {
+    if any_faulty(text, board, calls, notes, Fault::NotUtf8) {
         return Verdict::Refused(Refusal::SpanNotUtf8);
     }
     Verdict::Accepted

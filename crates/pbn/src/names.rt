@@ -3,15 +3,27 @@ use cleaning::Marks;
 use cleaning::name_len;
 use cleaning::put_name;
 use lin_spec::MaybeSpan;
+use lin_spec::PbnBoard;
 use lin_spec::Span;
 ghost use mathlib.Core.Path.{_≡_};
 ghost use mathlib.Core.List.{map};
 ghost use Prim.Native.Nat.{_≤_};
 ghost use lib.ListN.{length};
 ghost use Rattle.lin_spec.specs.Records.{limit};
-ghost use Rattle.lin_spec.specs.Pbn.{nameBy, laidNames};
+ghost use Rattle.lin_spec.specs.Pbn.{pbnNames, nameBy, laidNames};
 ghost use Rattle.output.specs.Put.{Room, Put};
 ghost use Rattle.pbn.specs.Names.{namesText};
+
+// The names of a record.
+pub(crate) fn names_of(board: PbnBoard) -> [MaybeSpan; 4]
+    ensures { λ r. ⌜ r ≡ pbnNames board ⌝ }
+{
+    let south = board.south;
+    let west = board.west;
+    let north = board.north;
+    let east = board.east;
+    [south, west, north, east]
+}
 
 // Puts a name, nothing where it is absent.
 fn put_one(out: &mut [u8], at: usize, text: &[u8], x: MaybeSpan, marks: Marks) -> usize

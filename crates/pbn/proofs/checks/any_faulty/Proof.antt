@@ -17,7 +17,7 @@ names-faulty-requires c κs = search needs
 
 -- src/checks.rt:165:9
 returns : tie.Need-returns
-returns c = in-names _ _ _ (c .before .before .before .before .args .board) _ _ _ (c .before .names-faulty .ensures) (c .if1 .taken)
+returns c = in-names _ _ (c .before .before .before .before .args .board) _ _ _ (c .before .names-faulty .ensures) (c .if1 .taken)
 
 -- src/checks.rt:167:8
 present-faulty-requires : tie.Need-present-faulty-requires
@@ -25,7 +25,7 @@ present-faulty-requires c κs = search needs
 
 -- src/checks.rt:168:9
 returns-2 : tie.Need-returns-2
-returns-2 c = in-event _ _ _ (c .before .before .before .before .before .before .args .board) _ _ _ (c .before .before .before .names-faulty .ensures) (c .before .before .if1 .left) _ (c .before .present-faulty .ensures) (c .if2 .taken)
+returns-2 c = in-event _ _ (c .before .before .before .before .before .before .args .board) _ _ _ (c .before .before .before .names-faulty .ensures) (c .before .before .if1 .left) _ (c .before .present-faulty .ensures) (c .if2 .taken)
 
 -- src/checks.rt:170:8
 present-faulty-requires-2 : tie.Need-present-faulty-requires-2
@@ -33,7 +33,7 @@ present-faulty-requires-2 c κs = search needs
 
 -- src/checks.rt:171:9
 returns-3 : tie.Need-returns-3
-returns-3 c = in-date _ _ _ (c .before .before .before .before .before .before .before .before .args .board) _ _ _ (c .before .before .before .before .before .names-faulty .ensures) (c .before .before .before .before .if1 .left) _ (c .before .before .before .present-faulty .ensures) (c .before .before .if2 .left) _ (c .before .present-faulty2 .ensures) (c .if3 .taken)
+returns-3 c = in-date _ _ (c .before .before .before .before .before .before .before .before .args .board) _ _ _ (c .before .before .before .before .before .names-faulty .ensures) (c .before .before .before .before .if1 .left) _ (c .before .before .before .present-faulty .ensures) (c .before .before .if2 .left) _ (c .before .present-faulty2 .ensures) (c .if3 .taken)
 
 -- src/checks.rt:173:8
 present-faulty-requires-3 : tie.Need-present-faulty-requires-3
@@ -41,7 +41,7 @@ present-faulty-requires-3 c κs = search needs
 
 -- src/checks.rt:174:9
 returns-4 : tie.Need-returns-4
-returns-4 c = in-id _ _ _ (c .before .before .before .before .before .before .before .before .before .before .args .board) _ _ _ (c .before .before .before .before .before .before .before .names-faulty .ensures) (c .before .before .before .before .before .before .if1 .left) _ (c .before .before .before .before .before .present-faulty .ensures) (c .before .before .before .before .if2 .left) _ (c .before .before .before .present-faulty2 .ensures) (c .before .before .if3 .left) _ (c .before .present-faulty3 .ensures) (c .if4 .taken)
+returns-4 c = in-id _ _ (c .before .before .before .before .before .before .before .before .before .before .args .board) _ _ _ (c .before .before .before .before .before .before .before .names-faulty .ensures) (c .before .before .before .before .before .before .if1 .left) _ (c .before .before .before .before .before .present-faulty .ensures) (c .before .before .before .before .if2 .left) _ (c .before .before .before .present-faulty2 .ensures) (c .before .before .if3 .left) _ (c .before .present-faulty3 .ensures) (c .if4 .taken)
 
 -- src/checks.rt:176:8
 raws-faulty-requires : tie.Need-raws-faulty-requires
@@ -49,7 +49,7 @@ raws-faulty-requires c κs = search needs
 
 -- src/checks.rt:177:9
 returns-5 : tie.Need-returns-5
-returns-5 c = in-raws _ _ _ (c .before .before .before .before .before .before .before .before .before .before .before .before .args .board) _ _ _ (c .before .before .before .before .before .before .before .before .before .names-faulty .ensures) (c .before .before .before .before .before .before .before .before .if1 .left) _ (c .before .before .before .before .before .before .before .present-faulty .ensures) (c .before .before .before .before .before .before .if2 .left) _ (c .before .before .before .before .before .present-faulty2 .ensures) (c .before .before .before .before .if3 .left) _ (c .before .before .before .present-faulty3 .ensures) (c .before .before .if4 .left) _ (c .before .raws-faulty .ensures) (c .if5 .taken)
+returns-5 c = in-raws _ _ (c .before .before .before .before .before .before .before .before .before .before .before .before .args .board) _ _ _ (c .before .before .before .before .before .before .before .before .before .names-faulty .ensures) (c .before .before .before .before .before .before .before .before .if1 .left) _ (c .before .before .before .before .before .before .before .present-faulty .ensures) (c .before .before .before .before .before .before .if2 .left) _ (c .before .before .before .before .before .present-faulty2 .ensures) (c .before .before .before .before .if3 .left) _ (c .before .before .before .present-faulty3 .ensures) (c .before .before .if4 .left) _ (c .before .raws-faulty .ensures) (c .if5 .taken)
 
 -- src/checks.rt:179:5
 any-note-faulty-requires : tie.Need-any-note-faulty-requires
@@ -57,7 +57,7 @@ any-note-faulty-requires c κs = search needs
 
 -- src/checks.rt:151:1
 returns-6 : tie.Need-returns-6
-returns-6 c = in-notes _ _ _ (c .before .before .before .before .before .before .before .before .before .before .before .before .before .args .board) _ _ _ (c .before .before .before .before .before .before .before .before .before .before .names-faulty .ensures) (c .before .before .before .before .before .before .before .before .before .if1 .left) _ (c .before .before .before .before .before .before .before .before .present-faulty .ensures) (c .before .before .before .before .before .before .before .if2 .left) _ (c .before .before .before .before .before .before .present-faulty2 .ensures) (c .before .before .before .before .before .if3 .left) _ (c .before .before .before .before .present-faulty3 .ensures) (c .before .before .before .if4 .left) _ (c .before .before .raws-faulty .ensures) (c .before .if5 .left) _ (c .any-note-faulty .ensures)
+returns-6 c = in-notes _ _ (c .before .before .before .before .before .before .before .before .before .before .before .before .before .args .board) _ _ _ (c .before .before .before .before .before .before .before .before .before .before .names-faulty .ensures) (c .before .before .before .before .before .before .before .before .before .if1 .left) _ (c .before .before .before .before .before .before .before .before .present-faulty .ensures) (c .before .before .before .before .before .before .before .if2 .left) _ (c .before .before .before .before .before .before .present-faulty2 .ensures) (c .before .before .before .before .before .if3 .left) _ (c .before .before .before .before .present-faulty3 .ensures) (c .before .before .before .if4 .left) _ (c .before .before .raws-faulty .ensures) (c .before .if5 .left) _ (c .any-note-faulty .ensures)
 
 pub any-faulty-spec : {M : Type 1} → statement M
 any-faulty-spec =

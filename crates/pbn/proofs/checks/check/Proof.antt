@@ -11,11 +11,11 @@ use Rattle.pbn.proofs.checks.bad_record.Reads as bad-record-reads
 
 -- src/checks.rt:196:9
 returns : tie.Need-returns
-returns c = check-long _ _ _ (c .before .before .before .before .args .board) _ _ _ (c .if1 .taken)
+returns c = check-long _ _ (c .before .before .before .before .args .board) _ _ _ (c .if1 .taken)
 
 -- src/checks.rt:199:9
 returns-2 : tie.Need-returns-2
-returns-2 c = check-other _ _ _ (c .before .before .before .before .before .args .board) _ _ _ (c .before .if1 .left) (c .if2 .taken)
+returns-2 c = check-other _ _ (c .before .before .before .before .before .args .board) _ _ _ (c .before .if1 .left) (c .if2 .taken)
 
 -- src/checks.rt:201:8
 bad-record-requires : tie.Need-bad-record-requires
@@ -23,7 +23,7 @@ bad-record-requires c κs = search needs
 
 -- src/checks.rt:202:9
 returns-3 : tie.Need-returns-3
-returns-3 c = check-number _ _ _ (c .before .before .before .before .before .before .before .args .board) _ _ _ (c .before .before .before .if1 .left) (c .before .before .if2 .left) _ (c .before .bad-record .ensures) (c .if3 .taken)
+returns-3 c = check-number _ _ (c .before .before .before .before .before .before .before .args .board) _ _ _ (c .before .before .before .if1 .left) (c .before .before .if2 .left) _ (c .before .bad-record .ensures) (c .if3 .taken)
 
 -- src/checks.rt:204:8
 any-faulty-requires : tie.Need-any-faulty-requires
@@ -31,7 +31,7 @@ any-faulty-requires c κs = search needs
 
 -- src/checks.rt:205:9
 returns-4 : tie.Need-returns-4
-returns-4 c = check-past _ _ _ (c .before .before .before .before .before .before .before .before .before .args .board) _ _ _ (c .before .before .before .before .before .if1 .left) (c .before .before .before .before .if2 .left) _ (c .before .before .before .bad-record .ensures) (c .before .before .if3 .left) _ (c .before .any-faulty .ensures) (c .if4 .taken)
+returns-4 c = check-past _ _ (c .before .before .before .before .before .before .before .before .before .args .board) _ _ _ (c .before .before .before .before .before .if1 .left) (c .before .before .before .before .if2 .left) _ (c .before .before .before .bad-record .ensures) (c .before .before .if3 .left) _ (c .before .any-faulty .ensures) (c .if4 .taken)
 
 -- src/checks.rt:207:8
 any-faulty-requires-2 : tie.Need-any-faulty-requires-2
@@ -39,11 +39,11 @@ any-faulty-requires-2 c κs = search needs
 
 -- src/checks.rt:208:9
 returns-5 : tie.Need-returns-5
-returns-5 c = check-ill _ _ _ (c .before .before .before .before .before .before .before .before .before .before .before .args .board) _ _ _ (c .before .before .before .before .before .before .before .if1 .left) (c .before .before .before .before .before .before .if2 .left) _ (c .before .before .before .before .before .bad-record .ensures) (c .before .before .before .before .if3 .left) _ (c .before .before .before .any-faulty .ensures) (c .before .before .if4 .left) _ (c .before .any-faulty2 .ensures) (c .if5 .taken)
+returns-5 c = check-ill _ _ (c .before .before .before .before .before .before .before .before .before .before .before .args .board) _ _ _ (c .before .before .before .before .before .before .before .if1 .left) (c .before .before .before .before .before .before .if2 .left) _ (c .before .before .before .before .before .bad-record .ensures) (c .before .before .before .before .if3 .left) _ (c .before .before .before .any-faulty .ensures) (c .before .before .if4 .left) _ (c .before .any-faulty2 .ensures) (c .if5 .taken)
 
 -- src/checks.rt:183:1
 returns-6 : tie.Need-returns-6
-returns-6 c = check-good _ _ _ (c .before .before .before .before .before .before .before .before .before .before .before .args .board) _ _ _ (c .before .before .before .before .before .before .before .if1 .left) (c .before .before .before .before .before .before .if2 .left) _ (c .before .before .before .before .before .bad-record .ensures) (c .before .before .before .before .if3 .left) _ (c .before .before .before .any-faulty .ensures) (c .before .before .if4 .left) _ (c .before .any-faulty2 .ensures) (c .if5 .left)
+returns-6 c = check-good _ _ (c .before .before .before .before .before .before .before .before .before .before .before .args .board) _ _ _ (c .before .before .before .before .before .before .before .if1 .left) (c .before .before .before .before .before .before .if2 .left) _ (c .before .before .before .before .before .bad-record .ensures) (c .before .before .before .before .if3 .left) _ (c .before .before .before .any-faulty .ensures) (c .before .before .if4 .left) _ (c .before .any-faulty2 .ensures) (c .if5 .left)
 
 pub check-spec : {M : Type 1} → statement M
 check-spec =
