@@ -121,11 +121,11 @@ module _ (c : PbnCall) where
 
 -- The texts of a call
 
-not-holds : (t : Bool) → not t ≡ true → t ≡ false
+pub not-holds : (t : Bool) → not t ≡ true → t ≡ false
 not-holds true e = sym e
 not-holds false e = refl
 
-not-fails : (t : Bool) → not t ≡ false → t ≡ true
+pub not-fails : (t : Bool) → not t ≡ false → t ≡ true
 not-fails true e = refl
 not-fails false e = sym e
 
@@ -148,7 +148,7 @@ module _ (s ns : List ℕ) (c : PbnCall) (t : Bool) (e : t ≡ isKept c) where
 -- The calls from word i on: its call, and the others; past the last row, none
 
 module _ (s ns ws : List ℕ) (i : ℕ) where
-  calls-next : 6 ≤ length ws - i → (c : PbnCall) → c ≡ rowAt pbnRow ws i → callsBytes s ns (pbnRows (drop i ws)) ≡ callBytes s ns c ++ callsBytes s ns (pbnRows (drop (i + 6) ws))
+  pub calls-next : 6 ≤ length ws - i → (c : PbnCall) → c ≡ rowAt pbnRow ws i → callsBytes s ns (pbnRows (drop i ws)) ≡ callBytes s ns c ++ callsBytes s ns (pbnRows (drop (i + 6) ws))
   unfolding callsBytes
   calls-next h c e = rw (rows-front pbnRow ws i h, e) refl
 

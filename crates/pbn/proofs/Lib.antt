@@ -4,3 +4,4 @@ pub mod CallLaws
 pub mod NameLaws
 pub mod DealingLaws
 pub mod RawLaws
+pub mod RowLaws

@@ -5,8 +5,8 @@ use native.Mathlib.Nat.{zero-add}
 use native.Mathlib.Omega.{arith}
 use mathlib.Core.Path.{_≡_, refl, ap, sym, _∙_}
 use mathlib.Core.Bool.{Bool, true, false}
-use mathlib.Core.List.{List, [], _∷_, _++_, map}
-use lib.ListN.{length, drop, length-take, length-drop}
+use mathlib.Core.List.{List, [], _∷_, _++_, map, append-nil}
+use lib.ListN.{length, drop, length-take, length-drop, length-append}
 use lib.Dec.{eqb}
 use Rattle.lin_spec.specs.Base.{pick, concat}
 use Rattle.lin_spec.specs.Records.{span, part, bytesAt}
@@ -35,6 +35,13 @@ module _ (p q : ℕ) (s : List ℕ) where
   names-are (a ∷ b ∷ []) h = absurd (let z : ⊥ = omega arith in z)
   names-are (a ∷ b ∷ c ∷ []) h = absurd (let z : ⊥ = omega arith in z)
   names-are (a ∷ b ∷ c ∷ d ∷ e ∷ ms) h = absurd (let z : ⊥ = omega arith in z)
+
+  -- how many bytes they have
+  pub names-long : (ms : List MaybeSpan) → length ms ≡ 4
+      → length (namesText p q s ms) ≡ length (nameAt p q s ms 0) + length (nameAt p q s ms 1) + (length (nameAt p q s ms 2) + length (nameAt p q s ms 3))
+  names-long ms h =
+      ap length (names-are ms h)
+      ∙ simp (length-append, append-nil) (omega arith)
 
   -- no name is longer than the text
   without-most : (c : ℕ) (t : List ℕ) → length (without c t) ≤ length t

@@ -1,27 +1,18 @@
--- Laws of the texts after the names, and of the words of a row. (01: From PBN)
+-- Laws of the texts after the names. (01: From PBN)
 -- Assumes nothing.
 use Prim.Native.Nat.{ℕ, _+_}
 use native.Mathlib.Omega.{arith}
 use mathlib.Core.Path.{_≡_}
 use mathlib.Core.List.{List, append-nil}
 use lib.ListN.{length, length-append}
-use borrow.Author.Tests.{eq-eqb, ne-eqb}
 use Rattle.lin_spec.specs.Pbn.{pbnRows}
 use Rattle.lin_spec.specs.declared.MaybeSpan.{MaybeSpan}
 use Rattle.pbn.specs.declared.texts.Label.{Label}
 use Rattle.pbn.specs.Texts.{titleText, labelledText}
 use Rattle.pbn.specs.Calls.{callsBytes}
-use Rattle.pbn.specs.Rows.{threeText, notedText}
 use Rattle.pbn.specs.Raw.{rawText}
 
 pub raw-long : (s : List ℕ) (e d : MaybeSpan) (l : Label) (ns ws : List ℕ)
     → length (rawText s e d l ns ws) ≡ length (titleText s e d) + length (labelledText s l) + length (callsBytes s ns (pbnRows ws))
 unfolding rawText
 raw-long s e d l ns ws = simp (length-append, append-nil) (omega arith)
-
--- the words of an annotation, by its length
-pub noted-none : (a n : ℕ) → n ≡ 0 → notedText a n ≡ threeText 0 0 0
-noted-none a n e = simp (eq-eqb n 0 e)
-
-pub noted-some : (a n : ℕ) → (n ≡ 0 → ⊥) → notedText a n ≡ threeText 1 a n
-noted-some a n e = simp (ne-eqb n 0 e)

@@ -17,7 +17,7 @@ use Rattle.lin_spec.specs.declared.MaybeSpan.the-variants.{Absent, Present}
 use Rattle.lin_spec.specs.declared.MaybeNumber.{MaybeNumber}
 use Rattle.pbn.specs.declared.texts.Label.{Label}
 use Rattle.pbn.specs.declared.texts.Label.the-variants.{Id}
-use Rattle.pbn.specs.Texts.{labelBy, labelled, labelBytes, emptyBy, datedText, titleText, labelsText, labelledText}
+use Rattle.pbn.specs.Texts.{labelBy, labelled, labelBytes, emptyBy, datedText, titleText, labelsText, labelledText, roomText}
 
 -- a text that is present, by its length
 
@@ -71,3 +71,10 @@ module _ (s : List ℕ) (l : Label) where
   pub labels-long : length (labelsText s l) ≡ 14 + (length (labelBytes s l) + (length (labelBytes s l) + length (labelBytes s l)))
   unfolding labelsText
   labels-long = simp (length-append, append-nil) (omega arith)
+
+  -- room-and-board alone
+  pub room-long : (t : Bool) → t ≡ labelled l → t ≡ true → length (roomText s l) ≡ 8 + (length (labelBytes s l) + length (labelBytes s l))
+  room-long t e f = simp (← e, f, length-append) (omega arith)
+
+  pub room-none : (t : Bool) → t ≡ labelled l → t ≡ false → length (roomText s l) ≡ 0
+  room-none t e f = simp (← e, f)

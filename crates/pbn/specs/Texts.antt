@@ -51,3 +51,10 @@ labelsText s l = joined (labelsPieces s l)
 
 abbrev pub labelledText : (s : List ℕ) → Label → List ℕ
 labelledText s l = pick (labelled l) (labelsText s l) []
+
+-- the first of the two, and the second
+abbrev pub roomText : (s : List ℕ) → Label → List ℕ
+roomText s l = pick (labelled l) (ascii "o" ++ (labelBytes s l ++ (ascii ",BOARD " ++ labelBytes s l))) []
+
+abbrev pub headerText : (s : List ℕ) → Label → List ℕ
+headerText s l = pick (labelled l) (ascii "Board " ++ labelBytes s l) []

@@ -24,7 +24,7 @@ const STRAINS: [u8; 5] = *b"CDHSN";
 const GAP: u8 = 255;
 
 // Whether a call is kept.
-fn is_kept(c: PbnCall) -> bool
+pub(crate) fn is_kept(c: PbnCall) -> bool
     ensures { λ r. ⌜ r ≡ isKept c ⌝ }
 {
     c.kind < 4
@@ -131,7 +131,7 @@ fn put_bid(out: &mut [u8], at: usize, c: PbnCall) -> usize
 }
 
 // How many bytes it has.
-fn bid_len(c: PbnCall) -> u64
+pub(crate) fn bid_len(c: PbnCall) -> u64
     ensures { λ r. ⌜ (r ≡ length (bidBytes c)) × (r ≤ 2) ⌝ }
 {
     if c.kind < 3 {
@@ -155,7 +155,7 @@ fn put_note(out: &mut [u8], at: usize, text: &[u8], c: PbnCall, notes: &[u32; 76
 }
 
 // How many bytes it has.
-fn note_len(text: &[u8], c: PbnCall, notes: &[u32; 768]) -> u64
+pub(crate) fn note_len(text: &[u8], c: PbnCall, notes: &[u32; 768]) -> u64
     ensures { λ r. ⌜ r ≡ sat (length (noteBytes (now (text .entry)) (now (notes .entry)) c)) ⌝ }
 {
     if c.annotated == 0 {

@@ -5,11 +5,13 @@ use cleaning::put_name;
 use lin_spec::MaybeSpan;
 use lin_spec::PbnBoard;
 use lin_spec::Span;
+use output::sat_add;
 ghost use mathlib.Core.Path.{_≡_};
 ghost use mathlib.Core.List.{map};
 ghost use Prim.Native.Nat.{_≤_};
 ghost use lib.ListN.{length};
 ghost use Rattle.lin_spec.specs.Records.{limit};
+ghost use Rattle.lin_spec.specs.Refusals.{sat};
 ghost use Rattle.lin_spec.specs.Pbn.{pbnNames, nameBy, laidNames};
 ghost use Rattle.output.specs.Put.{Room, Put};
 ghost use Rattle.pbn.specs.Names.{namesText};
@@ -65,6 +67,18 @@ pub(crate) fn put_names(
     let b = put_one(out, a, text, w, marks);
     let c = put_one(out, b, text, n, marks);
     put_one(out, c, text, e, marks)
+}
+
+// How many bytes they have.
+pub(crate) fn names_len(text: &[u8], names: [MaybeSpan; 4], marks: Marks) -> u64
+    ensures { λ r. ⌜ r ≡ sat (length (namesText (marks .pipe) (marks .line) (now (text .entry)) names)) ⌝ }
+{
+    let s = names[0];
+    let w = names[1];
+    let n = names[2];
+    let e = names[3];
+    let a = sat_add(one_len(text, s, marks), one_len(text, w, marks));
+    sat_add(a, sat_add(one_len(text, n, marks), one_len(text, e, marks)))
 }
 
 // Where each name stands.

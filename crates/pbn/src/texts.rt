@@ -18,7 +18,7 @@ ghost use Rattle.lin_spec.specs.Records.{bytesAt};
 ghost use Rattle.lin_spec.specs.Refusals.{sat};
 ghost use Rattle.lin_spec.specs.Pbn.{labelOf, textBy, filledBy};
 ghost use Rattle.output.specs.Put.{Room, Put};
-ghost use Rattle.pbn.specs.Texts.{labelBy, labelled, labelBytes, emptyBy, datedText, titleText, labelsText, labelledText};
+ghost use Rattle.pbn.specs.Texts.{labelBy, labelled, labelBytes, emptyBy, datedText, titleText, labelsText, labelledText, roomText};
 
 const DASH: [u8; 3] = *b" - ";
 
@@ -181,6 +181,17 @@ pub(crate) fn labelled_len(text: &[u8], l: Label) -> u64
     if is_labelled(l) {
         let n = label_len(text, l);
         return sat_add(14, sat_add(n, sat_add(n, n)));
+    }
+    0
+}
+
+// How many bytes the first of them has, room-and-board.
+pub(crate) fn room_len(text: &[u8], l: Label) -> u64
+    ensures { λ r. ⌜ r ≡ sat (length (roomText (now (text .entry)) l)) ⌝ }
+{
+    if is_labelled(l) {
+        let n = label_len(text, l);
+        return sat_add(8, sat_add(n, n));
     }
     0
 }

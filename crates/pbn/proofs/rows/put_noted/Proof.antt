@@ -1,6 +1,6 @@
 -- `pbn::put_noted` meets its contract: by the length.
 -- Assumes nothing.
-use Rattle.pbn.proofs.RawLaws.{noted-none, noted-some}
+use Rattle.pbn.proofs.RowLaws.{noted-none, noted-some}
 use borrow.Author.Needs.{needs}
 use Rattle.pbn.proofs.rows.put_noted.Statement.{statement}
 use Rattle.pbn.proofs.rows.put_noted.Tie as tie
