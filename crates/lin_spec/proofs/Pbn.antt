@@ -149,7 +149,7 @@ strain-visible n h =
     let z = below (λ k. leb 33 (getD (ascii "CDHSN") k 0) && leb (getD (ascii "CDHSN") k 0) 122) 5 refl n h in
     (leb-true 33 (getD (ascii "CDHSN") n 0) (and-left (leb 33 (getD (ascii "CDHSN") n 0)) _ z), leb-true (getD (ascii "CDHSN") n 0) 122 (and-right (leb 33 (getD (ascii "CDHSN") n 0)) _ z))
 
-bid-visible : (c : PbnCall) → badCall c ≡ false → Present (All Visible) (bidOf c)
+pub bid-visible : (c : PbnCall) → badCall c ≡ false → Present (All Visible) (bidOf c)
 bid-visible c h =
     picked P (eqb (c .kind) 0) (λ _. ((omega arith, omega arith), tt)) λ _.
     picked P (eqb (c .kind) 1) (λ _. ((omega arith, omega arith), tt)) λ _.
@@ -189,7 +189,7 @@ module _ (p q : ℕ) (P : List ℕ → Type 0) (seen : (t : List ℕ) → All Vi
 
 -- No text holds a pipe or a line break
 
-visible-free : (t : List ℕ) → All Visible t → All Free t
+pub visible-free : (t : List ℕ) → All Visible t → All Free t
 visible-free [] h = tt
 visible-free (b ∷ t) h = (
   ((λ e. (let l = h .0 .1 in omega arith)), (λ e. (let l = h .0 .0 in omega arith)), (λ e. (let l = h .0 .0 in omega arith))),

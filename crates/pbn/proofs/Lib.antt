@@ -5,3 +5,4 @@ pub mod NameLaws
 pub mod DealingLaws
 pub mod RawLaws
 pub mod RowLaws
+pub mod MadeLaws

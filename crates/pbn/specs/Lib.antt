@@ -4,3 +4,4 @@ pub mod Calls
 pub mod Names
 pub mod Rows
 pub mod Raw
+pub mod Made

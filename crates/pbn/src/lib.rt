@@ -2,6 +2,7 @@
 mod calls;
 mod checks;
 mod dealing;
+mod heading;
 mod names;
 mod raw;
 mod rows;
