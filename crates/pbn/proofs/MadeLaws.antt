@@ -6,11 +6,13 @@ use mathlib.Core.Path.{_≡_, refl, ap, sym, subst, _∙_}
 use mathlib.Core.Bool.{Bool, true, false, _||_}
 use mathlib.Core.List.{List, [], _∷_, _++_, append-assoc, append-nil, map}
 use mathlib.Core.Option.{Option, none, some}
-use lib.ListN.{length, length-append}
+use lib.ListN.{length, take, drop, length-append, length-take}
+use lib.Seq.{take-append-seam, drop-at}
 use lib.Dec.{eqb, ltb}
 use borrow.Author.Tests.{eq-eqb, ne-eqb, eqb-false, ltb-true, ltb-false}
 use Rattle.lin_spec.specs.Base.{pick, All, any, concat, ascii}
-use Rattle.lin_spec.specs.Records.{limit, span, bytesAt}
+use Rattle.lin_spec.specs.Records.{limit, span, part, bytesAt}
+use Rattle.lin_spec.specs.Output.{overlay}
 use Rattle.lin_spec.specs.Tokens.{pipe}
 use Rattle.lin_spec.specs.Board.{CallOf, BoardOf, mapOption, Present}
 use Rattle.lin_spec.specs.Reading.{maybeOf, claimedOf, headingOf, annotationWords, callWords}
@@ -34,6 +36,8 @@ use Rattle.lin_spec.proofs.White.{Visible}
 use Rattle.lin_spec.proofs.Clean.{clean-same}
 use Rattle.lin_spec.proofs.Accepted.{none-any}
 use Rattle.lin_spec.proofs.Pbn.{bid-visible, visible-free}
+use Rattle.output.specs.Put.{Room, Put}
+use Rattle.output.proofs.Laws.{overlay-overlay, length-overlay}
 use Rattle.cleaning.proofs.TextLaws.{clean-nil, clean-length}
 use Rattle.annotation.proofs.AnnotationLaws.{absent-is}
 use Rattle.pbn.specs.declared.heading.Starts.{Starts}
@@ -57,6 +61,42 @@ cleaned-option : (p q : ℕ) (o : Option (List ℕ)) → orEmpty (mapOption (cle
 unfolding clean
 cleaned-option p q none = refl
 cleaned-option p q (some t) = refl
+
+-- a text that was put, and what replaces it
+part-put : (o : List ℕ) (at : ℕ) (t : List ℕ) → at ≤ length o → part (overlay o at t) at (length t) ≡ t
+unfolding part overlay
+part-put o at t h =
+    let r = drop (at + length t) o in
+    ap (λ (x : List ℕ). take (length t) (drop at x)) (append-assoc (take at o) t r)
+    ∙ ap (take (length t)) (drop-at (take at o) (t ++ r) at (let z = length-take at o in let e : length (take at o) ≡ at = omega arith in e))
+    ∙ take-append-seam t r
+
+replaced : (o : List ℕ) (at : ℕ) (t u : List ℕ) → at ≤ length o → length u ≡ length t → overlay (overlay o at t) at u ≡ overlay o at u
+unfolding overlay
+replaced o at t u h e =
+    let r = drop (at + length t) o in
+    let f : length (take at o) ≡ at = (let z = length-take at o in omega arith) in
+    let g : length (take at o ++ t) ≡ at + length u = (let z = length-append (take at o) t in omega arith) in
+    let front : take at (take at o ++ t ++ r) ≡ take at o = ap (take at) (append-assoc (take at o) t r) ∙ ap (λ (n : ℕ). take n (take at o ++ (t ++ r))) (sym f) ∙ take-append-seam (take at o) (t ++ r) in
+    let back : drop (at + length u) (take at o ++ t ++ r) ≡ drop (at + length u) o = drop-at (take at o ++ t) r (at + length u) g ∙ ap (λ (n : ℕ). drop (at + n) o) (sym e) in
+    λ i. front i ++ u ++ back i
+
+-- a text that is put after another, and then cleaned where it stands
+cleaned-put : (p q : ℕ) {o : List ℕ} {x y : List ℕ} {o₁ : List ℕ} {a : ℕ} {o₂ : List ℕ} {n : ℕ} → Room o 0 x → Put o 0 x o₁ a → Room o₁ a y → Put o₁ a y o₂ n
+    → (o₃ : List ℕ) → o₃ ≡ overlay o₂ a (clean p q (part o₂ a (n - a))) → Put o 0 (x ++ clean p q y) o₃ n
+cleaned-put p q {o} {x} {y} {o₁} {a} {o₂} {n} room put room₂ put₂ o₃ e =
+    let h : a ≤ length o₁ = omega (arith, room₂ .room) in
+    let f : n - a ≡ length y = omega (arith, put₂ .next) in
+    let there : part o₂ a (n - a) ≡ y = (λ i. part (put₂ .text i) a (f i)) ∙ part-put o₁ a y h in
+    record {
+      next = omega (arith, put .next, put₂ .next, length-append x (clean p q y), clean-length p q y);
+      text =
+          e
+          ∙ (λ i. overlay (put₂ .text i) a (clean p q (there i)))
+          ∙ replaced o₁ a y (clean p q y) h (clean-length p q y)
+          ∙ (λ i. overlay (put .text i) (put .next i) (clean p q y))
+          ∙ overlay-overlay o 0 x (clean p q y);
+    }
 
 -- Texts that are absent or have a byte
 
@@ -355,6 +395,37 @@ module _ (p q : ℕ) (s : List ℕ) (b : PbnBoard) where
     starts-within h ms em n en =
         let z = ap (λ (xs : List MaybeSpan). length (namesText p q s xs)) em in
         (omega (arith, bare-long), omega (arith, bare-long), omega (arith, ap length (labelled-both l), length-append (roomText s l) (headerText s l)))
+
+    -- names, and the other texts after them, put and then cleaned where they stand
+    module _ (ws ns : List ℕ) (sound : any badCall (pbnRows ws) ≡ false) (ms : List MaybeSpan) (em : ms ≡ pbnNames b) {o : List ℕ} (room : Room o 0 (madeText p q s b ws ns)) where
+      pub names-fit : Room o 0 (namesText p q s ms)
+      names-fit =
+          record { room = omega (arith, room .room, made-long ws ns sound, ap (λ (xs : List MaybeSpan). length (namesText p q s xs)) em) }
+
+      module _ {o₁ : List ℕ} {a : ℕ} (put : Put o 0 (namesText p q s ms) o₁ a) where
+        pub raw-fit : Room o₁ a (rawText s e d l ns ws)
+        raw-fit =
+            record {
+              room =
+                  omega (
+                    arith,
+                    room .room,
+                    put .next,
+                    made-long ws ns sound,
+                    ap (λ (xs : List MaybeSpan). length (namesText p q s xs)) em,
+                    ap length (put .text) ∙ length-overlay o 0 (namesText p q s ms) (names-fit .room),
+                  );
+            }
+
+        pub raw-ends : {o₂ : List ℕ} {n : ℕ} → Put o₁ a (rawText s e d l ns ws) o₂ n → (a ≤ n) × (n ≤ length o₂)
+        raw-ends {o₂} {n} put₂ =
+            (omega (arith, put₂ .next), omega (arith, put₂ .next, raw-fit .room, ap length (put₂ .text) ∙ length-overlay o₁ a (rawText s e d l ns ws) (raw-fit .room)))
+
+        pub texts-put : {o₂ : List ℕ} {n : ℕ} → Put o₁ a (rawText s e d l ns ws) o₂ n → (o₃ : List ℕ) → o₃ ≡ overlay o₂ a (clean p q (part o₂ a (n - a)))
+            → Put o 0 (madeText p q s b ws ns) o₃ n
+        texts-put {o₂} {n} put₂ o₃ e₃ =
+            subst (λ (x : List ℕ). Put o 0 x o₃ n) (ap (λ (xs : List MaybeSpan). namesText p q s xs ++ clean p q (rawText s e d l ns ws)) em ∙ sym (made-is ws ns sound))
+            (cleaned-put p q names-fit put raw-fit put₂ o₃ e₃)
 
 -- The heading
 

@@ -3,6 +3,7 @@ mod calls;
 mod checks;
 mod dealing;
 mod heading;
+mod made;
 mod names;
 mod raw;
 mod rows;
