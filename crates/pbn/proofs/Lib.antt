@@ -6,3 +6,4 @@ pub mod DealingLaws
 pub mod RawLaws
 pub mod RowLaws
 pub mod MadeLaws
+pub mod StoreLaws

@@ -203,7 +203,7 @@ module _ (p q : ℕ) (s ns : List ℕ) where
       ∙ sym (clean-append p q (callBytes s ns c) (callsBytes s ns cs))
 
   -- how many there are
-  kept-many : (cs : List PbnCall) → length (keptCalls p q s ns cs) ≡ keptMany cs
+  pub kept-many : (cs : List PbnCall) → length (keptCalls p q s ns cs) ≡ keptMany cs
   unfolding keptCalls keptMany
   kept-many [] = refl
   kept-many (c ∷ cs) = go (isKept c) refl (kept-many cs)

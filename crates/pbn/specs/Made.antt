@@ -1,22 +1,28 @@
 -- The board that is made of a record: without its calls and cards, where its texts begin, and what is stored and answered. (01: From PBN)
-use Prim.Native.Nat.{ℕ, _+_}
+use Prim.Native.Nat.{ℕ, _+_, _/_, _≤_}
+use mathlib.Core.Path.{_≡_}
+use mathlib.Core.Bool.{false}
 use mathlib.Core.List.{List, [], _∷_, _++_}
 use lib.ListN.{length}
 use lib.Dec.{eqb}
-use Rattle.lin_spec.specs.Base.{pick, concat}
-use Rattle.lin_spec.specs.Records.{span}
+use Rattle.lin_spec.specs.Base.{pick, any, concat}
+use Rattle.lin_spec.specs.Records.{limit, span}
+use Rattle.lin_spec.specs.Fresh.{refusedHeading}
 use Rattle.lin_spec.specs.Refusals.{unless, tooSmall}
 use Rattle.lin_spec.specs.Refusals.Answer.{accepted}
 use Rattle.lin_spec.specs.Output.{room}
 use Rattle.lin_spec.specs.Board.{BoardOf}
 use Rattle.lin_spec.specs.Reading.{headingOf, fewRows}
 use Rattle.lin_spec.specs.Writer.{orEmpty}
-use Rattle.lin_spec.specs.Pbn.{Pbn, pbn, fromBoard, boardTexts, laid, Conversion, converted}
+use Rattle.lin_spec.specs.Pbn.{Pbn, pbn, pbnRows, badCall, keptCards, fromBoard, boardTexts, laid, Conversion, converted}
 use Rattle.lin_spec.specs.declared.MaybeSpan.{MaybeSpan}
 use Rattle.lin_spec.specs.declared.MaybeSpan.the-variants.{Absent, Present}
 use Rattle.lin_spec.specs.declared.PbnBoard.{PbnBoard}
 use Rattle.lin_spec.specs.declared.Heading.{Heading}
+use Rattle.lin_spec.specs.declared.Converted.{Converted}
+use Rattle.lin_spec.specs.declared.Refusal.{Refusal}
 use Rattle.pbn.specs.declared.heading.Starts.{Starts}
+use Rattle.pbn.specs.Calls.{keptMany}
 
 -- the board without its calls and cards
 unfoldable pub bare : (p q : ℕ) (s : List ℕ) → PbnBoard → BoardOf (List ℕ)
@@ -44,6 +50,20 @@ counted h n k = record { verdict = h .verdict; board = h .board; calls = n; card
 
 unfoldable pub madeHeading : (p q : ℕ) (s : List ℕ) → PbnBoard → (calls cards : ℕ) → Heading
 madeHeading p q s b n k = counted (headingOf (laid (bare p q s b))) n k
+
+-- every check is passed: the calls are sound, n of them and k cards are kept, and there are rows, places and room for all
+pub record Ready (p q : ℕ) (s : List ℕ) (b : PbnBoard) (ws ps ns o rows cards : List ℕ) (n k : ℕ) : Type 0 where
+  pub short : length s ≤ limit
+  pub sound : any badCall (pbnRows ws) ≡ false
+  pub many : n ≡ keptMany (pbnRows ws)
+  pub kept : k ≡ length (keptCards ps)
+  pub rows-fit : n ≤ length rows / 6
+  pub cards-fit : k ≤ length cards
+  pub text-fits : length (madeText p q s b ws ns) ≤ room o
+
+-- what a refused call answers
+abbrev pub refusedBoard : Refusal → Converted
+refusedBoard r = record { heading = refusedHeading r; len = 0 }
 
 -- what is stored and answered once every check is passed, and once those before 3 are
 unfoldable pub storedBoard : (p q : ℕ) → Pbn → (o rows cards : List ℕ) → Conversion

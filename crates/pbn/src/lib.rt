@@ -2,9 +2,13 @@
 mod calls;
 mod checks;
 mod dealing;
+mod entry;
 mod heading;
 mod made;
 mod names;
 mod raw;
 mod rows;
 mod texts;
+
+pub use entry::from_board;
+pub use entry::from_board_with;
