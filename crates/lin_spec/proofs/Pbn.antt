@@ -3,7 +3,7 @@
 -- Assumes nothing.
 use Prim.Native.Nat.{ℕ, _+_, _≤_, _<_}
 use native.Mathlib.Omega.{arith}
-use mathlib.Core.Path.{_≡_, refl, ap, sym, _∙_}
+use mathlib.Core.Path.{_≡_, refl, ap, sym, subst, _∙_}
 use mathlib.Core.Bool.{Bool, true, false, _&&_, _||_, not, false≢true}
 use mathlib.Core.List.{List, [], _∷_, _++_, map, append-assoc, append-nil}
 use mathlib.Core.Option.{Option, none, some}
@@ -14,11 +14,15 @@ use lib.Dec.{eqb, ltb, leb}
 use borrow.Author.Tests.{ltb-false, leb-true}
 use Rattle.lin_spec.specs.Base.{All, any, null, concat, ascii}
 use Rattle.lin_spec.specs.Records.{span, part, bytesAt, optionOf}
+use Rattle.lin_spec.specs.Refusals.{Answer}
+use Rattle.lin_spec.specs.Refusals.Answer.{refused, accepted}
+use Rattle.lin_spec.specs.Reading.{Reading, stored}
+use Rattle.lin_spec.specs.ThirdDemand.{Gives}
 use Rattle.lin_spec.specs.Board.{CallOf, BoardOf, mapOption, mapCall, mapBoard, Present, EachText}
 use Rattle.lin_spec.specs.Decimal.{digit, decimal}
 use Rattle.lin_spec.specs.File.{parseLinFile}
 use Rattle.lin_spec.specs.Writer.{clean, orEmpty, present, written, settled}
-use Rattle.lin_spec.specs.Pbn.{Pbn, pbnNames, gap, claimFrom, bidOf, rawOf, titleOf, labelOf, annotationBy, textBy, filledBy, nameBy, keptBy, keptCalls, keptCards, fromBoard, callTexts, boardTexts, laidNames, laidOption, laidCalls, laid, badEntry, badCall, badBoardNumber, badPbn, rawSpans, nameSpans, pbnSpans}
+use Rattle.lin_spec.specs.Pbn.{Pbn, pbnNames, gap, claimFrom, bidOf, rawOf, titleOf, labelOf, annotationBy, textBy, filledBy, nameBy, keptBy, keptCalls, keptCards, fromBoard, callTexts, boardTexts, laidNames, laidOption, laidCalls, laid, badEntry, badCall, badBoardNumber, badPbn, rawSpans, nameSpans, pbnSpans, Conversion, converted, convertBoard}
 use Rattle.lin_spec.specs.Lent.{spanIn}
 use Rattle.lin_spec.specs.Annotation.{noteSpans, annotationText}
 use Rattle.lin_spec.specs.declared.MaybeSpan.{MaybeSpan}
@@ -28,6 +32,7 @@ use Rattle.lin_spec.specs.declared.PbnCall.{PbnCall}
 use Rattle.lin_spec.specs.declared.MaybeResult.{MaybeResult}
 use Rattle.lin_spec.specs.declared.MaybeResult.the-variants.{Absent as NoResult, Tricks}
 use Rattle.lin_spec.specs.declared.Span.{Span}
+use Rattle.lin_spec.specs.declared.Verdict.the-variants.{Accepted}
 use Rattle.lin_spec.proofs.Base.{picked, or-none, and-left, and-right, allBelow, below}
 use Rattle.lin_spec.proofs.White.{Visible}
 use Rattle.lin_spec.proofs.Reading.{board-eq}
@@ -38,6 +43,8 @@ use Rattle.lin_spec.proofs.RoundTrip.{Item, forms, round-trip}
 use Rattle.lin_spec.proofs.Wellformed.{Utf8, visible-utf8, utf8-clean, utf8-name}
 use Rattle.lin_spec.proofs.Annotation.{annotation-utf8}
 use Rattle.lin_spec.proofs.Accepted.{none-any, all-left, all-right}
+use Rattle.lin_spec.proofs.Checks.{unless-same}
+use Rattle.lin_spec.proofs.ThirdDemand.{front-of, stored-gives}
 
 -- Back to back
 
@@ -338,3 +345,25 @@ module _ (p q : ℕ) (f : Fit p q) (x : Pbn) (typed : PbnTyped x) (well : All (�
         header = cleaned-utf8 (λ l. ascii "Board " ++ l) (λ l k. utf8-append (ascii "Board ") l (by-ascii (ascii "Board ") (unfold allAscii in refl)) k) (labelOf (filledBy (x .text) (b .id)) (b .number)) label;
         calls = kept-each p q Utf8 visible-utf8 (x .text) (x .notes) (x .calls) (calls-sound x h) (raw-utf8 (x .calls) (all-left W (rawSpans (x .calls)) _ w₄));
       }
+
+-- What an accepted call stored, lent again: the texts in the output's first bytes, with the heading's board and as many rows and cards as it says, are
+-- the board that `from_board` makes
+
+module _ (p q : ℕ) (x : Pbn) (o rows cards : List ℕ) where
+  abbrev stays : Conversion → Reading
+  stays c = record { heading = c .heading; rows = c .rows; cards = c .cards }
+
+  abbrev Back : Conversion → Type 0
+  Back c = c .heading .verdict ≡ Accepted → Gives (take (c .len) (c .output)) (fromBoard p q x) (stays c)
+
+  back : (a : Answer (BoardOf Span)) → ((b : BoardOf Span) → a ≡ accepted b → laid (fromBoard p q x) ≡ b) → Back (converted a (boardTexts (fromBoard p q x)) rows cards o)
+  back (refused r) h k = let z : _≡_ {A = ℕ} 0 1 = cc in absurd (omega arith)
+  back (accepted b) h k =
+      let t = boardTexts (fromBoard p q x) in
+      let e = front-of o t (length t) refl in
+      let m : mapBoard (bytesAt t) b ≡ fromBoard p q x = ap (mapBoard (bytesAt t)) (sym (h b refl)) ∙ laid-out (fromBoard p q x) in
+      rw e (subst (λ (y : BoardOf (List ℕ)). Gives t y (stored (accepted b) rows cards)) m (stored-gives t b rows cards))
+
+  pub made-given : (other : Bool) → Back (convertBoard other p q x o rows cards)
+  unfolding convertBoard
+  made-given other = back _ (unless-same _ (laid (fromBoard p q x)))

@@ -267,13 +267,27 @@ getD-any (a ∷ x) zero d e h = refl
 getD-any (a ∷ x) (suc k) d e h = getD-any x k d e (le-of-suc-le-suc h)
 
 -- the first words of a list that was overlaid from its start
-front-of : (x w : List ℕ) (n : ℕ) → length w ≡ n → take n (overlay x 0 w) ≡ w
+pub front-of : (x w : List ℕ) (n : ℕ) → length w ≡ n → take n (overlay x 0 w) ≡ w
 unfolding overlay
 front-of x w n e = take-at w (drop (0 + length w) x) n e
 
 meaning-back : (t : List ℕ) (b : BoardOf Span) → meaning (lent t (headingOf b .board) (callWords (b .calls)) (b .play)) ≡ mapBoard (bytesAt t) b
 unfolding meaning
 meaning-back t b = ap (mapBoard (bytesAt t)) (lent-back t b)
+
+-- what was stored of a board over the text t, lent again, is its meaning
+pub stored-gives : (t : List ℕ) (b : BoardOf Span) (rows cards : List ℕ) → Gives t (mapBoard (bytesAt t) b) (stored (accepted b) rows cards)
+unfolding mapBoard
+stored-gives t b rows cards =
+    record {
+      verdict = refl;
+      calls = sym (length-map (b .calls) (mapCall (bytesAt t)));
+      cards = refl;
+      board =
+          ap (λ (ws : List ℕ). meaning (lent t (headingOf b .board) ws (take (length (b .play)) (overlay cards 0 (b .play))))) (front-of rows (callWords (b .calls)) (length (b .calls) * 6) (words-length (b .calls)))
+          ∙ ap (λ (cs : List ℕ). meaning (lent t (headingOf b .board) (callWords (b .calls)) cs)) (front-of cards (b .play) (length (b .play)) refl)
+          ∙ meaning-back t b;
+    }
 
 module _ (t : List ℕ) (short : length t ≤ limit) (good : Utf8 t) (L : List (BoardOf (List ℕ))) (means : parseLinFile t ≡ L) where
   spans-mean : map (mapBoard (bytesAt t)) (fileSpans t) ≡ L
@@ -317,13 +331,7 @@ module _ (t : List ℕ) (short : length t ≤ limit) (good : Utf8 t) (L : List (
         simp (le-ltb limit (length t) short, good, t₄, t₃, t₃′)
 
     given : Gives t (getD L n d) (fileBoard t n rows cards)
-    given =
-        let z : meaning (lent t (headingOf b .board) (take (length (b .calls) * 6) (overlay rows 0 (callWords (b .calls)))) (take (length (b .play)) (overlay cards 0 (b .play)))) ≡ getD L n d =
-        ap (λ (ws : List ℕ). meaning (lent t (headingOf b .board) ws (take (length (b .play)) (overlay cards 0 (b .play))))) (front-of rows (callWords (b .calls)) (length (b .calls) * 6) (words-length (b .calls)))
-        ∙ ap (λ (cs : List ℕ). meaning (lent t (headingOf b .board) (callWords (b .calls)) cs)) (front-of cards (b .play) (length (b .play)) refl)
-        ∙ meaning-back t b
-        ∙ board-means in
-        rw reads (record { verdict = refl; calls = calls-many; cards = cards-many; board = z })
+    given = rw (reads, ← board-means) (stored-gives t b rows cards)
 
 -- The theorem, for any two bytes that clean may put at each call
 
