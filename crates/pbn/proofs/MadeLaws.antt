@@ -41,13 +41,13 @@ use Rattle.output.proofs.Laws.{overlay-overlay, length-overlay}
 use Rattle.cleaning.proofs.TextLaws.{clean-nil, clean-length}
 use Rattle.annotation.proofs.AnnotationLaws.{absent-is}
 use Rattle.pbn.specs.declared.heading.Starts.{Starts}
-use Rattle.pbn.specs.declared.texts.Label.{Label}
-use Rattle.pbn.specs.declared.texts.Label.the-variants.{Absent, Id, Number}
-use Rattle.pbn.specs.Texts.{labelBy, labelled, labelBytes, titleText, labelsText, labelledText, roomText, headerText}
-use Rattle.pbn.specs.Calls.{isKept, keptMany, keptOne, bidBytes, noteBytes, callBytes, callsBytes}
-use Rattle.pbn.specs.Rows.{threeText, notedText, rowText, placedRow, placedRows}
-use Rattle.pbn.specs.Names.{namesText}
-use Rattle.pbn.specs.Raw.{rawText}
+use Rattle.pbn_texts.specs.declared.texts.Label.{Label}
+use Rattle.pbn_texts.specs.declared.texts.Label.the-variants.{Absent, Id, Number}
+use Rattle.pbn_texts.specs.Texts.{labelBy, labelled, labelBytes, titleText, labelsText, labelledText, roomText, headerText}
+use Rattle.pbn_texts.specs.Calls.{isKept, keptMany, keptOne, bidBytes, noteBytes, callBytes, callsBytes}
+use Rattle.pbn_texts.specs.Rows.{threeText, notedText, rowText, placedRow, placedRows}
+use Rattle.pbn_texts.specs.Names.{namesText}
+use Rattle.pbn_texts.specs.Raw.{rawText}
 use Rattle.pbn.specs.Made.{bare, madeText, startsOf, textAt, madeHeading}
 
 -- Cleaning

@@ -1,13 +1,8 @@
 // The entry: the checks, each over the whole record before the next; then texts, rows and cards, all of them. (01: From PBN; Eight refusals)
-use crate::calls::kept_calls;
-use crate::calls::kept_cards;
-use crate::calls::put_cards;
-use crate::checks::check;
 use crate::heading::heading_of;
 use crate::heading::starts_of;
 use crate::made::put_texts;
 use crate::made::texts_len;
-use crate::rows::put_rows;
 use cleaning::Marks;
 use lin_spec::Converted;
 use lin_spec::Heading;
@@ -16,6 +11,11 @@ use lin_spec::Refusal;
 use lin_spec::RowKind;
 use lin_spec::Verdict;
 use lin_spec::room;
+use pbn_checks::check;
+use pbn_texts::kept_calls;
+use pbn_texts::kept_cards;
+use pbn_texts::put_cards;
+use pbn_texts::put_rows;
 ghost use mathlib.Core.Path.{_≡_};
 ghost use mathlib.Core.Bool.{false};
 ghost use Prim.Native.Nat.{_≤_};

@@ -1,15 +1,15 @@
 // The texts that are made of a record, all of them from the first byte of an output on, and how many bytes they have. (01: From PBN)
-use crate::names::names_len;
-use crate::names::names_of;
-use crate::names::put_names;
-use crate::raw::put_raw;
-use crate::raw::raw_len;
-use crate::texts::filled;
-use crate::texts::label_of;
 use cleaning::Marks;
 use cleaning::clean_part;
 use lin_spec::PbnBoard;
 use output::sat_add;
+use pbn_checks::names_of;
+use pbn_texts::filled;
+use pbn_texts::label_of;
+use pbn_texts::names_len;
+use pbn_texts::put_names;
+use pbn_texts::put_raw;
+use pbn_texts::raw_len;
 ghost use mathlib.Core.Path.{_≡_};
 ghost use mathlib.Core.Bool.{false};
 ghost use lib.ListN.{length};

@@ -6,27 +6,19 @@ use mir.Val.{toZ, ofZ}
 use borrow.Author.Needs.{needs}
 use Rattle.pbn.proofs.dealing.claim_from.Statement.{statement}
 use Rattle.pbn.proofs.dealing.claim_from.Tie as tie
-use Rattle.pbn.proofs.dealing.claim_from.Reads as reads
-use Rattle.pbn.proofs.dealing.claim_from.Lts as lts
-use Rattle.pbn.proofs.dealing.claim_of.Reads as claim-of-reads
 
--- src/dealing.rt:68:32
 enum-told : tie.Need-enum-told
 enum-told c = search needs
 
--- src/dealing.rt:69:29
 enum-known-result : tie.Need-enum-known-result
 enum-known-result c = search needs
 
--- src/dealing.rt:69:35
 claim-of-requires : tie.Need-claim-of-requires
 claim-of-requires c κs = search needs
 
--- src/dealing.rt:64:1
 returns : tie.Need-returns
 returns c = search needs
 
--- src/dealing.rt:64:1
 returns-2 : tie.Need-returns-2
 returns-2 c = claim-known {x = toZ w32 (ofZ w32 (c .before .before .result .given .0 .0))} {y = c .before .before .result .given .0 .0} (c .claim-of .ensures) (c .before .before .result .given .1) (search needs)
 

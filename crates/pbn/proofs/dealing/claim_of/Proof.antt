@@ -10,25 +10,20 @@ use Rattle.pbn.proofs.DealingLaws.{claimBy, claim-below, claim-beyond, 
 use Rattle.pbn.proofs.dealing.claim_of.Statement.{statement}
 use Rattle.pbn.proofs.dealing.claim_of.Tie as tie
 use Rattle.pbn.proofs.dealing.claim_of.Reads as reads
-use Rattle.pbn.proofs.dealing.claim_of.Lts as lts
 
 -- the result as the machine reads it
 abbrev read : ℤ → ℤ
 read n = toZ w32 (ofZ w32 n)
 
--- src/dealing.rt:55:9
 returns : tie.Need-returns
 returns c = claim-below (read (c .before .args .n)) (c .if1 .taken) ∙ ap claimBy (toZ-ofZ w32 (c .before .args .n) (c .before .fits .n))
 
--- src/dealing.rt:58:9
 returns-2 : tie.Need-returns-2
 returns-2 c = claim-beyond (read (c .before .before .args .n)) (c .if2 .taken) ∙ ap claimBy (toZ-ofZ w32 (c .before .before .args .n) (c .before .before .fits .n))
 
--- src/dealing.rt:60:25
 cast-t3 : tie.Need-cast-t3
 cast-t3 c = let z = claim-within (read (c .before .before .args .n)) (c .before .if1 .left) (c .if2 .left) in (z .0, record { fits = omega (arith, z .1) })
 
--- src/dealing.rt:51:1
 returns-3 : tie.Need-returns-3
 returns-3 c = claim-within (read (c .before .before .args .n)) (c .before .if1 .left) (c .if2 .left) .2 ∙ ap claimBy (toZ-ofZ w32 (c .before .before .args .n) (c .before .before .fits .n))
 

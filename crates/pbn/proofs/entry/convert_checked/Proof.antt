@@ -7,72 +7,49 @@ use Rattle.pbn.proofs.StoreLaws.{few-calls, few-cards, small-output, al
 use borrow.Author.Needs.{needs}
 use Rattle.pbn.proofs.entry.convert_checked.Statement.{statement}
 use Rattle.pbn.proofs.entry.convert_checked.Tie as tie
-use Rattle.pbn.proofs.entry.convert_checked.Reads as reads
-use Rattle.pbn.proofs.entry.convert_checked.Lts as lts
-use Rattle.lin_spec.proofs.room.Reads as room-reads
-use Rattle.pbn.proofs.calls.kept_calls.Reads as kept-calls-reads
-use Rattle.pbn.proofs.calls.kept_cards.Reads as kept-cards-reads
-use Rattle.pbn.proofs.entry.refused.Reads as refused-reads
-use Rattle.pbn.proofs.entry.store.Reads as store-reads
-use Rattle.pbn.proofs.made.texts_len.Reads as texts-len-reads
 
--- src/entry.rt:75:9
 kept-calls-requires : tie.Need-kept-calls-requires
 kept-calls-requires c κs = search needs
 
--- src/entry.rt:77:9
 refused-requires : tie.Need-refused-requires
 refused-requires c κs = search needs
 
--- src/entry.rt:77:9
 returns : tie.Need-returns
 returns c = few-calls (c .before .before .before .before .before .before .before .before .before .args .marks .pipe) (c .before .before .before .before .before .before .before .before .before .args .marks .line) (pbn (now (c .before .before .before .before .before .before .before .before .before .args .text)) (c .before .before .before .before .before .before .before .before .before .args .board) (now (c .before .before .before .before .before .before .before .before .before .args .calls)) (now (c .before .before .before .before .before .before .before .before .before .args .plays)) (now (c .before .before .before .before .before .before .before .before .before .args .notes))) (now (c .before .before .before .before .before .before .before .before .before .args .out)) (now (c .before .before .before .before .before .before .before .before .before .args .rows)) (now (c .before .before .before .before .before .before .before .before .before .args .cards)) _ (calls-many (c .before .before .before .before .before .before .before .before .before .args .marks .pipe) (c .before .before .before .before .before .before .before .before .before .args .marks .line) (now (c .before .before .before .before .before .before .before .before .before .args .text)) (c .before .before .before .before .before .before .before .before .before .args .board) (now (c .before .before .before .before .before .before .before .before .before .args .calls)) (now (c .before .before .before .before .before .before .before .before .before .args .plays)) (now (c .before .before .before .before .before .before .before .before .before .args .notes)) _ (c .before .before .kept-calls .ensures)) (c .before .if1 .taken) _ (c .refused .ensures)
 
--- src/entry.rt:79:9
 kept-cards-requires : tie.Need-kept-cards-requires
 kept-cards-requires c κs = search needs
 
--- src/entry.rt:81:9
 refused-requires-2 : tie.Need-refused-requires-2
 refused-requires-2 c κs = search needs
 
--- src/entry.rt:81:9
 returns-2 : tie.Need-returns-2
 returns-2 c = few-cards (c .before .before .before .before .before .before .before .before .before .before .before .args .marks .pipe) (c .before .before .before .before .before .before .before .before .before .before .before .args .marks .line) (pbn (now (c .before .before .before .before .before .before .before .before .before .before .before .args .text)) (c .before .before .before .before .before .before .before .before .before .before .before .args .board) (now (c .before .before .before .before .before .before .before .before .before .before .before .args .calls)) (now (c .before .before .before .before .before .before .before .before .before .before .before .args .plays)) (now (c .before .before .before .before .before .before .before .before .before .before .before .args .notes))) (now (c .before .before .before .before .before .before .before .before .before .before .before .args .out)) (now (c .before .before .before .before .before .before .before .before .before .before .before .args .rows)) (now (c .before .before .before .before .before .before .before .before .before .before .before .args .cards)) _ (calls-many (c .before .before .before .before .before .before .before .before .before .before .before .args .marks .pipe) (c .before .before .before .before .before .before .before .before .before .before .before .args .marks .line) (now (c .before .before .before .before .before .before .before .before .before .before .before .args .text)) (c .before .before .before .before .before .before .before .before .before .before .before .args .board) (now (c .before .before .before .before .before .before .before .before .before .before .before .args .calls)) (now (c .before .before .before .before .before .before .before .before .before .before .before .args .plays)) (now (c .before .before .before .before .before .before .before .before .before .before .before .args .notes)) _ (c .before .before .before .before .kept-calls .ensures)) (c .before .before .before .if1 .left) _ (cards-many (c .before .before .before .before .before .before .before .before .before .before .before .args .marks .pipe) (c .before .before .before .before .before .before .before .before .before .before .before .args .marks .line) (now (c .before .before .before .before .before .before .before .before .before .before .before .args .text)) (c .before .before .before .before .before .before .before .before .before .before .before .args .board) (now (c .before .before .before .before .before .before .before .before .before .before .before .args .calls)) (now (c .before .before .before .before .before .before .before .before .before .before .before .args .plays)) (now (c .before .before .before .before .before .before .before .before .before .before .before .args .notes)) _ (c .before .before .kept-cards .ensures)) (c .before .if2 .taken) _ (c .refused2 .ensures)
 
--- src/entry.rt:83:9
 texts-len-requires : tie.Need-texts-len-requires
 texts-len-requires c κs = sound-calls (c .before .before .before .before .before .before .before .before .before .before .args .marks .pipe) (c .before .before .before .before .before .before .before .before .before .before .args .marks .line) (now (c .before .before .before .before .before .before .before .before .before .before .args .text)) (c .before .before .before .before .before .before .before .before .before .before .args .board) (now (c .before .before .before .before .before .before .before .before .before .before .args .calls)) (now (c .before .before .before .before .before .before .before .before .before .before .args .plays)) (now (c .before .before .before .before .before .before .before .before .before .before .args .notes)) (c .before .before .before .before .before .before .before .before .before .before .pre .1)
 
--- src/entry.rt:84:9
 room-requires : tie.Need-room-requires
 room-requires c κs = search needs
 
--- src/entry.rt:85:9
 refused-requires-3 : tie.Need-refused-requires-3
 refused-requires-3 c κs = search needs
 
--- src/entry.rt:85:9
 returns-3 : tie.Need-returns-3
 returns-3 c = small-output (c .before .before .before .before .before .before .before .before .before .before .before .before .before .before .args .marks .pipe) (c .before .before .before .before .before .before .before .before .before .before .before .before .before .before .args .marks .line) (pbn (now (c .before .before .before .before .before .before .before .before .before .before .before .before .before .before .args .text)) (c .before .before .before .before .before .before .before .before .before .before .before .before .before .before .args .board) (now (c .before .before .before .before .before .before .before .before .before .before .before .before .before .before .args .calls)) (now (c .before .before .before .before .before .before .before .before .before .before .before .before .before .before .args .plays)) (now (c .before .before .before .before .before .before .before .before .before .before .before .before .before .before .args .notes))) (now (c .before .before .before .before .before .before .before .before .before .before .before .before .before .before .args .out)) (now (c .before .before .before .before .before .before .before .before .before .before .before .before .before .before .args .rows)) (now (c .before .before .before .before .before .before .before .before .before .before .before .before .before .before .args .cards)) _ (calls-many (c .before .before .before .before .before .before .before .before .before .before .before .before .before .before .args .marks .pipe) (c .before .before .before .before .before .before .before .before .before .before .before .before .before .before .args .marks .line) (now (c .before .before .before .before .before .before .before .before .before .before .before .before .before .before .args .text)) (c .before .before .before .before .before .before .before .before .before .before .before .before .before .before .args .board) (now (c .before .before .before .before .before .before .before .before .before .before .before .before .before .before .args .calls)) (now (c .before .before .before .before .before .before .before .before .before .before .before .before .before .before .args .plays)) (now (c .before .before .before .before .before .before .before .before .before .before .before .before .before .before .args .notes)) _ (c .before .before .before .before .before .before .before .kept-calls .ensures)) (c .before .before .before .before .before .before .if1 .left) _ (cards-many (c .before .before .before .before .before .before .before .before .before .before .before .before .before .before .args .marks .pipe) (c .before .before .before .before .before .before .before .before .before .before .before .before .before .before .args .marks .line) (now (c .before .before .before .before .before .before .before .before .before .before .before .before .before .before .args .text)) (c .before .before .before .before .before .before .before .before .before .before .before .before .before .before .args .board) (now (c .before .before .before .before .before .before .before .before .before .before .before .before .before .before .args .calls)) (now (c .before .before .before .before .before .before .before .before .before .before .before .before .before .before .args .plays)) (now (c .before .before .before .before .before .before .before .before .before .before .before .before .before .before .args .notes)) _ (c .before .before .before .before .before .kept-cards .ensures)) (c .before .before .before .before .if2 .left) _ (texts-long (c .before .before .before .before .before .before .before .before .before .before .before .before .before .before .args .marks .pipe) (c .before .before .before .before .before .before .before .before .before .before .before .before .before .before .args .marks .line) (now (c .before .before .before .before .before .before .before .before .before .before .before .before .before .before .args .text)) (c .before .before .before .before .before .before .before .before .before .before .before .before .before .before .args .board) (now (c .before .before .before .before .before .before .before .before .before .before .before .before .before .before .args .calls)) (now (c .before .before .before .before .before .before .before .before .before .before .before .before .before .before .args .plays)) (now (c .before .before .before .before .before .before .before .before .before .before .before .before .before .before .args .notes)) _ (c .before .before .before .texts-len .ensures)) _ (c .before .before .room .ensures) (c .before .if3 .taken) _ (c .refused3 .ensures)
 
--- src/entry.rt:87:5
 store-requires : tie.Need-store-requires
 store-requires c κs = ready (c .before .before .before .before .before .before .before .before .before .before .before .before .before .before .before .before .args .marks .pipe) (c .before .before .before .before .before .before .before .before .before .before .before .before .before .before .before .before .args .marks .line) (now (c .before .before .before .before .before .before .before .before .before .before .before .before .before .before .before .before .args .text)) (c .before .before .before .before .before .before .before .before .before .before .before .before .before .before .before .before .args .board) (now (c .before .before .before .before .before .before .before .before .before .before .before .before .before .before .before .before .args .calls)) (now (c .before .before .before .before .before .before .before .before .before .before .before .before .before .before .before .before .args .plays)) (now (c .before .before .before .before .before .before .before .before .before .before .before .before .before .before .before .before .args .notes)) (c .before .before .before .before .before .before .before .before .before .before .before .before .before .before .before .before .pre .0) (c .before .before .before .before .before .before .before .before .before .before .before .before .before .before .before .before .pre .1) _ (c .before .before .before .before .before .before .before .before .before .kept-calls .ensures) _ (c .before .before .before .before .before .before .before .kept-cards .ensures) (c .before .before .before .before .before .before .before .before .if1 .left) (c .before .before .before .before .before .before .if2 .left) _ (c .before .before .before .before .before .texts-len .ensures) _ (c .before .before .before .before .room .ensures) (c .before .before .before .if3 .left)
 
--- src/entry.rt:61:1
 same-length : tie.Need-same-length
 same-length c = search needs
 
--- src/entry.rt:61:1
 same-length-2 : tie.Need-same-length-2
 same-length-2 c = search needs
 
--- src/entry.rt:61:1
 same-length-3 : tie.Need-same-length-3
 same-length-3 c = search needs
 
--- src/entry.rt:61:1
 returns-4 : tie.Need-returns-4
 returns-4 c = c .before .before .before .before .before .before .store .ensures ∙ all-fits (c .before .before .before .before .before .before .before .before .before .before .before .before .before .before .before .before .before .before .before .before .before .before .before .args .marks .pipe) (c .before .before .before .before .before .before .before .before .before .before .before .before .before .before .before .before .before .before .before .before .before .before .before .args .marks .line) (pbn (now (c .before .before .before .before .before .before .before .before .before .before .before .before .before .before .before .before .before .before .before .before .before .before .before .args .text)) (c .before .before .before .before .before .before .before .before .before .before .before .before .before .before .before .before .before .before .before .before .before .before .before .args .board) (now (c .before .before .before .before .before .before .before .before .before .before .before .before .before .before .before .before .before .before .before .before .before .before .before .args .calls)) (now (c .before .before .before .before .before .before .before .before .before .before .before .before .before .before .before .before .before .before .before .before .before .before .before .args .plays)) (now (c .before .before .before .before .before .before .before .before .before .before .before .before .before .before .before .before .before .before .before .before .before .before .before .args .notes))) (now (c .before .before .before .before .before .before .before .before .before .before .before .before .before .before .before .before .before .before .before .before .before .before .before .args .out)) (now (c .before .before .before .before .before .before .before .before .before .before .before .before .before .before .before .before .before .before .before .before .before .before .before .args .rows)) (now (c .before .before .before .before .before .before .before .before .before .before .before .before .before .before .before .before .before .before .before .before .before .before .before .args .cards)) _ (calls-many (c .before .before .before .before .before .before .before .before .before .before .before .before .before .before .before .before .before .before .before .before .before .before .before .args .marks .pipe) (c .before .before .before .before .before .before .before .before .before .before .before .before .before .before .before .before .before .before .before .before .before .before .before .args .marks .line) (now (c .before .before .before .before .before .before .before .before .before .before .before .before .before .before .before .before .before .before .before .before .before .before .before .args .text)) (c .before .before .before .before .before .before .before .before .before .before .before .before .before .before .before .before .before .before .before .before .before .before .before .args .board) (now (c .before .before .before .before .before .before .before .before .before .before .before .before .before .before .before .before .before .before .before .before .before .before .before .args .calls)) (now (c .before .before .before .before .before .before .before .before .before .before .before .before .before .before .before .before .before .before .before .before .before .before .before .args .plays)) (now (c .before .before .before .before .before .before .before .before .before .before .before .before .before .before .before .before .before .before .before .before .before .before .before .args .notes)) _ (c .before .before .before .before .before .before .before .before .before .before .before .before .before .before .before .before .kept-calls .ensures)) (c .before .before .before .before .before .before .before .before .before .before .before .before .before .before .before .if1 .left) _ (cards-many (c .before .before .before .before .before .before .before .before .before .before .before .before .before .before .before .before .before .before .before .before .before .before .before .args .marks .pipe) (c .before .before .before .before .before .before .before .before .before .before .before .before .before .before .before .before .before .before .before .before .before .before .before .args .marks .line) (now (c .before .before .before .before .before .before .before .before .before .before .before .before .before .before .before .before .before .before .before .before .before .before .before .args .text)) (c .before .before .before .before .before .before .before .before .before .before .before .before .before .before .before .before .before .before .before .before .before .before .before .args .board) (now (c .before .before .before .before .before .before .before .before .before .before .before .before .before .before .before .before .before .before .before .before .before .before .before .args .calls)) (now (c .before .before .before .before .before .before .before .before .before .before .before .before .before .before .before .before .before .before .before .before .before .before .before .args .plays)) (now (c .before .before .before .before .before .before .before .before .before .before .before .before .before .before .before .before .before .before .before .before .before .before .before .args .notes)) _ (c .before .before .before .before .before .before .before .before .before .before .before .before .before .before .kept-cards .ensures)) (c .before .before .before .before .before .before .before .before .before .before .before .before .before .if2 .left) _ (texts-long (c .before .before .before .before .before .before .before .before .before .before .before .before .before .before .before .before .before .before .before .before .before .before .before .args .marks .pipe) (c .before .before .before .before .before .before .before .before .before .before .before .before .before .before .before .before .before .before .before .before .before .before .before .args .marks .line) (now (c .before .before .before .before .before .before .before .before .before .before .before .before .before .before .before .before .before .before .before .before .before .before .before .args .text)) (c .before .before .before .before .before .before .before .before .before .before .before .before .before .before .before .before .before .before .before .before .before .before .before .args .board) (now (c .before .before .before .before .before .before .before .before .before .before .before .before .before .before .before .before .before .before .before .before .before .before .before .args .calls)) (now (c .before .before .before .before .before .before .before .before .before .before .before .before .before .before .before .before .before .before .before .before .before .before .before .args .plays)) (now (c .before .before .before .before .before .before .before .before .before .before .before .before .before .before .before .before .before .before .before .before .before .before .before .args .notes)) _ (c .before .before .before .before .before .before .before .before .before .before .before .before .texts-len .ensures)) _ (c .before .before .before .before .before .before .before .before .before .before .before .room .ensures) (c .before .before .before .before .before .before .before .before .before .before .if3 .left)
 

@@ -7,49 +7,34 @@ use Rattle.pbn.proofs.StoreLaws.{convert-refused, convert-passed, conve
 use borrow.Author.Needs.{needs}
 use Rattle.pbn.proofs.entry.from_board_with.Statement.{statement}
 use Rattle.pbn.proofs.entry.from_board_with.Tie as tie
-use Rattle.pbn.proofs.entry.from_board_with.Reads as reads
-use Rattle.pbn.proofs.entry.from_board_with.Lts as lts
-use Rattle.pbn.proofs.checks.check.Reads as check-reads
-use Rattle.pbn.proofs.entry.convert_checked.Reads as convert-checked-reads
-use Rattle.pbn.proofs.entry.refused.Reads as refused-reads
 
--- src/entry.rt:106:11
 check-requires : tie.Need-check-requires
 check-requires c κs = search needs
 
--- src/entry.rt:108:70
 enum-told : tie.Need-enum-told
 enum-told c = search needs
 
--- src/entry.rt:108:13
 convert-checked-requires : tie.Need-convert-checked-requires
 convert-checked-requires c κs = convert-may (c .before .before .before .before .before .before .before .before .before .before .before .before .args .other) (c .before .before .before .before .before .before .before .before .before .before .before .before .args .marks .pipe) (c .before .before .before .before .before .before .before .before .before .before .before .before .args .marks .line) (pbn (now (c .before .before .before .before .before .before .before .before .before .before .before .before .args .text)) (c .before .before .before .before .before .before .before .before .before .before .before .before .args .board) (now (c .before .before .before .before .before .before .before .before .before .before .before .before .args .calls)) (now (c .before .before .before .before .before .before .before .before .before .before .before .before .args .plays)) (now (c .before .before .before .before .before .before .before .before .before .before .before .before .args .notes))) (now (c .before .before .before .before .before .before .before .before .before .before .before .before .args .out)) (now (c .before .before .before .before .before .before .before .before .before .before .before .before .args .rows)) (now (c .before .before .before .before .before .before .before .before .before .before .before .before .args .cards)) _ (c .before .before .before .before .before .check .ensures) (c .before .before .before .enum-told .given .1)
 
--- src/entry.rt:110:26
 enum-known-r : tie.Need-enum-known-r
 enum-known-r c = search needs
 
--- src/entry.rt:110:32
 refused-requires : tie.Need-refused-requires
 refused-requires c κs = search needs
 
--- src/entry.rt:92:1
 same-length : tie.Need-same-length
 same-length c = search needs
 
--- src/entry.rt:92:1
 same-length-2 : tie.Need-same-length-2
 same-length-2 c = search needs
 
--- src/entry.rt:92:1
 same-length-3 : tie.Need-same-length-3
 same-length-3 c = search needs
 
--- src/entry.rt:92:1
 returns : tie.Need-returns
 returns c = c .before .before .before .before .before .before .convert-checked .ensures ∙ convert-passed (c .before .before .before .before .before .before .before .before .before .before .before .before .before .before .before .before .before .before .before .args .other) (c .before .before .before .before .before .before .before .before .before .before .before .before .before .before .before .before .before .before .before .args .marks .pipe) (c .before .before .before .before .before .before .before .before .before .before .before .before .before .before .before .before .before .before .before .args .marks .line) (pbn (now (c .before .before .before .before .before .before .before .before .before .before .before .before .before .before .before .before .before .before .before .args .text)) (c .before .before .before .before .before .before .before .before .before .before .before .before .before .before .before .before .before .before .before .args .board) (now (c .before .before .before .before .before .before .before .before .before .before .before .before .before .before .before .before .before .before .before .args .calls)) (now (c .before .before .before .before .before .before .before .before .before .before .before .before .before .before .before .before .before .before .before .args .plays)) (now (c .before .before .before .before .before .before .before .before .before .before .before .before .before .before .before .before .before .before .before .args .notes))) (now (c .before .before .before .before .before .before .before .before .before .before .before .before .before .before .before .before .before .before .before .args .out)) (now (c .before .before .before .before .before .before .before .before .before .before .before .before .before .before .before .before .before .before .before .args .rows)) (now (c .before .before .before .before .before .before .before .before .before .before .before .before .before .before .before .before .before .before .before .args .cards)) _ (c .before .before .before .before .before .before .before .before .before .before .before .before .check .ensures) (c .before .before .before .before .before .before .before .before .before .before .enum-told .given .1)
 
--- src/entry.rt:92:1
 returns-2 : tie.Need-returns-2
 returns-2 c = convert-refused (c .before .before .before .before .before .before .before .before .before .before .before .args .other) (c .before .before .before .before .before .before .before .before .before .before .before .args .marks .pipe) (c .before .before .before .before .before .before .before .before .before .before .before .args .marks .line) (pbn (now (c .before .before .before .before .before .before .before .before .before .before .before .args .text)) (c .before .before .before .before .before .before .before .before .before .before .before .args .board) (now (c .before .before .before .before .before .before .before .before .before .before .before .args .calls)) (now (c .before .before .before .before .before .before .before .before .before .before .before .args .plays)) (now (c .before .before .before .before .before .before .before .before .before .before .before .args .notes))) (now (c .before .before .before .before .before .before .before .before .before .before .before .args .out)) (now (c .before .before .before .before .before .before .before .before .before .before .before .args .rows)) (now (c .before .before .before .before .before .before .before .before .before .before .before .args .cards)) _ (c .before .before .before .before .check .ensures) _ (c .before .before .r .given .1) _ (c .refused .ensures)
 

@@ -4,47 +4,31 @@ use Rattle.pbn.proofs.StoreLaws.{ready-text, ready-starts, ready-rows, 
 use borrow.Author.Needs.{needs}
 use Rattle.pbn.proofs.entry.store.Statement.{statement}
 use Rattle.pbn.proofs.entry.store.Tie as tie
-use Rattle.pbn.proofs.entry.store.Reads as reads
-use Rattle.pbn.proofs.entry.store.Lts as lts
-use Rattle.pbn.proofs.calls.put_cards.Reads as put-cards-reads
-use Rattle.pbn.proofs.heading.heading_of.Reads as heading-of-reads
-use Rattle.pbn.proofs.heading.starts_of.Reads as starts-of-reads
-use Rattle.pbn.proofs.made.put_texts.Reads as put-texts-reads
-use Rattle.pbn.proofs.rows.put_rows.Reads as put-rows-reads
 
--- src/entry.rt:52:9
 put-texts-requires : tie.Need-put-texts-requires
 put-texts-requires c κs = (ready-text (c .before .before .before .before .before .before .before .pre), c .before .before .before .before .before .before .before .pre .sound)
 
--- src/entry.rt:53:9
 starts-of-requires : tie.Need-starts-of-requires
 starts-of-requires c κs = ready-starts (c .before .before .before .before .before .before .before .before .before .before .pre)
 
--- src/entry.rt:54:5
 put-rows-requires : tie.Need-put-rows-requires
 put-rows-requires c κs = ready-rows (c .before .before .before .before .before .before .before .before .before .before .before .before .pre) _ (c .before .starts-of .ensures)
 
--- src/entry.rt:55:5
 put-cards-requires : tie.Need-put-cards-requires
 put-cards-requires c κs = ready-cards (c .before .before .before .before .before .before .before .before .before .before .before .before .before .before .before .before .pre)
 
--- src/entry.rt:56:9
 heading-of-requires : tie.Need-heading-of-requires
 heading-of-requires c κs = (c .before .before .before .before .before .before .before .before .before .before .before .before .before .before .before .before .before .before .before .pre .short, c .before .before .before .before .before .before .before .before .starts-of .ensures)
 
--- src/entry.rt:36:1
 same-length : tie.Need-same-length
 same-length c = search needs
 
--- src/entry.rt:36:1
 same-length-2 : tie.Need-same-length-2
 same-length-2 c = search needs
 
--- src/entry.rt:36:1
 same-length-3 : tie.Need-same-length-3
 same-length-3 c = search needs
 
--- src/entry.rt:36:1
 returns : tie.Need-returns
 returns c = stored-is (c .before .before .before .before .before .before .before .before .before .before .before .before .before .before .before .before .before .before .before .before .pre) _ (c .before .before .before .before .before .before .before .before .before .starts-of .ensures) (c .before .before .before .before .before .before .before .before .before .before .before .before .put-texts .ensures) (c .before .before .before .before .before .before .before .put-rows .ensures) (c .before .before .before .put-cards .ensures) _ (c .heading-of .ensures)
 

@@ -5,55 +5,37 @@ use Rattle.pbn.proofs.MadeLaws.{starts-rise, heading-made}
 use borrow.Author.Needs.{needs}
 use Rattle.pbn.proofs.heading.heading_of.Statement.{statement}
 use Rattle.pbn.proofs.heading.heading_of.Tie as tie
-use Rattle.pbn.proofs.heading.heading_of.Reads as reads
-use Rattle.pbn.proofs.heading.heading_of.Lts as lts
-use Rattle.pbn.proofs.dealing.claim_from.Reads as claim-from-reads
-use Rattle.pbn.proofs.dealing.dealer_by.Reads as dealer-by-reads
-use Rattle.pbn.proofs.heading.text_at.Reads as text-at-reads
-use Rattle.pbn.proofs.names.name_spans.Reads as name-spans-reads
-use Rattle.pbn.proofs.names.names_of.Reads as names-of-reads
 
--- src/heading.rt:82:34
 names-of-requires : tie.Need-names-of-requires
 names-of-requires c κs = search needs
 
--- src/heading.rt:82:9
 name-spans-requires : tie.Need-name-spans-requires
 name-spans-requires c κs = search needs
 
--- src/heading.rt:83:9
 dealer-by-requires : tie.Need-dealer-by-requires
 dealer-by-requires c κs = search needs
 
--- src/heading.rt:86:35
 sub-text-at : tie.Need-sub-text-at
 sub-text-at c = starts-rise (c .before .before .before .before .before .before .args .marks .pipe) (c .before .before .before .before .before .before .args .marks .line) (now (c .before .before .before .before .before .before .args .text)) (c .before .before .before .before .before .before .args .board) (c .before .before .before .before .before .before .args .at) (c .before .before .before .before .before .before .pre .1) .0
 
--- src/heading.rt:86:9
 text-at-requires : tie.Need-text-at-requires
 text-at-requires c κs = search needs
 
--- src/heading.rt:87:45
 sub-text-at-2 : tie.Need-sub-text-at-2
 sub-text-at-2 c = starts-rise (c .before .before .before .before .before .before .before .before .args .marks .pipe) (c .before .before .before .before .before .before .before .before .args .marks .line) (now (c .before .before .before .before .before .before .before .before .args .text)) (c .before .before .before .before .before .before .before .before .args .board) (c .before .before .before .before .before .before .before .before .args .at) (c .before .before .before .before .before .before .before .before .pre .1) .1
 
--- src/heading.rt:87:9
 text-at-requires-2 : tie.Need-text-at-requires-2
 text-at-requires-2 c κs = search needs
 
--- src/heading.rt:88:43
 sub-text-at-3 : tie.Need-sub-text-at-3
 sub-text-at-3 c = starts-rise (c .before .before .before .before .before .before .before .before .before .before .args .marks .pipe) (c .before .before .before .before .before .before .before .before .before .before .args .marks .line) (now (c .before .before .before .before .before .before .before .before .before .before .args .text)) (c .before .before .before .before .before .before .before .before .before .before .args .board) (c .before .before .before .before .before .before .before .before .before .before .args .at) (c .before .before .before .before .before .before .before .before .before .before .pre .1) .2
 
--- src/heading.rt:88:9
 text-at-requires-3 : tie.Need-text-at-requires-3
 text-at-requires-3 c κs = search needs
 
--- src/heading.rt:89:9
 claim-from-requires : tie.Need-claim-from-requires
 claim-from-requires c κs = search needs
 
--- src/heading.rt:68:1
 returns : tie.Need-returns
 returns c = heading-made (c .before .before .before .before .before .before .before .before .before .before .before .before .args .marks .pipe) (c .before .before .before .before .before .before .before .before .before .before .before .before .args .marks .line) (now (c .before .before .before .before .before .before .before .before .before .before .before .before .args .text)) (c .before .before .before .before .before .before .before .before .before .before .before .before .args .board) (c .before .before .before .before .before .before .before .before .before .before .before .before .args .at) (c .before .before .before .before .before .before .before .before .before .before .before .before .pre .1) _ (c .before .before .before .before .before .before .before .before .before .before .names-of .ensures) _ (c .before .before .before .before .before .before .before .before .before .name-spans .ensures) _ (c .before .before .before .before .before .before .before .before .dealer-by .ensures) _ (c .before .before .before .before .before .text-at .ensures) _ (c .before .before .before .text-at2 .ensures) _ (c .before .text-at3 .ensures) _ (c .claim-from .ensures) _ _
 

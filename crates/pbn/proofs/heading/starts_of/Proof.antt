@@ -7,77 +7,52 @@ use Rattle.pbn.proofs.MadeLaws.{starts-within, starts-are}
 use borrow.Author.Needs.{needs}
 use Rattle.pbn.proofs.heading.starts_of.Statement.{statement}
 use Rattle.pbn.proofs.heading.starts_of.Tie as tie
-use Rattle.pbn.proofs.heading.starts_of.Reads as reads
-use Rattle.pbn.proofs.heading.starts_of.Lts as lts
-use Rattle.pbn.proofs.names.names_len.Reads as names-len-reads
-use Rattle.pbn.proofs.names.names_of.Reads as names-of-reads
-use Rattle.pbn.proofs.texts.filled.Reads as filled-reads
-use Rattle.pbn.proofs.texts.label_of.Reads as label-of-reads
-use Rattle.pbn.proofs.texts.labelled_len.Reads as labelled-len-reads
-use Rattle.pbn.proofs.texts.room_len.Reads as room-len-reads
-use Rattle.pbn.proofs.texts.title_len.Reads as title-len-reads
 
--- src/heading.rt:42:9
 filled-requires : tie.Need-filled-requires
 filled-requires c κs = search needs
 
--- src/heading.rt:43:9
 filled-requires-2 : tie.Need-filled-requires-2
 filled-requires-2 c κs = search needs
 
--- src/heading.rt:44:9
 label-of-requires : tie.Need-label-of-requires
 label-of-requires c κs = search needs
 
--- src/heading.rt:45:33
 names-of-requires : tie.Need-names-of-requires
 names-of-requires c κs = search needs
 
--- src/heading.rt:45:17
 names-len-requires : tie.Need-names-len-requires
 names-len-requires c κs = search needs
 
--- src/heading.rt:45:17
 cast-title : tie.Need-cast-title
 cast-title c = let w = starts-within (c .before .before .before .before .before .before .args .marks .pipe) (c .before .before .before .before .before .before .args .marks .line) (now (c .before .before .before .before .before .before .args .text)) (c .before .before .before .before .before .before .args .board) (c .before .before .before .before .filled .result) (c .before .before .before .filled2 .result) (c .before .before .label-of .result) (c .before .before .before .before .filled .ensures) (c .before .before .before .filled2 .ensures) (c .before .before .label-of .ensures) (c .before .before .before .before .before .before .pre) _ (c .before .names-of .ensures) _ (c .names-len .ensures) in omega (arith, w .0, w .1, w .2)
 
--- src/heading.rt:46:30
 title-len-requires : tie.Need-title-len-requires
 title-len-requires c κs = search needs
 
--- src/heading.rt:46:30
 cast-room-board : tie.Need-cast-room-board
 cast-room-board c = let w = starts-within (c .before .before .before .before .before .before .before .args .marks .pipe) (c .before .before .before .before .before .before .before .args .marks .line) (now (c .before .before .before .before .before .before .before .args .text)) (c .before .before .before .before .before .before .before .args .board) (c .before .before .before .before .before .filled .result) (c .before .before .before .before .filled2 .result) (c .before .before .before .label-of .result) (c .before .before .before .before .before .filled .ensures) (c .before .before .before .before .filled2 .ensures) (c .before .before .before .label-of .ensures) (c .before .before .before .before .before .before .before .pre) _ (c .before .before .names-of .ensures) _ (c .before .names-len .ensures) in omega (arith, w .0, w .1, w .2, c .title-len .ensures)
 
--- src/heading.rt:46:22
 add-room-board : tie.Need-add-room-board
 add-room-board c = let w = starts-within (c .before .before .before .before .before .before .before .args .marks .pipe) (c .before .before .before .before .before .before .before .args .marks .line) (now (c .before .before .before .before .before .before .before .args .text)) (c .before .before .before .before .before .before .before .args .board) (c .before .before .before .before .before .filled .result) (c .before .before .before .before .filled2 .result) (c .before .before .before .label-of .result) (c .before .before .before .before .before .filled .ensures) (c .before .before .before .before .filled2 .ensures) (c .before .before .before .label-of .ensures) (c .before .before .before .before .before .before .before .pre) _ (c .before .before .names-of .ensures) _ (c .before .names-len .ensures) in omega (arith, w .0, w .1, w .2, c .title-len .ensures)
 
--- src/heading.rt:47:31
 room-len-requires : tie.Need-room-len-requires
 room-len-requires c κs = search needs
 
--- src/heading.rt:47:31
 cast-header : tie.Need-cast-header
 cast-header c = let w = starts-within (c .before .before .before .before .before .before .before .before .args .marks .pipe) (c .before .before .before .before .before .before .before .before .args .marks .line) (now (c .before .before .before .before .before .before .before .before .args .text)) (c .before .before .before .before .before .before .before .before .args .board) (c .before .before .before .before .before .before .filled .result) (c .before .before .before .before .before .filled2 .result) (c .before .before .before .before .label-of .result) (c .before .before .before .before .before .before .filled .ensures) (c .before .before .before .before .before .filled2 .ensures) (c .before .before .before .before .label-of .ensures) (c .before .before .before .before .before .before .before .before .pre) _ (c .before .before .before .names-of .ensures) _ (c .before .before .names-len .ensures) in omega (arith, w .0, w .1, w .2, c .before .title-len .ensures, c .room-len .ensures)
 
--- src/heading.rt:47:18
 add-header : tie.Need-add-header
 add-header c = let w = starts-within (c .before .before .before .before .before .before .before .before .args .marks .pipe) (c .before .before .before .before .before .before .before .before .args .marks .line) (now (c .before .before .before .before .before .before .before .before .args .text)) (c .before .before .before .before .before .before .before .before .args .board) (c .before .before .before .before .before .before .filled .result) (c .before .before .before .before .before .filled2 .result) (c .before .before .before .before .label-of .result) (c .before .before .before .before .before .before .filled .ensures) (c .before .before .before .before .before .filled2 .ensures) (c .before .before .before .before .label-of .ensures) (c .before .before .before .before .before .before .before .before .pre) _ (c .before .before .before .names-of .ensures) _ (c .before .before .names-len .ensures) in omega (arith, w .0, w .1, w .2, c .before .title-len .ensures, c .room-len .ensures)
 
--- src/heading.rt:48:30
 labelled-len-requires : tie.Need-labelled-len-requires
 labelled-len-requires c κs = search needs
 
--- src/heading.rt:48:30
 cast-calls : tie.Need-cast-calls
 cast-calls c = let w = starts-within (c .before .before .before .before .before .before .before .before .before .args .marks .pipe) (c .before .before .before .before .before .before .before .before .before .args .marks .line) (now (c .before .before .before .before .before .before .before .before .before .args .text)) (c .before .before .before .before .before .before .before .before .before .args .board) (c .before .before .before .before .before .before .before .filled .result) (c .before .before .before .before .before .before .filled2 .result) (c .before .before .before .before .before .label-of .result) (c .before .before .before .before .before .before .before .filled .ensures) (c .before .before .before .before .before .before .filled2 .ensures) (c .before .before .before .before .before .label-of .ensures) (c .before .before .before .before .before .before .before .before .before .pre) _ (c .before .before .before .before .names-of .ensures) _ (c .before .before .before .names-len .ensures) in omega (arith, w .0, w .1, w .2, c .before .before .title-len .ensures, c .labelled-len .ensures)
 
--- src/heading.rt:48:17
 add-calls : tie.Need-add-calls
 add-calls c = let w = starts-within (c .before .before .before .before .before .before .before .before .before .args .marks .pipe) (c .before .before .before .before .before .before .before .before .before .args .marks .line) (now (c .before .before .before .before .before .before .before .before .before .args .text)) (c .before .before .before .before .before .before .before .before .before .args .board) (c .before .before .before .before .before .before .before .filled .result) (c .before .before .before .before .before .before .filled2 .result) (c .before .before .before .before .before .label-of .result) (c .before .before .before .before .before .before .before .filled .ensures) (c .before .before .before .before .before .before .filled2 .ensures) (c .before .before .before .before .before .label-of .ensures) (c .before .before .before .before .before .before .before .before .before .pre) _ (c .before .before .before .before .names-of .ensures) _ (c .before .before .before .names-len .ensures) in omega (arith, w .0, w .1, w .2, c .before .before .title-len .ensures, c .labelled-len .ensures)
 
--- src/heading.rt:34:1
 returns : tie.Need-returns
 returns c = let w = starts-within (c .before .before .before .before .before .before .before .before .before .args .marks .pipe) (c .before .before .before .before .before .before .before .before .before .args .marks .line) (now (c .before .before .before .before .before .before .before .before .before .args .text)) (c .before .before .before .before .before .before .before .before .before .args .board) (c .before .before .before .before .before .before .before .filled .result) (c .before .before .before .before .before .before .filled2 .result) (c .before .before .before .before .before .label-of .result) (c .before .before .before .before .before .before .before .filled .ensures) (c .before .before .before .before .before .before .filled2 .ensures) (c .before .before .before .before .before .label-of .ensures) (c .before .before .before .before .before .before .before .before .before .pre) _ (c .before .before .before .before .names-of .ensures) _ (c .before .before .before .names-len .ensures) in starts-are (c .before .before .before .before .before .before .before .before .before .args .marks .pipe) (c .before .before .before .before .before .before .before .before .before .args .marks .line) (now (c .before .before .before .before .before .before .before .before .before .args .text)) (c .before .before .before .before .before .before .before .before .before .args .board) (c .before .before .before .before .before .before .before .filled .result) (c .before .before .before .before .before .before .filled2 .result) (c .before .before .before .before .before .label-of .result) (c .before .before .before .before .before .before .before .filled .ensures) (c .before .before .before .before .before .before .filled2 .ensures) (c .before .before .before .before .before .label-of .ensures) _ (w .0) _ (omega (arith, w .1, c .before .before .title-len .ensures)) _ (omega (arith, w .1, w .2, c .before .before .title-len .ensures, c .before .room-len .ensures)) _ (omega (arith, w .1, c .before .before .title-len .ensures, c .labelled-len .ensures))
 

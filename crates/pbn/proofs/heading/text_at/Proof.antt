@@ -3,14 +3,10 @@
 use Rattle.pbn.proofs.MadeLaws.{text-none, text-some}
 use Rattle.pbn.proofs.heading.text_at.Statement.{statement}
 use Rattle.pbn.proofs.heading.text_at.Tie as tie
-use Rattle.pbn.proofs.heading.text_at.Reads as reads
-use Rattle.pbn.proofs.heading.text_at.Lts as lts
 
--- src/heading.rt:62:9
 returns : tie.Need-returns
 returns c = text-none _ _ (c .if1 .taken)
 
--- src/heading.rt:58:1
 returns-2 : tie.Need-returns-2
 returns-2 c = text-some _ _ (c .if1 .left)
 

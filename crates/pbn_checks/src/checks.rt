@@ -1,0 +1,221 @@
+// The checks of a PBN record: 1, 8, 5 and 6, each over all that is lent before the next. (01: From PBN; Eight refusals)
+use annotation::any_note_faulty;
+use lent::present_faulty;
+use lin_spec::LIMIT;
+use lin_spec::MaybeNumber;
+use lin_spec::MaybeSpan;
+use lin_spec::PbnBoard;
+use lin_spec::PbnCall;
+use lin_spec::Refusal;
+use lin_spec::Span;
+use lin_spec::Verdict;
+use text::Fault;
+use text::faulty;
+ghost use mathlib.Core.Path.{_≡_};
+ghost use mathlib.Core.Bool.{_||_};
+ghost use mathlib.Core.List.{[]};
+ghost use Prim.Native.Nat.{_-_, _≤_};
+ghost use lib.ListN.{length};
+ghost use Rattle.lin_spec.specs.Base.{any};
+ghost use Rattle.lin_spec.specs.Lent.{spanIn};
+ghost use Rattle.lin_spec.specs.Pbn.{pbn, pbnNames, pbnRow, pbnRows, rawOf, badEntry, badCall, badBoardNumber, badPbn, rawSpans, nameSpans, pbnSpans};
+ghost use Rattle.text.specs.Fault.{faultOf};
+ghost use Rattle.lent.specs.Calls.{rowAt};
+ghost use Rattle.lent.specs.Checks.{verdictOf};
+ghost use Rattle.pbn_checks.specs.Checks.{checked};
+
+// The call that the six words from i on give.
+pub fn call_at(calls: &[u32], i: usize) -> PbnCall
+    requires { ⌜ 6 ≤ length (now calls) - i ⌝ }
+    ensures { λ r. ⌜ r ≡ rowAt pbnRow (now (calls .entry)) i ⌝ }
+{
+    let annotation = Span {
+        start: calls[i + 4],
+        len: calls[i + 5],
+    };
+    PbnCall {
+        kind: calls[i],
+        level: calls[i + 1],
+        strain: calls[i + 2],
+        annotated: calls[i + 3],
+        annotation,
+    }
+}
+
+// Whether a number of a call is outside its range. Level and strain are those of a bid alone.
+fn bad_call(c: PbnCall) -> bool
+    ensures { λ r. ⌜ r ≡ badCall c ⌝ }
+{
+    let bid = (c.level == 0) | ((7 < c.level) | (4 < c.strain));
+    (5 < c.kind) | (((c.kind == 3) & bid) | (1 < c.annotated))
+}
+
+// Whether a call has such a number.
+fn bad_calls(calls: &[u32]) -> bool
+    ensures { λ r. ⌜ r ≡ any badCall (pbnRows (now (calls .entry))) ⌝ }
+{
+    let mut i = 0;
+    while 6 <= calls.len() - i {
+        if bad_call(call_at(calls, i)) {
+            return true;
+        }
+        i += 6;
+    }
+    false
+}
+
+// Whether an entry of a play is neither a card nor a gap.
+fn bad_entry(b: u8) -> bool
+    ensures { λ r. ⌜ r ≡ badEntry b ⌝ }
+{
+    (51 < b) & (b != 255)
+}
+
+// Whether a play has such an entry.
+fn bad_plays(plays: &[u8]) -> bool
+    ensures { λ r. ⌜ r ≡ any badEntry (now (plays .entry)) ⌝ }
+{
+    let mut i = 0;
+    while i < plays.len() {
+        if bad_entry(plays[i]) {
+            return true;
+        }
+        i += 1;
+    }
+    false
+}
+
+// Whether a board number is outside 1 to 65,535.
+fn bad_board_number(n: MaybeNumber) -> bool
+    ensures { λ r. ⌜ r ≡ badBoardNumber n ⌝ }
+{
+    match n {
+        MaybeNumber::Absent => false,
+        MaybeNumber::Number(k) => (k == 0) | (65_535 < k),
+    }
+}
+
+// Whether the raw annotation of a call has this fault.
+fn raw_faulty(text: &[u8], c: PbnCall, fault: Fault) -> bool
+    ensures { λ r. ⌜ r ≡ any (faultOf fault (now (text .entry))) (spanIn (rawOf c)) ⌝ }
+{
+    if c.annotated == 0 {
+        return false;
+    }
+    faulty(text, c.annotation, fault)
+}
+
+// Whether the raw annotation of a call has it, dropped calls among them.
+fn raws_faulty(text: &[u8], calls: &[u32], fault: Fault) -> bool
+    ensures { λ r. ⌜ r ≡ any (faultOf fault (now (text .entry))) (rawSpans (pbnRows (now (calls .entry)))) ⌝ }
+{
+    let mut i = 0;
+    while 6 <= calls.len() - i {
+        if raw_faulty(text, call_at(calls, i), fault) {
+            return true;
+        }
+        i += 6;
+    }
+    false
+}
+
+// Whether one of these names has this fault.
+fn one_faulty(text: &[u8], names: [MaybeSpan; 4], fault: Fault) -> bool
+    ensures { λ r. ⌜ r ≡ any (faultOf fault (now (text .entry))) (nameSpans names) ⌝ }
+{
+    let mut seat = 0;
+    while seat < 4 {
+        let name = names[seat];
+        if present_faulty(text, name, fault) {
+            return true;
+        }
+        seat += 1;
+    }
+    false
+}
+
+// The names of a record.
+pub fn names_of(board: PbnBoard) -> [MaybeSpan; 4]
+    ensures { λ r. ⌜ r ≡ pbnNames board ⌝ }
+{
+    let south = board.south;
+    let west = board.west;
+    let north = board.north;
+    let east = board.east;
+    [south, west, north, east]
+}
+
+// Whether a name of the record has it.
+fn names_faulty(text: &[u8], board: PbnBoard, fault: Fault) -> bool
+    ensures { λ r. ⌜ r ≡ any (faultOf fault (now (text .entry))) (nameSpans (pbnNames board)) ⌝ }
+{
+    one_faulty(text, names_of(board), fault)
+}
+
+// Whether a number of the record is outside its range.
+fn bad_record(number: MaybeNumber, calls: &[u32], plays: &[u8]) -> bool
+    ensures { λ r. ⌜ r ≡ (badBoardNumber number || (any badCall (pbnRows (now (calls .entry))) || any badEntry (now (plays .entry)))) ⌝ }
+{
+    if bad_board_number(number) {
+        return true;
+    }
+    if bad_calls(calls) {
+        return true;
+    }
+    bad_plays(plays)
+}
+
+// Whether a text that the record names has this fault.
+fn any_faulty(text: &[u8], board: PbnBoard, calls: &[u32], notes: &[u32; 768], fault: Fault) -> bool
+    ensures { λ r. ⌜ r ≡ any (faultOf fault (now (text .entry))) (pbnSpans (pbn (now (text .entry)) board (now (calls .entry)) [] (now (notes .entry)))) ⌝ }
+{
+    let event = board.event;
+    let date = board.date;
+    let id = board.id;
+    if names_faulty(text, board, fault) {
+        return true;
+    }
+    if present_faulty(text, event, fault) {
+        return true;
+    }
+    if present_faulty(text, date, fault) {
+        return true;
+    }
+    if present_faulty(text, id, fault) {
+        return true;
+    }
+    if raws_faulty(text, calls, fault) {
+        return true;
+    }
+    any_note_faulty(text, notes, fault)
+}
+
+// The first of the checks that meets the record. `other` says whether another number of the call is outside its range.
+pub fn check(
+    other: bool,
+    text: &[u8],
+    board: PbnBoard,
+    calls: &[u32],
+    plays: &[u8],
+    notes: &[u32; 768],
+) -> Verdict
+    ensures { λ r. ⌜ verdictOf r ≡ checked other (pbn (now (text .entry)) board (now (calls .entry)) (now (plays .entry)) (now (notes .entry))) ⌝ }
+{
+    let number = board.number;
+    if LIMIT < text.len() {
+        return Verdict::Refused(Refusal::TextTooLong);
+    }
+    if other {
+        return Verdict::Refused(Refusal::OutOfRange);
+    }
+    if bad_record(number, calls, plays) {
+        return Verdict::Refused(Refusal::OutOfRange);
+    }
+    if any_faulty(text, board, calls, notes, Fault::PastEnd) {
+        return Verdict::Refused(Refusal::SpanPastEnd);
+    }
+    if any_faulty(text, board, calls, notes, Fault::NotUtf8) {
+        return Verdict::Refused(Refusal::SpanNotUtf8);
+    }
+    Verdict::Accepted
+}

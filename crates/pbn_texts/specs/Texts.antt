@@ -1,0 +1,60 @@
+-- The texts that are made, as they are before cleaning. (01: From PBN)
+use Prim.Native.Nat.{ℕ}
+use mathlib.Core.Bool.{Bool, true, false}
+use mathlib.Core.List.{List, [], _∷_, _++_}
+use mathlib.Core.Option.{Option, none, some}
+use Rattle.lin_spec.specs.Base.{pick, ascii}
+use Rattle.lin_spec.specs.Records.{bytesAt}
+use Rattle.lin_spec.specs.Decimal.{decimal}
+use Rattle.lin_spec.specs.Writer.{orEmpty}
+use Rattle.lin_spec.specs.Pbn.{titleOf, textBy}
+use Rattle.lin_spec.specs.declared.Span.{Span}
+use Rattle.lin_spec.specs.declared.MaybeSpan.{MaybeSpan}
+use Rattle.output.specs.Put.{joined}
+use Rattle.pbn_texts.specs.declared.texts.Label.{Label}
+use Rattle.pbn_texts.specs.declared.texts.Label.the-variants.{Absent, Id, Number}
+
+-- the text of a label, and its bytes, none where it is absent
+abbrev pub labelBy : (s : List ℕ) → Label → Option (List ℕ)
+labelBy s Absent = none
+labelBy s (Id x) = some (bytesAt s x)
+labelBy s (Number n) = some (decimal n)
+
+abbrev pub labelled : Label → Bool
+labelled Absent = false
+labelled (Id x) = true
+labelled (Number n) = true
+
+abbrev pub labelBytes : (s : List ℕ) → Label → List ℕ
+labelBytes s l = orEmpty (labelBy s l)
+
+-- the bytes of a text, none where it is absent
+abbrev pub emptyBy : (s : List ℕ) → MaybeSpan → List ℕ
+emptyBy s x = orEmpty (textBy s x)
+
+-- a title that has a date, and any
+abbrev pub datedPieces : (s : List ℕ) (event : MaybeSpan) (date : Span) → List (List ℕ)
+datedPieces s e d = emptyBy s e ∷ ascii " - " ∷ bytesAt s d ∷ []
+
+unfoldable pub datedText : (s : List ℕ) (event : MaybeSpan) (date : Span) → List ℕ
+datedText s e d = joined (datedPieces s e d)
+
+abbrev pub titleText : (s : List ℕ) (event date : MaybeSpan) → List ℕ
+titleText s e d = orEmpty (titleOf (textBy s e) (textBy s d))
+
+-- room-and-board and header with a label
+abbrev pub labelsPieces : (s : List ℕ) → Label → List (List ℕ)
+labelsPieces s l = ascii "o" ∷ labelBytes s l ∷ ascii ",BOARD " ∷ labelBytes s l ∷ ascii "Board " ∷ labelBytes s l ∷ []
+
+unfoldable pub labelsText : (s : List ℕ) → Label → List ℕ
+labelsText s l = joined (labelsPieces s l)
+
+abbrev pub labelledText : (s : List ℕ) → Label → List ℕ
+labelledText s l = pick (labelled l) (labelsText s l) []
+
+-- the first of the two, and the second
+abbrev pub roomText : (s : List ℕ) → Label → List ℕ
+roomText s l = pick (labelled l) (ascii "o" ++ (labelBytes s l ++ (ascii ",BOARD " ++ labelBytes s l))) []
+
+abbrev pub headerText : (s : List ℕ) → Label → List ℕ
+headerText s l = pick (labelled l) (ascii "Board " ++ labelBytes s l) []
