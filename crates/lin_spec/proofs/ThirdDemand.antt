@@ -1,4 +1,4 @@
--- The third demand: what any list of append calls leaves in the output is what the plain book holds, and the file reader finds the book's boards in it.
+-- The third demand: what any list of append calls leaves in the output is what the plain book holds, and the file reader finds its boards in it.
 -- (01: Writer, "For the third demand ..")
 -- Assumes nothing.
 use Prim.Native.Nat.{ℕ, zero, suc, _+_, _*_, _/_, _≤_, _<_, min}
@@ -23,7 +23,7 @@ use Rattle.lin_spec.specs.Lent.{Lent, lent, meaning, lentSpans, badNumbe
 use Rattle.lin_spec.specs.Append.{Filing, plain, writtenForm, settledForm, tooSmallAfter, extended, appended}
 use Rattle.lin_spec.specs.Reading.{headingOf, callWords, stored}
 use Rattle.lin_spec.specs.File.{section, boardIn, parseLinFile, fileSpans, countBoards, numbered, fileBoard, countIf}
-use Rattle.lin_spec.specs.Book.{State, usedAfter, Event, event, events, final, usedBytes, Book, emptyBook, meets, entered, bookOf, verdicts}
+use Rattle.lin_spec.specs.Log.{State, usedAfter, Event, event, events, final, usedBytes, Log, emptyLog, meets, entered, logOf, verdicts}
 use Rattle.lin_spec.specs.declared.Span.{Span}
 use Rattle.lin_spec.specs.declared.Refusal.{Refusal}
 use Rattle.lin_spec.specs.declared.Refusal.the-variants.{TextTooLong, SpanPastEnd, SpanNotUtf8, OutputTooSmall, OutOfRange}
@@ -49,14 +49,14 @@ five false false false true t₅ r₁ r₂ r₃ r₄ r₅ a = refl
 five false false false false true r₁ r₂ r₃ r₄ r₅ a = refl
 five false false false false false r₁ r₂ r₃ r₄ r₅ a = refl
 
--- the used bytes are the book's
-record Same (rm : ℕ) (st : State) (k : Book) : Type 0 where
+-- the used bytes are those of the log
+record Same (rm : ℕ) (st : State) (k : Log) : Type 0 where
   room-is : room (st .output) ≡ rm
   bytes : usedBytes st ≡ k .bytes
   used : st .used ≡ length (k .bytes)
   within : length (k .bytes) ≤ rm
 
-module _ (rm : ℕ) (st : State) (k : Book) (h : Same rm st k) (f : Filing) where
+module _ (rm : ℕ) (st : State) (k : Log) (h : Same rm st k) (f : Filing) where
   abbrev s : List ℕ
   s = writtenForm f
 
@@ -130,7 +130,7 @@ module _ (rm : ℕ) (st : State) (k : Book) (h : Same rm st k) (f : Filing) wher
   unfolding entered
   stays-entered e = simp e
 
-  abbrev grown : Book
+  abbrev grown : Log
   grown = record { bytes = k .bytes ++ s; boards = k .boards ++ (settledForm f ∷ []) }
 
   grows : meets rm k f ≡ false → entered rm k f ≡ grown
@@ -169,7 +169,7 @@ module _ (rm : ℕ) (st : State) (k : Book) (h : Same rm st k) (f : Filing) wher
       go false e (accepted n) d =
           rw (leaves ∙ ap left d ∙ ap (λ (m : ℕ). record { output = overlay o u s; used = m }) (accepted-is n d), grows e) (same-grown e)
 
--- The book holds the written forms and the settled forms of boards that read back
+-- The log holds the written forms and the settled forms of boards that read back
 
 abbrev item : Filing → Item
 item f = record { p = f .p; q = f .q; board = meaning (f .lent) }
@@ -179,7 +179,7 @@ pub record Allowed (f : Filing) : Type 0 where
   pub fit : Fit (f .p) (f .q)
   pub typed : Typed (f .lent)
 
-record Filed (k : Book) : Type 0 where
+record Filed (k : Log) : Type 0 where
   items : List Item
   bytes : k .bytes ≡ forms items
   boards : k .boards ≡ map settle items
@@ -195,7 +195,7 @@ settle-last : (is : List Item) (i : Item) → map settle (is ++ (i ∷ [])) ≡ 
 settle-last [] i = refl
 settle-last (j ∷ is) i = ap (λ (bs : List (BoardOf (List ℕ))). settle j ∷ bs) (settle-last is i)
 
-filed-grown : (k : Book) → Filed k → (f : Filing) → Allowed f → badNumber (f .lent) ≡ false → any (illSpan (f .lent .text)) (lentSpans (f .lent)) ≡ false
+filed-grown : (k : Log) → Filed k → (f : Filing) → Allowed f → badNumber (f .lent) ≡ false → any (illSpan (f .lent .text)) (lentSpans (f .lent)) ≡ false
     → Filed (record { bytes = k .bytes ++ writtenForm f; boards = k .boards ++ (settledForm f ∷ []) })
 unfolding writtenForm settledForm
 filed-grown k h f a n t =
@@ -213,14 +213,14 @@ filed-grown k h f a n t =
 abbrev took : Event → Bool
 took e = accepts (e .answer)
 
-record Followed (rm : ℕ) (st : State) (k : Book) (fs : List Filing) : Type 0 where
-  same : Same rm (final st fs) (bookOf rm k fs)
-  filed : Filed (bookOf rm k fs)
+record Followed (rm : ℕ) (st : State) (k : Log) (fs : List Filing) : Type 0 where
+  same : Same rm (final st fs) (logOf rm k fs)
+  filed : Filed (logOf rm k fs)
   stays : All Stays (events st fs)
   decided : map took (events st fs) ≡ verdicts rm k fs
-  many : length (bookOf rm k fs .boards) ≡ length (k .boards) + countIf took (events st fs)
+  many : length (logOf rm k fs .boards) ≡ length (k .boards) + countIf took (events st fs)
 
-module _ (rm : ℕ) (st : State) (k : Book) (h : Same rm st k) (f : Filing) where
+module _ (rm : ℕ) (st : State) (k : Log) (h : Same rm st k) (f : Filing) where
   decides-event : took (event st f) ≡ not (meets rm k f)
   decides-event = ap accepts (answers rm st k h f) ∙ decides rm st k h f
 
@@ -239,15 +239,15 @@ module _ (rm : ℕ) (st : State) (k : Book) (h : Same rm st k) (f : Filing) wher
     where
       go : (t : Bool) → meets rm k f ≡ t → length (entered rm k f .boards) + n ≡ length (k .boards) + pick (took (event st f)) (n + 1) n
       go true e =
-          ap (λ (b : Book). length (b .boards) + n) (stays-entered rm st k h f e)
+          ap (λ (b : Log). length (b .boards) + n) (stays-entered rm st k h f e)
           ∙ ap (λ (t : Bool). length (k .boards) + pick t (n + 1) n) (sym (decides-event ∙ ap not e))
       go false e =
-          ap (λ (b : Book). length (b .boards) + n) (grows rm st k h f e)
+          ap (λ (b : Log). length (b .boards) + n) (grows rm st k h f e)
           ∙ (let l = length-append (k .boards) (settledForm f ∷ []) in let z : length (k .boards ++ (settledForm f ∷ [])) + n ≡ length (k .boards) + (n + 1) = omega arith in z)
           ∙ ap (λ (t : Bool). length (k .boards) + pick t (n + 1) n) (sym (decides-event ∙ ap not e))
 
-follow : (rm : ℕ) (fs : List Filing) → All Allowed fs → (st : State) (k : Book) → Same rm st k → Filed k → Followed rm st k fs
-unfolding final events bookOf verdicts countIf
+follow : (rm : ℕ) (fs : List Filing) → All Allowed fs → (st : State) (k : Log) → Same rm st k → Filed k → Followed rm st k fs
+unfolding final events logOf verdicts countIf
 follow rm [] a st k h p = record { same = h; filed = p; stays = tt; decided = refl; many = omega arith }
 follow rm (f ∷ fs) a st k h p =
     let w = follow rm fs (a .1) (event st f .next) (entered rm k f) (kept rm st k h f) (filed-entered rm st k h f p (a .0)) in
@@ -335,15 +335,15 @@ module _ (t : List ℕ) (short : length t ≤ limit) (good : Utf8 t) (L : List (
 
 -- The theorem, for any two bytes that clean may put at each call
 
-none-yet : Filed emptyBook
+none-yet : Filed emptyLog
 unfolding forms concat
 none-yet = record { items = []; bytes = refl; boards = refl; good = tt; texts = tt }
 
 pub kept-list : (o : List ℕ) (fs : List Filing) → All Allowed fs → Kept o fs
 kept-list o fs a =
     let start : State = record { output = o; used = 0 } in
-    let w = follow (room o) fs a start emptyBook (record { room-is = refl; bytes = refl; used = refl; within = omega arith }) none-yet in
-    let k = bookOf (room o) emptyBook fs in
+    let w = follow (room o) fs a start emptyLog (record { room-is = refl; bytes = refl; used = refl; within = omega arith }) none-yet in
+    let k = logOf (room o) emptyLog fs in
     let t = usedBytes (final start fs) in
     let same : t ≡ k .bytes = w .same .bytes in
     let text : t ≡ forms (w .filed .items) = same ∙ w .filed .bytes in

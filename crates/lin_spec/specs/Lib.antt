@@ -18,7 +18,7 @@ pub mod Listing
 pub mod Writer
 pub mod Lent
 pub mod Append
-pub mod Book
+pub mod Log
 pub mod Play
 pub mod Equality
 pub mod ThirdDemand

@@ -4,7 +4,7 @@ use mathlib.Core.List.{List, [], _∷_, _++_}
 use mathlib.Core.Option.{Option}
 use lib.ListN.{length}
 use lib.Dec.{ltb}
-use Rattle.lin_spec.specs.Base.{ascii}
+use Rattle.lin_spec.specs.Base.{ascii, joinBy}
 use Rattle.lin_spec.specs.Decimal.{decimal}
 use Rattle.lin_spec.specs.Letters.{seatLetter, svLetter, handLength}
 use Rattle.lin_spec.specs.Refusals.{Answer, refuseIf, unless, numberOf, notUtf8, tooSmall}
@@ -20,12 +20,6 @@ use Rattle.lin_spec.specs.declared.Span.{Span}
 use Rattle.lin_spec.specs.declared.Refusal.{Refusal}
 use Rattle.lin_spec.specs.declared.Refusal.the-variants.{TextTooLong}
 use Rattle.lin_spec.specs.declared.Heading.{Heading}
-
--- words with a space between
-unfoldable pub spaced : List (List ℕ) → List ℕ
-spaced [] = []
-spaced (w ∷ []) = w
-spaced (w ∷ v ∷ ws) = w ++ (ascii " " ++ spaced (v ∷ ws))
 
 -- "Every line ends in LF."
 unfoldable pub line : List ℕ → List ℕ
@@ -46,7 +40,7 @@ boardLine k h =
     let b = h .board in
     let d = b .deal .counts in
     line
-    (spaced
+    (joinBy (ascii " ")
     (decimal k
     ∷ (seatLetter (b .dealer) ∷ [])
     ∷ (svLetter (b .vulnerability) ∷ [])
@@ -61,7 +55,7 @@ boardLine k h =
 
 -- "A refusal prints one line, `refused`, a space and its number"
 unfoldable pub refusalLine : Refusal → List ℕ
-refusalLine r = line (spaced (ascii "refused" ∷ decimal (numberOf r) ∷ []))
+refusalLine r = line (joinBy (ascii " ") (ascii "refused" ∷ decimal (numberOf r) ∷ []))
 
 -- a line as an entry's answer: refused by 7, or from the first byte of the output on
 unfoldable pub writeLine : (text out : List ℕ) → Outcome

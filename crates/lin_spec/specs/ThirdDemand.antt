@@ -13,7 +13,7 @@ use Rattle.lin_spec.specs.Reading.{Reading}
 use Rattle.lin_spec.specs.File.{countBoards, fileBoard, countIf}
 use Rattle.lin_spec.specs.Lent.{Lent, lent, claimOf, meaning}
 use Rattle.lin_spec.specs.Append.{Filing, plain}
-use Rattle.lin_spec.specs.Book.{State, Event, events, final, usedBytes, Book, emptyBook, bookOf, verdicts}
+use Rattle.lin_spec.specs.Log.{State, Event, events, final, usedBytes, Log, emptyLog, logOf, verdicts}
 use Rattle.lin_spec.specs.declared.Refusal.{Refusal}
 use Rattle.lin_spec.specs.declared.Verdict.the-variants.{Accepted}
 
@@ -47,20 +47,20 @@ module _ (o : List ℕ) (fs : List Filing) where
   abbrev pub used : List ℕ
   used = usedBytes (final start fs)
 
-  abbrev pub book : Book
-  book = bookOf (room o) emptyBook fs
+  abbrev pub log : Log
+  log = logOf (room o) emptyLog fs
 
   abbrev pub T : List ℕ
-  T = book .bytes
+  T = log .bytes
 
   abbrev pub L : List (BoardOf (List ℕ))
-  L = book .boards
+  L = log .boards
 
   pub record Kept : Type 0 where
     -- a refused call changes nothing
     pub stays : All Stays (events start fs)
     -- "A call is refused when a numbered refusal meets it": the accepted are those that none meets
-    pub decided : map (λ e. accepts (e .answer)) (events start fs) ≡ verdicts (room o) emptyBook fs
+    pub decided : map (λ e. accepts (e .answer)) (events start fs) ≡ verdicts (room o) emptyLog fs
     -- the used bytes "equal T"
     pub bytes : used ≡ T
     -- "and the file reader finds L in them": as many boards as calls were accepted

@@ -5,11 +5,11 @@ use native.Mathlib.Omega.{arith}
 use mathlib.Core.Path.{_≡_, refl, ap, _∙_}
 use mathlib.Core.List.{List, _∷_, _++_, append-assoc, append-nil}
 use lib.ListN.{length, length-append}
-use Rattle.lin_spec.specs.Base.{ascii}
+use Rattle.lin_spec.specs.Base.{ascii, joinBy}
 use Rattle.lin_spec.specs.Decimal.{decimal}
 use Rattle.lin_spec.specs.Letters.{seatLetter, svLetter, handLength}
 use Rattle.lin_spec.specs.Refusals.{numberOf, sat}
-use Rattle.lin_spec.specs.Listing.{spaced, line, header, claimWord, boardLine, refusalLine}
+use Rattle.lin_spec.specs.Listing.{line, header, claimWord, boardLine, refusalLine}
 use Rattle.lin_spec.specs.declared.Seat.{Seat}
 use Rattle.lin_spec.specs.declared.Seat.the-variants.{South, West, North, East}
 use Rattle.lin_spec.specs.declared.Vulnerability.{Vulnerability}
@@ -38,11 +38,11 @@ unfolding lengthsText
 lengths-then d r = simp (append-assoc, append-nil)
 
 pub board-is : (k : ℕ) (h : Heading) → boardLine k h ≡ joined (boardPieces k h)
-unfolding boardLine line spaced
+unfolding boardLine line joinBy
 board-is k h = simp (append-assoc, letters-then, lengths-then, field-then)
 
 pub refusal-is : (r : Refusal) → refusalLine r ≡ joined (refusalPieces r)
-unfolding refusalLine line spaced
+unfolding refusalLine line joinBy
 refusal-is r = simp (append-assoc, append-nil)
 
 -- Their lengths

@@ -51,17 +51,17 @@ usedBytes st = take (st .used) (st .output)
 -- The plain book, a model of the list
 
 -- 01's term plain book: "It holds a byte string T and a list L of boards"
-pub record Book : Type 0 where
+pub record Log : Type 0 where
   pub bytes : List ℕ
   pub boards : List (BoardOf (List ℕ))
 
 -- "both empty at first, whatever bytes the output holds then"
-abbrev pub emptyBook : Book
-emptyBook = record { bytes = []; boards = [] }
+abbrev pub emptyLog : Log
+emptyLog = record { bytes = []; boards = [] }
 
 -- "A call is refused when a numbered refusal meets it": 1, 8, 5 and 6 by the call's inputs; "7 does, after the others, exactly when T and the board's
 -- written form (its bytes as above) together pass the room"
-unfoldable pub meets : (room : ℕ) → Book → Filing → Bool
+unfoldable pub meets : (room : ℕ) → Log → Filing → Bool
 meets room k f =
     let x = f .lent in
     ltb limit (length (x .text))
@@ -69,14 +69,14 @@ meets room k f =
     || (any (passesEnd (x .text)) (lentSpans x) || (any (illSpan (x .text)) (lentSpans x) || ltb room (length (k .bytes) + length (writtenForm f)))))
 
 -- "T and L then stay. Any other call is accepted: its written form goes to the end of T, its settled form to the end of L."
-unfoldable pub entered : (room : ℕ) → Book → Filing → Book
+unfoldable pub entered : (room : ℕ) → Log → Filing → Log
 entered room k f = pick (meets room k f) k (record { bytes = k .bytes ++ writtenForm f; boards = k .boards ++ (settledForm f ∷ []) })
 
-unfoldable pub bookOf : (room : ℕ) → Book → List Filing → Book
-bookOf room k [] = k
-bookOf room k (f ∷ fs) = bookOf room (entered room k f) fs
+unfoldable pub logOf : (room : ℕ) → Log → List Filing → Log
+logOf room k [] = k
+logOf room k (f ∷ fs) = logOf room (entered room k f) fs
 
 -- which calls are accepted
-unfoldable pub verdicts : (room : ℕ) → Book → List Filing → List Bool
+unfoldable pub verdicts : (room : ℕ) → Log → List Filing → List Bool
 verdicts room k [] = []
 verdicts room k (f ∷ fs) = not (meets room k f) ∷ verdicts room (entered room k f) fs
