@@ -8,8 +8,8 @@ ghost use Prim.Native.Nat.{_+_, _≤_, min};
 ghost use lib.ListN.{length};
 ghost use Rattle.lin_spec.specs.Cursor.{findFrom};
 ghost use Rattle.lin_spec.specs.Utf8.{first};
-ghost use Rattle.lin_spec.specs.Board.{isDigit};
 ghost use Rattle.lin_spec.specs.Annotation.{run, isMark, charBytes, partLength};
+ghost use Rattle.annotation.specs.Parts.{testOf};
 
 // Whether a byte is `!` or `?`.
 pub(crate) fn is_mark(b: u8) -> bool
@@ -18,27 +18,29 @@ pub(crate) fn is_mark(b: u8) -> bool
     (b == b'!') | (b == b'?')
 }
 
-// How many digits are at the front of a text.
-fn digits_len(s: &[u8]) -> usize
-    ensures { λ r. ⌜ (r ≡ run isDigit (now (s .entry))) × (r ≤ length (now (s .entry))) ⌝ }
-{
-    let mut i = 0;
-    while i < s.len() {
-        if !is_digit(s[i]) {
-            return i;
-        }
-        i += 1;
-    }
-    i
+// The bytes that a run is of.
+enum RunOf {
+    Digits,
+    Marks,
 }
 
-// How many `!` and `?` are at the front of a text.
-fn marks_len(s: &[u8]) -> usize
-    ensures { λ r. ⌜ (r ≡ run isMark (now (s .entry))) × (r ≤ length (now (s .entry))) ⌝ }
+// Whether a byte belongs to a run of this kind.
+fn is_of(b: u8, kind: RunOf) -> bool
+    ensures { λ r. ⌜ r ≡ testOf kind b ⌝ }
+{
+    match kind {
+        RunOf::Digits => is_digit(b),
+        RunOf::Marks => is_mark(b),
+    }
+}
+
+// How many bytes of this kind are at the front of a text.
+fn run_len(s: &[u8], kind: RunOf) -> usize
+    ensures { λ r. ⌜ (r ≡ run (testOf kind) (now (s .entry))) × (r ≤ length (now (s .entry))) ⌝ }
 {
     let mut i = 0;
     while i < s.len() {
-        if !is_mark(s[i]) {
+        if !is_of(s[i], kind) {
             return i;
         }
         i += 1;
@@ -80,10 +82,10 @@ pub(crate) fn part_len(s: &[u8]) -> usize
         return equals_len(s);
     }
     if b == b'$' {
-        return 1 + digits_len(&s[1..]);
+        return 1 + run_len(&s[1..], RunOf::Digits);
     }
     if is_mark(b) {
-        return marks_len(s);
+        return run_len(s, RunOf::Marks);
     }
     let n = char_bytes(b);
     if n < s.len() {

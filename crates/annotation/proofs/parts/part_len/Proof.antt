@@ -9,10 +9,8 @@ use Rattle.annotation.proofs.parts.part_len.Tie as tie
 use Rattle.annotation.proofs.parts.part_len.Reads as reads
 use Rattle.annotation.proofs.parts.part_len.Lts as lts
 use Rattle.annotation.proofs.parts.char_bytes.Reads as char-bytes-reads
-use Rattle.annotation.proofs.parts.digits_len.Reads as digits-len-reads
 use Rattle.annotation.proofs.parts.equals_len.Reads as equals-len-reads
 use Rattle.annotation.proofs.parts.is_mark.Reads as is-mark-reads
-use Rattle.annotation.proofs.parts.marks_len.Reads as marks-len-reads
 
 -- src/parts.rt:76:9
 returns : tie.Need-returns
@@ -31,20 +29,20 @@ returns-2 : tie.Need-returns-2
 returns-2 c = part-equals _ (c .before .before .before .if1 .left) (c .before .if2 .taken) _ (c .equals-len .ensures)
 
 -- src/parts.rt:83:31
-sub-digits-len : tie.Need-sub-digits-len
-sub-digits-len c = search needs
+sub-run-len : tie.Need-sub-run-len
+sub-run-len c = search needs
 
 -- src/parts.rt:83:31
-part-digits-len-start : tie.Need-part-digits-len-start
-part-digits-len-start c = search needs
+part-run-len-start : tie.Need-part-run-len-start
+part-run-len-start c = search needs
 
 -- src/parts.rt:83:31
-part-digits-len-end : tie.Need-part-digits-len-end
-part-digits-len-end c = search needs
+part-run-len-end : tie.Need-part-run-len-end
+part-run-len-end c = search needs
 
 -- src/parts.rt:83:20
-digits-len-requires : tie.Need-digits-len-requires
-digits-len-requires c κs = search needs
+run-len-requires : tie.Need-run-len-requires
+run-len-requires c κs = search needs
 
 -- src/parts.rt:83:16
 add-result : tie.Need-add-result
@@ -52,19 +50,19 @@ add-result c = search needs
 
 -- src/parts.rt:83:9
 returns-3 : tie.Need-returns-3
-returns-3 c = part-dollar _ (c .before .before .before .before .before .if1 .left) (c .before .before .if3 .taken) _ (c .digits-len .ensures .0) (c .digits-len .ensures .1)
+returns-3 c = part-dollar _ (c .before .before .before .before .before .if1 .left) (c .before .before .if3 .taken) _ (c .run-len .ensures .0) (c .run-len .ensures .1)
 
 -- src/parts.rt:85:8
 is-mark-requires : tie.Need-is-mark-requires
 is-mark-requires c κs = search needs
 
 -- src/parts.rt:86:9
-marks-len-requires : tie.Need-marks-len-requires
-marks-len-requires c κs = search needs
+run-len-requires-2 : tie.Need-run-len-requires-2
+run-len-requires-2 c κs = search needs
 
 -- src/parts.rt:86:9
 returns-4 : tie.Need-returns-4
-returns-4 c = part-mark (now (c .before .before .before .before .before .before .before .before .args .s)) (c .before .before .before .before .before .before .if1 .left, c .before .before .before .before .if2 .left, c .before .before .before .if3 .left) _ (c .before .before .is-mark .ensures) (c .before .if4 .taken) _ (c .marks-len .ensures .0) (c .marks-len .ensures .1)
+returns-4 c = part-mark (now (c .before .before .before .before .before .before .before .before .args .s)) (c .before .before .before .before .before .before .if1 .left, c .before .before .before .before .if2 .left, c .before .before .before .if3 .left) _ (c .before .before .is-mark .ensures) (c .before .if4 .taken) _ (c .run-len2 .ensures .0) (c .run-len2 .ensures .1)
 
 -- src/parts.rt:88:9
 char-bytes-requires : tie.Need-char-bytes-requires
@@ -86,14 +84,14 @@ part-len-spec =
     shared-slice-read-b
     equals-len-requires
     returns-2
-    sub-digits-len
-    part-digits-len-start
-    part-digits-len-end
-    digits-len-requires
+    sub-run-len
+    part-run-len-start
+    part-run-len-end
+    run-len-requires
     add-result
     returns-3
     is-mark-requires
-    marks-len-requires
+    run-len-requires-2
     returns-4
     char-bytes-requires
     returns-5
