@@ -51,6 +51,10 @@ pub use lin_spec::Equality;
 pub use writer::append;
 pub use writer::write_lin;
 
+// From PBN. (01: From PBN)
+pub use annotation::annotation_text;
+pub use lin_spec::AnnotationWritten;
+
 // The lines of a listing. (01: Program linlist)
 pub use listing::board_line;
 pub use listing::header_line;
