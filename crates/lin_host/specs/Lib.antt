@@ -6,3 +6,4 @@ pub mod Codes
 pub mod Writing
 pub mod Annotations
 pub mod Records
+pub mod Converting
