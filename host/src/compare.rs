@@ -3,10 +3,13 @@
 
 mod boards;
 mod files;
+mod guards;
+mod pbn;
 mod writer;
 
 pub use boards::board;
 pub use files::{file, name, visit, visits};
+pub use pbn::{annotation, annotations, converted, record, Sizes};
 pub use writer::{append, appends, equality, play_text, written};
 
 use crate::{
@@ -14,6 +17,7 @@ use crate::{
     tokens::{self, Cursor, Span},
     Refusal,
 };
+use guards::held;
 use std::fmt::Debug;
 
 pub type Same = Result<(), String>;
@@ -47,22 +51,16 @@ pub fn text(text: &str) -> Same {
     let rows = tokens::rows(&got).ok_or("a place passes 32 bits")?;
     let span = Span::try_from(trailing).map_err(|e| e.to_string())?;
     let len = bytes.len() as u64;
-    let mut out = vec![0xA5; bytes.len()];
-    same(
-        "length",
-        tokens::write_document(bytes, &rows, span, &mut out),
-        Ok(len),
-    )?;
-    same("written", out.as_slice(), bytes)?;
+    let mut out = guards::bytes("written", &held(bytes.len()));
+    let got = tokens::write_document(bytes, &rows, span, out.lent());
+    same("length", got, Ok(len))?;
+    out.holds(bytes)?;
     if let Some(less) = bytes.len().checked_sub(1) {
-        let mut out = vec![0xA5; less];
-        let small = Err(Refusal::OutputTooSmall(len));
-        same(
-            "a byte less",
-            tokens::write_document(bytes, &rows, span, &mut out),
-            small,
-        )?;
-        same("a byte less", out, vec![0xA5; less])?;
+        let before = held(less);
+        let mut out = guards::bytes("a byte less", &before);
+        let got = tokens::write_document(bytes, &rows, span, out.lent());
+        same("a byte less", got, Err(Refusal::OutputTooSmall(len)))?;
+        out.holds(&before)?;
     }
     Ok(())
 }
@@ -99,17 +97,12 @@ pub fn steps(bytes: &[u8]) -> Same {
 /// A document of any rows into an output of `len` bytes: answer and output as
 /// the model has them, and what is accepted as upstream writes it.
 pub fn document(text: &[u8], rows: &[u32], trailing: Span, len: usize) -> Same {
-    let before: Vec<u8> = (0..len).map(|i| (i * 7 + 3) as u8).collect();
-    let (mut got, mut want) = (before.clone(), before);
-    let answer = tokens::write_document(text, rows, trailing, &mut got);
-    same(
-        "answer",
-        answer,
-        model::write_document(text, rows, trailing, &mut want),
-    )?;
-    if got != want {
-        return Err("the output differs".to_string());
-    }
+    let mut want = held(len);
+    let mut out = guards::bytes("output", &want);
+    let answer = tokens::write_document(text, rows, trailing, out.lent());
+    let wanted = model::write_document(text, rows, trailing, &mut want);
+    same("answer", answer, wanted)?;
+    out.holds(&want)?;
     if let Ok(n) = answer {
         let string = |start, len| {
             let bytes = Span::new(start, len).of(text).to_vec();
@@ -120,7 +113,7 @@ pub fn document(text: &[u8], rows: &[u32], trailing: Span, len: usize) -> Same {
             pairs.push((string(row[0], row[1])?, string(row[2], row[3])?));
         }
         let written = oracle::write(&pairs, &string(trailing.start, trailing.len)?);
-        same("written", got.get(..n as usize), Some(written.as_bytes()))?;
+        same("written", want.get(..n as usize), Some(written.as_bytes()))?;
     }
     Ok(())
 }

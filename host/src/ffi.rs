@@ -107,6 +107,55 @@ pub struct LinSection {
     pub next_number: u64,
 }
 
+/// What becomes of a raw annotation.
+#[repr(C)]
+#[derive(Debug, Clone, Copy, PartialEq, Eq)]
+pub struct LinAnnotation {
+    /// The value is the text's length, 0 where there is none.
+    pub answer: LinAnswer,
+    /// 1 with a text, 0 without.
+    pub present: u32,
+}
+
+/// A PBN record without its calls, its play and its notes. What a flag says is
+/// not given is not looked at.
+#[repr(C)]
+#[derive(Debug, Clone, Copy, PartialEq, Eq)]
+pub struct LinPbn {
+    pub south: LinText,
+    pub west: LinText,
+    pub north: LinText,
+    pub east: LinText,
+    pub event: LinText,
+    pub date: LinText,
+    pub id: LinText,
+    /// 1 with a number, 0 without.
+    pub number_given: u32,
+    /// 1 to 65,535.
+    pub number: u32,
+    /// 1 with a dealer, 0 without.
+    pub dealer_given: u32,
+    /// 0 to 3 for S, W, N, E.
+    pub dealer: u32,
+    /// 0 none, 1 NS, 2 EW, 3 both.
+    pub vulnerability: u32,
+    /// 1 with a result, 0 without.
+    pub result_given: u32,
+    pub result: i32,
+    /// The count of a card is at seat times 52 plus card.
+    pub counts: [u32; 208],
+}
+
+/// A board made of a PBN record; its texts are parts of the output. A refusal
+/// has a fresh board, without calls, cards and texts.
+#[repr(C)]
+#[derive(Debug, Clone, Copy, PartialEq, Eq)]
+pub struct LinConverted {
+    pub heading: LinHeading,
+    /// The bytes of the texts.
+    pub len: u64,
+}
+
 extern "C" {
     pub fn lin_open(text: *const u8, text_len: usize) -> LinAnswer;
     pub fn lin_next(text: *const u8, text_len: usize, at: u64) -> LinStep;
@@ -200,4 +249,29 @@ extern "C" {
         cards2: *const u8,
         cards2_len: usize,
     ) -> LinAnswer;
+    pub fn lin_annotation_text(
+        text: *const u8,
+        text_len: usize,
+        raw_start: u32,
+        raw_len: u32,
+        notes: *const [u32; 768],
+        out: *mut u8,
+        out_len: usize,
+    ) -> LinAnnotation;
+    pub fn lin_from_board(
+        text: *const u8,
+        text_len: usize,
+        board: LinPbn,
+        calls: *const u32,
+        calls_len: usize,
+        plays: *const u8,
+        plays_len: usize,
+        notes: *const [u32; 768],
+        out: *mut u8,
+        out_len: usize,
+        rows: *mut u32,
+        rows_len: usize,
+        cards: *mut u8,
+        cards_len: usize,
+    ) -> LinConverted;
 }

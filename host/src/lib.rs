@@ -6,12 +6,15 @@ pub mod compare;
 mod ffi;
 pub mod files;
 pub mod model;
+pub mod pbn;
 pub mod samples;
 pub mod tokens;
 pub mod upstream;
 pub mod writer;
 
 pub use ffi::LinAnswer;
+
+use std::fmt;
 
 /// The bytes that a text, or what is used of an output, has at most.
 pub const LIMIT: usize = 1_048_576;
@@ -39,6 +42,51 @@ pub enum Refusal {
     OutOfRange,
 }
 
+impl Refusal {
+    /// The number that document 01 gives it.
+    pub fn number(self) -> u32 {
+        match self {
+            Refusal::TextTooLong => 1,
+            Refusal::NotUtf8(_) => 2,
+            Refusal::TooFewRows(..) => 3,
+            Refusal::NoBoard(_) => 4,
+            Refusal::SpanPastEnd => 5,
+            Refusal::SpanNotUtf8 => 6,
+            Refusal::OutputTooSmall(_) => 7,
+            Refusal::OutOfRange => 8,
+        }
+    }
+
+    /// The length or the count that it carries.
+    pub fn carried(self) -> Option<u64> {
+        match self {
+            Refusal::NotUtf8(n)
+            | Refusal::TooFewRows(_, n)
+            | Refusal::NoBoard(n)
+            | Refusal::OutputTooSmall(n) => Some(n),
+            _ => None,
+        }
+    }
+}
+
+impl fmt::Display for Refusal {
+    fn fmt(&self, f: &mut fmt::Formatter) -> fmt::Result {
+        match self {
+            Refusal::TextTooLong => write!(f, "a text is longer than {LIMIT} bytes"),
+            Refusal::NotUtf8(n) => write!(f, "a text is not UTF-8 after its first {n} bytes"),
+            Refusal::TooFewRows(RowKind::Calls, n) => write!(f, "{n} rows for calls are needed"),
+            Refusal::TooFewRows(RowKind::Cards, n) => write!(f, "{n} places for cards are needed"),
+            Refusal::NoBoard(n) => write!(f, "no board of that number among {n}"),
+            Refusal::SpanPastEnd => write!(f, "a span passes its text's end"),
+            Refusal::SpanNotUtf8 => write!(f, "the bytes of a span are not UTF-8"),
+            Refusal::OutputTooSmall(n) => write!(f, "the output is too small for {n} bytes"),
+            Refusal::OutOfRange => write!(f, "a card, a level or a number is outside its range"),
+        }
+    }
+}
+
+impl std::error::Error for Refusal {}
+
 impl LinAnswer {
     /// The number answered, or the refusal.
     ///
@@ -64,6 +112,17 @@ impl LinAnswer {
             (7, 0, n) => Err(Refusal::OutputTooSmall(n)),
             (8, 0, 0) => Err(Refusal::OutOfRange),
             _ => panic!("neither an answer nor a refusal: {self:?}"),
+        }
+    }
+}
+
+impl From<Refusal> for LinAnswer {
+    /// The three numbers by which the exports give a refusal.
+    fn from(refusal: Refusal) -> LinAnswer {
+        LinAnswer {
+            refusal: refusal.number(),
+            kind: matches!(refusal, Refusal::TooFewRows(RowKind::Cards, _)).into(),
+            value: refusal.carried().unwrap_or(0),
         }
     }
 }

@@ -1,6 +1,8 @@
 //! Document 01 in plain Rust, for the inputs that upstream can't take: bytes
 //! that are no text, any place, any span, any output.
 
+pub mod pbn;
+
 use crate::{
     boards::{LinBoard, LinText},
     files::LinSection,

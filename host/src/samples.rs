@@ -3,6 +3,7 @@
 
 pub mod built;
 pub mod lent;
+pub mod pbn;
 
 use oracle::{
     random::Rng,

@@ -1,13 +1,16 @@
-//! Boards between upstream's form, `LinData`, and the host's.
+//! Boards between upstream's form, `LinData`, and the host's, and PBN records as
+//! upstream has them.
 
 use crate::{
     boards::{calls, Board, Call, Card, Deal, Heading, LinText, Seat, Vulnerability},
     tokens::Span,
     writer::Lent,
 };
+use crate::{model, pbn};
 use oracle::{
-    bridge_types::{self, Direction, Hand, Rank, Suit},
+    bridge_types::{self, AnnotatedCall, Direction, Hand, Rank, Suit},
     lin::{BidWithAnnotation, LinData},
+    pbn::{Record, STRAINS},
 };
 
 pub fn direction(seat: Seat) -> Direction {
@@ -152,4 +155,120 @@ fn named(rows: &[u32]) -> Vec<u32> {
         }
     }
     rows
+}
+
+/// The deal of these counts.
+fn deal(counts: &[u32; 208]) -> bridge_types::Deal {
+    let mut deal = bridge_types::Deal::new();
+    for (seat, hand_counts) in Seat::ALL.into_iter().zip(counts.chunks(52)) {
+        deal.set_hand(direction(seat), hand(hand_counts));
+    }
+    deal
+}
+
+/// The call of six words of a record.
+fn pbn_call(text: &[u8], row: &[u32]) -> AnnotatedCall {
+    let call = match row[0] {
+        0 => bridge_types::Call::Pass,
+        1 => bridge_types::Call::Double,
+        2 => bridge_types::Call::Redouble,
+        3 => bridge_types::Call::Bid {
+            level: row[1] as u8,
+            strain: STRAINS[row[2] as usize],
+        },
+        4 => bridge_types::Call::Continue,
+        _ => bridge_types::Call::Blank,
+    };
+    AnnotatedCall {
+        call,
+        annotation: (row[3] != 0).then(|| string(Span::new(row[4], row[5]).of(text))),
+    }
+}
+
+fn string(bytes: &[u8]) -> String {
+    String::from_utf8(bytes.to_vec()).expect("UTF-8")
+}
+
+/// The record of what is lent.
+///
+/// # Panics
+///
+/// If a refusal meets it.
+pub fn record(lent: pbn::Lent) -> Record {
+    let board = lent.board;
+    let text = |t: LinText| {
+        let part = Span::new(t.start, t.len).of(lent.text);
+        (t.present != 0).then(|| string(part))
+    };
+    let calls = lent.calls.chunks_exact(6);
+    let notes = model::pbn::note_texts(lent.text, lent.notes).into_iter();
+    Record {
+        names: [board.south, board.west, board.north, board.east].map(text),
+        event: text(board.event),
+        date: text(board.date),
+        id: text(board.id),
+        number: (board.number_given != 0).then_some(board.number),
+        dealer: (board.dealer_given != 0).then(|| direction(Seat::ALL[board.dealer as usize])),
+        deal: deal(&board.counts),
+        vulnerable: VULNERABILITY[board.vulnerability as usize],
+        calls: calls.map(|row| pbn_call(lent.text, row)).collect(),
+        notes: notes.map(|(n, text)| (n, text.to_string())).collect(),
+        play: lent
+            .plays
+            .iter()
+            .map(|c| (*c != pbn::GAP).then(|| card_of(*c)))
+            .collect(),
+        result: (board.result_given != 0).then_some(board.result),
+    }
+}
+
+/// The board that upstream makes of what is lent.
+///
+/// # Panics
+///
+/// If a refusal meets it.
+pub fn made(lent: pbn::Lent) -> LinData {
+    oracle::pbn::made(&record(lent))
+}
+
+/// A record of upstream's as the host has it.
+pub fn pbn_record(from: &Record) -> pbn::Record<'_> {
+    fn bytes(text: &Option<String>) -> Option<&[u8]> {
+        text.as_deref().map(str::as_bytes)
+    }
+    let mut deal = Deal::new();
+    for seat in Seat::ALL {
+        let hand = from.deal.hand(direction(seat));
+        hand.cards().iter().for_each(|c| deal.add(seat, card(c)));
+    }
+    let strain = |strain| STRAINS.iter().position(|s| *s == strain).expect("a strain");
+    let call = |call: &'_ AnnotatedCall| match call.call {
+        bridge_types::Call::Pass => pbn::Bid::Pass,
+        bridge_types::Call::Double => pbn::Bid::Double,
+        bridge_types::Call::Redouble => pbn::Bid::Redouble,
+        bridge_types::Call::Bid { level, strain: s } => {
+            pbn::Bid::Level(level, pbn::Strain::ALL[strain(s)])
+        }
+        bridge_types::Call::Continue => pbn::Bid::Continue,
+        bridge_types::Call::Blank => pbn::Bid::Blank,
+    };
+    let calls = from.calls.iter().map(|c| pbn::Call {
+        bid: call(c),
+        annotation: bytes(&c.annotation),
+    });
+    let notes = from.notes.iter();
+    pbn::Record {
+        names: [0, 1, 2, 3].map(|n| bytes(&from.names[n])),
+        event: bytes(&from.event),
+        date: bytes(&from.date),
+        id: bytes(&from.id),
+        number: from.number,
+        dealer: from.dealer.map(seat),
+        deal,
+        vulnerability: vulnerability(from.vulnerable),
+        calls: calls.collect(),
+        notes: notes.map(|(n, text)| (*n, text.as_bytes())).collect(),
+        play: from.play.iter().map(|c| c.as_ref().map(card)).collect(),
+        result: from.result,
+    }
 }

@@ -181,7 +181,7 @@ fn gather(text: &mut Vec<u8>, part: &[u8]) -> Span {
     span
 }
 
-fn gather_some(text: &mut Vec<u8>, part: Option<&[u8]>) -> LinText {
+pub(crate) fn gather_some(text: &mut Vec<u8>, part: Option<&[u8]>) -> LinText {
     let Span { start, len } = part.map_or(Span::default(), |part| gather(text, part));
     LinText {
         present: part.is_some().into(),

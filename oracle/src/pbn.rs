@@ -57,6 +57,7 @@ type Group = (&'static str, fn() -> Vec<Record>);
 pub const GROUPS: &[Group] = &[
     ("named", mixed::named),
     ("names", heads::names),
+    ("spellings", heads::spellings),
     ("given", heads::given),
     ("titles", heads::titles),
     ("texts", heads::texts),
@@ -69,6 +70,7 @@ pub const GROUPS: &[Group] = &[
     ("dropped", calls::dropped),
     ("auctions", calls::auctions),
     ("cleaned", calls::cleaned),
+    ("annotated", calls::annotated),
     ("notes", calls::notes),
     ("gaps", calls::gaps),
     ("plays", calls::plays),
@@ -119,7 +121,8 @@ fn board(record: &Record) -> Board {
     }
 }
 
-fn made(record: &Record) -> LinData {
+/// The board that upstream makes of the record.
+pub fn made(record: &Record) -> LinData {
     LinData::from_board(&board(record))
 }
 
@@ -322,6 +325,123 @@ mod tests {
                 assert!(!call.alert && call.annotation.iter().all(clean));
             }
         }
+    }
+
+    /// A name keeps its spelling, composed or decomposed, and so do the other
+    /// texts; the two are never the same bytes.
+    #[test]
+    fn spellings_are_kept() {
+        let boards: Vec<_> = all().iter().map(made).collect();
+        for [one, two] in heads::SPELLINGS {
+            let kept = [one, two].map(|s| s.replace(',', "").replace('|', "/"));
+            assert_ne!(kept[0], kept[1]);
+            let both = |b: &&LinData| kept.iter().all(|text| b.player_names.contains(text));
+            assert!(boards.iter().filter(both).count() >= 12);
+        }
+        for text in ["é", "e\u{301}"] {
+            let titled = |b: &&LinData| b.title.iter().any(|t| t.contains(text));
+            let labelled = |b: &&LinData| b.room_board.iter().any(|t| t.contains(text));
+            let noted = |b: &&LinData| {
+                let mut notes = b.auction.iter().flat_map(|c| &c.annotation);
+                notes.any(|t| t.contains(text))
+            };
+            assert!(boards.iter().filter(titled).count() >= 10);
+            assert!(boards.iter().filter(labelled).count() >= 5);
+            assert!(boards.iter().filter(noted).count() >= 5);
+        }
+    }
+
+    /// How many records meet a test.
+    fn many(all: &[Record], test: impl Fn(&Record, &LinData) -> bool) -> usize {
+        all.iter().filter(|r| test(r, &made(r))).count()
+    }
+
+    fn given(text: &Option<String>) -> bool {
+        text.as_ref().is_some_and(|t| !t.is_empty())
+    }
+
+    fn empty(text: &Option<String>) -> bool {
+        text.as_deref() == Some("")
+    }
+
+    /// The header that the number gives.
+    fn by_number(record: &Record) -> Option<String> {
+        record.number.map(|n| format!("Board {n}"))
+    }
+
+    /// A date alone gives a title that begins with its dash; an empty event, date
+    /// or id acts as absent.
+    #[test]
+    fn titles_and_labels() {
+        let all = all();
+        let dated = |r: &Record, b: &LinData| {
+            let title = b.title.as_deref().unwrap_or_default();
+            !given(&r.event) && given(&r.date) && title.starts_with(" - ")
+        };
+        assert!(many(&all, dated) >= 20);
+        let none = |r: &Record, b: &LinData| empty(&r.event) && empty(&r.date) && b.title.is_none();
+        assert!(many(&all, none) >= 1);
+        assert!(many(&all, |r, b| empty(&r.event) && b.title.is_some()) >= 9);
+        assert!(many(&all, |r, b| empty(&r.date) && b.title.is_some()) >= 9);
+        assert!(many(&all, |r, b| empty(&r.id) && b.room_board.is_none()) >= 1);
+        let numbered = |r: &Record, b: &LinData| {
+            empty(&r.id) && r.number.is_some() && b.board_header == by_number(r)
+        };
+        assert!(many(&all, numbered) >= 5);
+    }
+
+    /// The id gives the label while the number gives the dealer; a dealer that is
+    /// given wins over the number; without either it is North.
+    #[test]
+    fn dealers_and_claims() {
+        let all = all();
+        let by_id = |r: &Record, b: &LinData| {
+            let named = given(&r.id) && r.number.is_some() && b.board_header != by_number(r);
+            named && r.dealer.is_none() && b.dealer != Direction::North
+        };
+        assert!(many(&all, by_id) >= 20);
+        let wins = |r: &Record, b: &LinData| {
+            let own = r.number.map(bridge_types::dealer_from_board_number);
+            own.is_some() && r.dealer.is_some() && r.dealer != own && r.dealer == Some(b.dealer)
+        };
+        assert!(many(&all, wins) >= 50);
+        let north = |r: &Record, b: &LinData| {
+            r.dealer.is_none() && r.number.is_none() && b.dealer == Direction::North
+        };
+        assert!(many(&all, north) >= 50);
+        let unclaimed = |r: &Record, b: &LinData| {
+            r.result.is_some_and(|n| !(0..=255).contains(&n)) && b.claim.is_none()
+        };
+        assert!(many(&all, unclaimed) >= 40);
+    }
+
+    /// Annotations are cleaned after their words are joined, and one without a
+    /// word is absent.
+    #[test]
+    fn annotations_are_cleaned_and_absent() {
+        let all = all();
+        let noted = |b: &LinData, text: &str| {
+            let mut notes = b.auction.iter().flat_map(|c| &c.annotation);
+            notes.any(|t| t == text)
+        };
+        for (raw, text) in [("=|=", "=/="), ("=\n=", "= ="), ("=\r=", "= =")] {
+            let has = |r: &Record, b: &LinData| {
+                let mut raws = r.calls.iter().flat_map(|c| &c.annotation);
+                raws.any(|t| t == raw) && noted(b, text)
+            };
+            assert!(many(&all, has) >= 1, "{raw:?}");
+        }
+        assert!(many(&all, |_, b| noted(b, "we/ak ?")) >= 1);
+        let absent = |r: &Record, b: &LinData| {
+            let raw = r.calls.first().and_then(|c| c.annotation.as_ref());
+            raw.is_some() && b.auction.first().is_some_and(|c| c.annotation.is_none())
+        };
+        assert!(many(&all, absent) >= 50);
+        let empty = |r: &Record, _: &LinData| {
+            let mut raws = r.calls.iter().flat_map(|c| &c.annotation);
+            raws.any(String::is_empty)
+        };
+        assert!(many(&all, empty) >= 40);
     }
 
     #[test]

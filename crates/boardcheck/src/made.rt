@@ -33,7 +33,7 @@ pub fn span_of(f: Field, from: usize) -> Span {
 }
 
 // A text that may be absent, which the mark 0 says.
-fn maybe_of(f: Field, mark: u8, from: usize) -> MaybeSpan {
+pub fn maybe_of(f: Field, mark: u8, from: usize) -> MaybeSpan {
     if mark == 0 {
         return MaybeSpan::Absent;
     }
@@ -48,7 +48,7 @@ fn claim_of(mark: u8, tricks: u8) -> MaybeClaim {
 }
 
 // The seats S W N E as 0 to 3.
-fn seat_of(n: u8) -> Seat {
+pub fn seat_of(n: u8) -> Seat {
     match n {
         0 => Seat::South,
         1 => Seat::West,
@@ -57,7 +57,7 @@ fn seat_of(n: u8) -> Seat {
     }
 }
 
-fn vulnerability_of(n: u8) -> Vulnerability {
+pub fn vulnerability_of(n: u8) -> Vulnerability {
     match n {
         0 => Vulnerability::None,
         1 => Vulnerability::NorthSouth,
@@ -83,7 +83,7 @@ fn count(counts: &mut [u32; 208], held: &[u8]) {
 }
 
 // The deal of the cards held.
-fn deal_of(held: &[u8]) -> Deal {
+pub fn deal_of(held: &[u8]) -> Deal {
     let mut counts = [0u32; 208];
     count(&mut counts, held);
     Deal { counts }
@@ -131,7 +131,7 @@ pub fn board_of(file: &[u8], case: Case, from: usize) -> Board {
 }
 
 // Puts a word, if there is room, and gives the place after it.
-fn put(rows: &mut [u32], at: usize, w: u32) -> usize {
+pub fn put(rows: &mut [u32], at: usize, w: u32) -> usize {
     if at < rows.len() {
         rows[at] = w;
         return at + 1;
@@ -140,7 +140,7 @@ fn put(rows: &mut [u32], at: usize, w: u32) -> usize {
 }
 
 // Puts the two words of a span.
-fn put_span(rows: &mut [u32], at: usize, s: Span) -> usize {
+pub fn put_span(rows: &mut [u32], at: usize, s: Span) -> usize {
     let next = put(rows, at, s.start);
     put(rows, next, s.len)
 }

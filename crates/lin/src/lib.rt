@@ -51,6 +51,17 @@ pub use lin_spec::Equality;
 pub use writer::append;
 pub use writer::write_lin;
 
+// From PBN. (01: From PBN)
+pub use annotation::annotation_text;
+pub use lin_spec::AnnotationWritten;
+pub use lin_spec::Converted;
+pub use lin_spec::MaybeNumber;
+pub use lin_spec::MaybeResult;
+pub use lin_spec::MaybeSeat;
+pub use lin_spec::PbnBoard;
+pub use lin_spec::PbnCall;
+pub use pbn::from_board;
+
 // The lines of a listing. (01: Program linlist)
 pub use listing::board_line;
 pub use listing::header_line;

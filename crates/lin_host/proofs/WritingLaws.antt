@@ -45,7 +45,7 @@ same-plain s b ws cs s2 b2 ws2 cs2 e f = rw (e, f)
 
 -- A call with a code outside its range is refused by 1 or 8, whatever else it is lent: no answer shows what boardOf makes of such a code
 
-second : {A : Type 0} (t : Bool) (q r : Refusal) (cs : List (Option Refusal)) (a : A) → unless (refuseIf t q ∷ some r ∷ cs) a ≡ refused (pick t q r)
+pub second : {A : Type 0} (t : Bool) (q r : Refusal) (cs : List (Option Refusal)) (a : A) → unless (refuseIf t q ∷ some r ∷ cs) a ≡ refused (pick t q r)
 unfolding unless
 second true q r cs a = refl
 second false q r cs a = refl

@@ -4,3 +4,6 @@ pub mod Boards
 pub mod Files
 pub mod Codes
 pub mod Writing
+pub mod Annotations
+pub mod Records
+pub mod Converting

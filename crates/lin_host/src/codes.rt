@@ -13,7 +13,7 @@ ghost use Rattle.lin_host.specs.Codes.{seatOf, vulnerabilityOf, spansOf,
 
 // The parts of a board, each for any number.
 
-fn seat_of(code: u32) -> Seat
+pub(crate) fn seat_of(code: u32) -> Seat
     ensures { λ r. ⌜ r ≡ seatOf code ⌝ }
 {
     match code {
@@ -24,7 +24,7 @@ fn seat_of(code: u32) -> Seat
     }
 }
 
-fn vulnerability_of(code: u32) -> Vulnerability
+pub(crate) fn vulnerability_of(code: u32) -> Vulnerability
     ensures { λ r. ⌜ r ≡ vulnerabilityOf code ⌝ }
 {
     match code {
@@ -58,7 +58,7 @@ fn names_of(words: [u32; 8]) -> [Span; 4]
     [s, w, n, e]
 }
 
-fn text_of(x: LinText) -> MaybeSpan
+pub(crate) fn text_of(x: LinText) -> MaybeSpan
     ensures { λ r. ⌜ r ≡ textOf x ⌝ }
 {
     if x.present == 0 {

@@ -1,17 +1,24 @@
 // The entries as C functions on numbers and byte slices, for the Rust host. (01: "Entries on numbers and byte slices are exported ..")
+mod annotations;
 mod answers;
 mod boards;
 mod codes;
+mod converting;
 mod files;
+mod records;
 mod tokens;
 mod writing;
 
+pub use annotations::LinAnnotation;
+pub use annotations::lin_annotation_text;
 pub use answers::LinAnswer;
 pub use boards::LinBoard;
 pub use boards::LinHeading;
 pub use boards::LinText;
 pub use boards::lin_parse_heading;
 pub use boards::lin_parse_lin;
+pub use converting::LinConverted;
+pub use converting::lin_from_board;
 pub use files::LinBoards;
 pub use files::LinSection;
 pub use files::lin_count_boards;
@@ -20,6 +27,7 @@ pub use files::lin_file_heading;
 pub use files::lin_find_name;
 pub use files::lin_next_board;
 pub use files::lin_open_boards;
+pub use records::LinPbn;
 pub use tokens::LinPart;
 pub use tokens::LinStep;
 pub use tokens::lin_next;

@@ -2,11 +2,11 @@
 use crate::answers::is_absent;
 use crate::answers::is_text;
 use crate::answers::text_within;
-use crate::cases::clear;
-use crate::cases::put_note;
 use boardcheck::MARK;
 use lin_spec::AnnotationWritten;
 use lin_spec::Span;
+use pbncheck::clear;
+use pbncheck::put_note;
 use vectors::Score;
 use vectors::counted;
 

@@ -1,12 +1,12 @@
 // An output longer than the longest text: its room is 1,048,576 bytes. (01: Writer, "Every output's room ..")
 use crate::answers::is_refused;
-use crate::cases::clear;
-use crate::cases::put_note;
 use annotation::annotation_text;
 use boardcheck::MARK;
 use lin_spec::AnnotationWritten;
 use lin_spec::LIMIT;
 use lin_spec::Span;
+use pbncheck::clear;
+use pbncheck::put_note;
 use text::part;
 use vectors::Score;
 use vectors::counted;

@@ -1,16 +1,15 @@
 //! The board of a text against upstream's, field by field, and what is lent
 //! for it.
 
-use super::{same, Same};
+use super::{
+    guards::{bytes as guarded_bytes, held, held_words, words as guarded_words},
+    same, Same,
+};
 use crate::{
     boards::{self, Board, Heading, LinHeading, Seat, ROW},
     model, upstream, Refusal, RowKind,
 };
 use oracle::lin::LinData;
-
-/// What rows and cards hold before a call.
-const WORD: u32 = 0xA5A5_A5A5;
-const BYTE: u8 = 0xA5;
 
 /// A reader of one board into the rows and the cards lent.
 pub(super) type Read<'a> = &'a dyn Fn(&mut [u32], &mut [u8]) -> LinHeading;
@@ -73,18 +72,19 @@ fn heading(got: &Heading, want: &Heading) -> Same {
 /// With more rows and cards than needed the answer is the same and the others
 /// stay.
 fn more(bytes: &[u8], read: Read, board: &Board) -> Same {
-    let (calls, cards) = (board.calls.len(), board.play.len());
-    let mut rows = vec![WORD; ROW * calls + ROW + 1];
-    let mut play = vec![BYTE; cards + 3];
-    let got = read(&mut rows, &mut play).read(bytes);
+    let (words, places) = (ROW * board.calls.len(), board.play.len());
+    let (mut want_rows, mut want_cards) = (held_words(words + ROW + 1), held(places + 3));
+    let mut rows = guarded_words("rows", &want_rows);
+    let mut cards = guarded_bytes("cards", &want_cards);
+    let got = read(rows.lent(), cards.lent()).read(bytes);
     same("with more rows", got, Ok(board.heading))?;
-    let (used, rest) = rows.split_at(ROW * calls);
-    same("with more rows", &boards::calls(bytes, used), &board.calls)?;
-    same("rows not needed", rest, &[WORD; ROW + 1])?;
-    let (used, rest) = play.split_at(cards);
-    let want: Vec<u8> = board.play.iter().map(|c| c.0).collect();
-    same("with more cards", used, &want)?;
-    same("cards not needed", rest, &[BYTE; 3])
+    let calls = boards::calls(bytes, &rows.lent()[..words]);
+    same("with more rows", &calls, &board.calls)?;
+    want_rows[..words].copy_from_slice(&rows.lent()[..words]);
+    rows.holds(&want_rows)?;
+    let play: Vec<u8> = board.play.iter().map(|c| c.0).collect();
+    want_cards[..places].copy_from_slice(&play);
+    cards.holds(&want_cards)
 }
 
 /// With fewer the board is refused, calls before cards.
@@ -108,13 +108,13 @@ fn fewer(bytes: &[u8], read: Read, heading: &Heading) -> Same {
 
 /// Refused with so many words and places lent, which stay.
 fn refused(bytes: &[u8], read: Read, lent: [usize; 2], refusal: Refusal) -> Same {
-    let [words, places] = lent;
-    let mut rows = vec![WORD; words];
-    let mut cards = vec![BYTE; places];
-    let got = read(&mut rows, &mut cards);
+    let (want_rows, want_cards) = (held_words(lent[0]), held(lent[1]));
+    let mut rows = guarded_words("rows refused", &want_rows);
+    let mut cards = guarded_bytes("cards refused", &want_cards);
+    let got = read(rows.lent(), cards.lent());
     refused_heading(bytes, got, refusal)?;
-    same("rows refused", rows, vec![WORD; words])?;
-    same("cards refused", cards, vec![BYTE; places])
+    rows.holds(&want_rows)?;
+    cards.holds(&want_cards)
 }
 
 /// A refusal, with a fresh board.

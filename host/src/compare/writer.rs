@@ -1,7 +1,12 @@
 //! Written boards, lists of appends, play texts and equality against upstream
 //! and the plain book. Every output stands between guards.
 
-use super::{boards::fields, file, same, Same};
+use super::{
+    boards::fields,
+    file,
+    guards::{self, held},
+    same, Same,
+};
 use crate::{
     boards::Card,
     book::{self, Book},
@@ -11,24 +16,13 @@ use crate::{
 };
 use oracle::lin::{parse_lin, parse_lin_file, write_lin, LinData};
 
-const GUARD: usize = 64;
-
-/// A call on the middle of some bytes, as many as those lent here; nothing
-/// around them may change.
+/// A call on an output that stands between guards.
 fn guarded(out: &mut [u8], call: impl FnOnce(&mut [u8]) -> LinAnswer) -> Result<LinAnswer, String> {
-    let guard: Vec<u8> = (0..GUARD).map(|i| (i * 11 + 5) as u8).collect();
-    let mut all = [&guard, &*out, &guard].concat();
-    let end = GUARD + out.len();
-    let answer = call(&mut all[GUARD..end]);
-    same("bytes before the output", &all[..GUARD], &guard)?;
-    same("bytes after the output", &all[end..], &guard)?;
-    out.copy_from_slice(&all[GUARD..end]);
+    let mut buffer = guards::bytes("output", out);
+    let answer = call(buffer.lent());
+    out.copy_from_slice(buffer.lent());
+    buffer.holds(out)?;
     Ok(answer)
-}
-
-/// What an output holds before a call.
-fn held(len: usize) -> Vec<u8> {
-    (0..len).map(|i| (i * 7 + 3) as u8).collect()
 }
 
 fn same_outputs(what: &str, got: &[u8], want: &[u8]) -> Same {

@@ -21,7 +21,7 @@ fn texts_of(board: &mut LinBoard) -> [&mut LinText; 3] {
 
 /// Puts a part of another text somewhere into the text, among other bytes, or
 /// finds it there.
-fn place(rng: &mut Rng, text: &mut Vec<u8>, part: &[u8]) -> u32 {
+pub(super) fn place(rng: &mut Rng, text: &mut Vec<u8>, part: &[u8]) -> u32 {
     let found = (0..text.len()).find(|at| text[*at..].starts_with(part));
     let start = match found {
         Some(at) if rng.once_in(2) => at,
@@ -83,12 +83,12 @@ pub fn scattered(rng: &mut Rng, board: &LinData) -> Gathered {
     }
 }
 
-fn any_words(rng: &mut Rng) -> [u32; 2] {
+pub(super) fn any_words(rng: &mut Rng) -> [u32; 2] {
     let edge = [0, 0, 1, 256, u32::MAX];
     [*rng.pick(&edge), *rng.pick(&edge)]
 }
 
-fn junk(rng: &mut Rng) -> Vec<u8> {
+pub(super) fn junk(rng: &mut Rng) -> Vec<u8> {
     match rng.below(3) {
         0 => texts::bytes(rng, 6),
         _ => Vec::new(),

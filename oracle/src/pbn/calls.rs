@@ -2,7 +2,7 @@
 
 use super::{Record, STRAINS};
 use crate::{
-    annotation::{table, Notes},
+    annotation::{parts, table, Notes},
     built::{self, TRAPS},
     random::Rng,
     texts::{self, SAMPLES},
@@ -98,6 +98,28 @@ pub fn cleaned() -> Vec<Record> {
     for text in texts::words(&["|", "\r", "\n", "="], 3) {
         all.push(one(format!("={text}="), table(&[(1, &text)])));
         all.push(one(format!("=1={text}=1="), table(&[(1, &text)])));
+    }
+    all
+}
+
+/// Each annotation that document 01 and upstream name, by a call that is kept,
+/// one that is dropped and one that follows, with notes to clean and with none.
+pub fn annotated() -> Vec<Record> {
+    let notes = table(&[(1, "we|ak"), (2, ""), (11, "é\r\n")]);
+    let bid = Call::Bid {
+        level: 4,
+        strain: Strain::NoTrump,
+    };
+    let mut all = Vec::new();
+    for (raw, given) in parts::named() {
+        let notes = if given.is_empty() {
+            given
+        } else {
+            notes.clone()
+        };
+        let kinds = [Call::Redouble, Call::Continue, bid, Call::Blank, Call::Pass];
+        let calls = kinds.map(|kind| call(kind, Some(&raw)));
+        all.push(with(calls.to_vec(), notes));
     }
     all
 }

@@ -25,6 +25,43 @@ pub fn names() -> Vec<Record> {
     all
 }
 
+/// Characters with a mark, as one character and as two.
+pub const SPELLINGS: &[[&str; 2]] = &[
+    ["é", "e\u{301}"],
+    ["José", "Jose\u{301}"],
+    ["Å", "A\u{30A}"],
+    ["Ś", "S\u{301}"],
+    ["Nguyễn", "Nguye\u{302}\u{303}n"],
+    ["ñ,|", "n\u{303},|"],
+];
+
+/// Both spellings beside one another: at every two seats, and as event and date,
+/// or id.
+pub fn spellings() -> Vec<Record> {
+    let mut all = Vec::new();
+    for [one, two] in SPELLINGS {
+        for first in 0..4 {
+            for second in (0..4).filter(|n| *n != first) {
+                let mut record = Record::default();
+                record.names[first] = some(one);
+                record.names[second] = some(two);
+                all.push(record);
+            }
+        }
+        for (event, date) in [(one, two), (two, one)] {
+            all.push(Record {
+                names: [some(two), some(one), some(two), some(one)],
+                event: some(event),
+                date: some(date),
+                id: some(date),
+                number: Some(3),
+                ..Record::default()
+            });
+        }
+    }
+    all
+}
+
 /// Every name absent, empty, empty once its commas are gone, and given.
 pub fn given() -> Vec<Record> {
     let text = |seat: usize, n: usize| match n % 4 {

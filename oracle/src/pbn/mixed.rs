@@ -49,12 +49,12 @@ fn some_call(rng: &mut Rng) -> AnnotatedCall {
     }
 }
 
-/// Records with everything by chance.
-pub fn random() -> Vec<Record> {
+/// A record with everything by chance, at most so many calls and so many entries
+/// of play.
+pub fn some_record(rng: &mut Rng, calls: usize, entries: usize) -> Record {
     const RESULTS: &[i32] = &[i32::MIN, -1, 0, 7, 9, 13, 255, 256, i32::MAX];
-    let rng = &mut Rng::new(72);
     let maybe = |rng: &mut Rng| (!rng.once_in(3)).then(|| built::text(rng));
-    let record = |_| Record {
+    Record {
         names: [(); 4].map(|_| maybe(rng)),
         event: maybe(rng),
         date: maybe(rng),
@@ -63,12 +63,17 @@ pub fn random() -> Vec<Record> {
         dealer: rng.once_in(2).then(|| *rng.pick(&SEATS)),
         deal: built::some_deal(rng),
         vulnerable: *rng.pick(&SIDES),
-        calls: (0..rng.below(6)).map(|_| some_call(rng)).collect(),
+        calls: (0..rng.below(calls + 1)).map(|_| some_call(rng)).collect(),
         notes: mixed::some_notes(rng, 4),
-        play: calls::some_play(rng, 9),
+        play: calls::some_play(rng, entries),
         result: (!rng.once_in(4)).then(|| *rng.pick(RESULTS)),
-    };
-    (0..450).map(record).collect()
+    }
+}
+
+/// Records with everything by chance.
+pub fn random() -> Vec<Record> {
+    let rng = &mut Rng::new(72);
+    (0..450).map(|_| some_record(rng, 5, 9)).collect()
 }
 
 /// Long texts in each place, and every note at once.

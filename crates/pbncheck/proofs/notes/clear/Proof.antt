@@ -1,9 +1,12 @@
--- `replay_annotation::cases::clear` is safe and ends. The invariant says nothing, and the measure is the number of notes left.
+-- `pbncheck::notes::clear` is safe and ends. The invariant says nothing, and the measure is the number of notes left.
 -- Assumes nothing.
 use Prim.Native.Nat.{_-_}
 use borrow.Author.Needs.{needs}
-use Rattle.replay_annotation.proofs.cases.clear.Statement.{statement}
-use Rattle.replay_annotation.proofs.cases.clear.Tie as tie
+use Rattle.pbncheck.proofs.notes.clear.Statement.{statement}
+use Rattle.pbncheck.proofs.notes.clear.Tie as tie
+use Rattle.pbncheck.proofs.notes.clear.Reads as reads
+use Rattle.pbncheck.proofs.notes.clear.Lts as lts
+use Rattle.pbncheck.proofs.notes.put_absent.Reads as put-absent-reads
 
 abbrev Inv-loop : tie.InvT-loop
 Inv-loop notes₀ n₀ notes n = Unit {0}

@@ -1,14 +1,20 @@
--- `replay_annotation::cases::put_notes` is safe and ends. The invariant says nothing, and the measure is the number of notes left.
+-- `pbncheck::notes::put_notes` is safe and ends. The invariant says nothing, and the measure is the number of notes left.
 -- Assumes nothing.
 use borrow.Author.Needs.{needs}
-use Rattle.replay_annotation.proofs.cases.put_notes.Statement.{statement}
-use Rattle.replay_annotation.proofs.cases.put_notes.Tie as tie
+use Rattle.pbncheck.proofs.notes.put_notes.Statement.{statement}
+use Rattle.pbncheck.proofs.notes.put_notes.Tie as tie
+use Rattle.pbncheck.proofs.notes.put_notes.Reads as reads
+use Rattle.pbncheck.proofs.notes.put_notes.Lts as lts
+use Rattle.boardcheck.proofs.span_of.Reads as span-of-reads
+use Rattle.pbncheck.proofs.notes.put_note.Reads as put-note-reads
+use Rattle.vectors.proofs.field_at.Reads as field-at-reads
+use Rattle.vectors.proofs.number_at.Reads as number-at-reads
 
 abbrev Inv-loop : tie.InvT-loop
-Inv-loop file notes₀ next₀ left₀ notes next left = Unit {0}
+Inv-loop file at count notes₀ next₀ left₀ notes next left = Unit {0}
 
 abbrev μ-loop : tie.MeasureT-loop
-μ-loop file notes₀ next₀ left₀ notes next left = left
+μ-loop file at count notes₀ next₀ left₀ notes next left = left
 
 loop-holds : tie.Need-loop-holds Inv-loop μ-loop
 loop-holds c = search needs

@@ -1,0 +1,63 @@
+//! Buffers between guards, which no call may change.
+
+use super::{same, Same};
+use std::fmt::Debug;
+
+/// How much stands on either side.
+const GUARD: usize = 16;
+
+/// A buffer of some words or bytes, with guards before and after it.
+pub struct Guarded<T> {
+    what: &'static str,
+    all: Vec<T>,
+    guards: Vec<T>,
+}
+
+impl<T: Copy + PartialEq + Debug> Guarded<T> {
+    fn new(what: &'static str, held: &[T], guard: impl Fn(usize) -> T) -> Guarded<T> {
+        let guards: Vec<T> = (0..2 * GUARD).map(guard).collect();
+        let all = [&guards[..GUARD], held, &guards[GUARD..]].concat();
+        Guarded { what, all, guards }
+    }
+
+    /// The buffer, to be lent to a call.
+    pub fn lent(&mut self) -> &mut [T] {
+        let end = self.all.len() - GUARD;
+        &mut self.all[GUARD..end]
+    }
+
+    /// Whether the buffer holds this after the call, and the guards are as they
+    /// were.
+    pub fn holds(&self, want: &[T]) -> Same {
+        let (before, rest) = self.all.split_at(GUARD);
+        let (held, after) = rest.split_at(rest.len() - GUARD);
+        let what = self.what;
+        if before != &self.guards[..GUARD] || after != &self.guards[GUARD..] {
+            return Err(format!("{what}: changed outside of it"));
+        }
+        if held == want {
+            return Ok(());
+        }
+        same(what, held, want)
+    }
+}
+
+/// Bytes that a buffer of this length holds before a call.
+pub fn held(len: usize) -> Vec<u8> {
+    (0..len).map(|i| (i * 7 + 3) as u8).collect()
+}
+
+/// The same of words.
+pub fn held_words(len: usize) -> Vec<u32> {
+    (0..len).map(|i| 0xA5A5_0000 | i as u32).collect()
+}
+
+/// An output, or places for cards, that hold these bytes.
+pub fn bytes(what: &'static str, held: &[u8]) -> Guarded<u8> {
+    Guarded::new(what, held, |i| (i * 11 + 5) as u8)
+}
+
+/// Rows that hold these words.
+pub fn words(what: &'static str, held: &[u32]) -> Guarded<u32> {
+    Guarded::new(what, held, |i| 0x5A5A_0000 | (i * 11) as u32)
+}
