@@ -19,9 +19,9 @@ use Rattle.lin_spec.proofs.Base.{split}
 use Rattle.lin_spec.proofs.Annotation.{part-some}
 use Rattle.output.specs.Put.{Room, Put}
 use Rattle.output.proofs.Laws.{Left, start, step}
-use Rattle.annotation.specs.declared.words.Word.{Word}
-use Rattle.annotation.specs.Words.{frontWord, wordText, spacedWord, spacedLength, textFrom, partsText}
-use Rattle.annotation.proofs.WordLaws.{word-front, spaced-length}
+use Rattle.annotation_words.specs.declared.words.Word.{Word}
+use Rattle.annotation_words.specs.Words.{frontWord, wordText, spacedWord, spacedLength, textFrom, partsText}
+use Rattle.annotation_words.proofs.WordLaws.{word-front, spaced-length}
 
 -- The parts
 

@@ -1,10 +1,7 @@
-// A raw PBN annotation as text: its parts, the word of each, the words joined, and the entry that writes them.
-// (01: From PBN, "Annotation parts ..")
+// A raw PBN annotation as text: its words joined, the notes checked, and the entry. (01: From PBN, "Words join with a space ..")
 mod entry;
 mod notes;
-mod parts;
 mod texts;
-mod words;
 
 pub use entry::annotation_text;
 pub use notes::any_note_faulty;

@@ -1,9 +1,9 @@
 // The text of a raw annotation: how many bytes it has, and put into a lent output, each in one pass over the parts. (01: From PBN, "Words join
 // with a space, none means absent")
-use crate::parts::part_len;
-use crate::words::part_word;
-use crate::words::put_word;
-use crate::words::word_len;
+use annotation_words::part_len;
+use annotation_words::part_word;
+use annotation_words::put_word;
+use annotation_words::word_len;
 use lin_spec::Span;
 use output::sat_add;
 use text::shown;
@@ -16,7 +16,7 @@ ghost use Rattle.lin_spec.specs.Refusals.{sat};
 ghost use Rattle.lin_spec.specs.Writer.{orEmpty};
 ghost use Rattle.lin_spec.specs.Annotation.{annotationText};
 ghost use Rattle.output.specs.Put.{Room, Put};
-ghost use Rattle.annotation.specs.Words.{spacedLength, partsText};
+ghost use Rattle.annotation_words.specs.Words.{spacedLength, partsText};
 
 // The length of words that have n bytes, with a word of w bytes after them.
 fn joined_len(n: u64, w: u64) -> u64

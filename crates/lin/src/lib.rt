@@ -63,7 +63,7 @@ pub use lin_spec::PbnCall;
 pub use pbn::from_board;
 
 // The lines of a listing. (01: Program linlist)
-pub use listing::board_line;
-pub use listing::header_line;
 pub use listing::list_file;
-pub use listing::refusal_line;
+pub use listing_lines::board_line;
+pub use listing_lines::header_line;
+pub use listing_lines::refusal_line;

@@ -1,4 +1,2 @@
-pub mod LineLaws
-pub mod Answers
 pub mod FileLaws
 pub mod FitLaws

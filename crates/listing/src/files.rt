@@ -1,9 +1,5 @@
 // All that linlist prints for an input, as one entry: the sections of the file are passed twice, once to measure the lines and once to
 // put them. (01: Program linlist)
-use crate::lines::board_line_len;
-use crate::lines::put_board_line;
-use crate::lines::put_header;
-use crate::lines::refusal_line;
 use board::heading_at;
 use file::BoardCursor;
 use file::BoardStep;
@@ -14,6 +10,10 @@ use lin_spec::Heading;
 use lin_spec::Refusal;
 use lin_spec::Written;
 use lin_spec::room;
+use listing_lines::board_line_len;
+use listing_lines::put_board_line;
+use listing_lines::put_header;
+use listing_lines::refusal_line;
 use output::sat_add;
 ghost use mathlib.Core.Path.{_≡_};
 ghost use mathlib.Core.List.{_++_};

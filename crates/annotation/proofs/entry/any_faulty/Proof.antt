@@ -7,24 +7,16 @@ use Rattle.annotation.proofs.Answers.{raw-found, raw-next}
 use borrow.Author.Needs.{needs}
 use Rattle.annotation.proofs.entry.any_faulty.Statement.{statement}
 use Rattle.annotation.proofs.entry.any_faulty.Tie as tie
-use Rattle.annotation.proofs.entry.any_faulty.Reads as reads
-use Rattle.annotation.proofs.entry.any_faulty.Lts as lts
-use Rattle.annotation.proofs.notes.any_note_faulty.Reads as any-note-faulty-reads
-use Rattle.text.proofs.faulty.Reads as faulty-reads
 
--- src/entry.rt:22:8
 faulty-requires : tie.Need-faulty-requires
 faulty-requires c κs = search needs
 
--- src/entry.rt:23:9
 returns : tie.Need-returns
 returns c = raw-found (faultOf (c .before .before .before .args .fault) (now (c .before .before .before .args .text))) _ _ (sym (c .before .faulty .ensures) ∙ c .if1 .taken)
 
--- src/entry.rt:25:5
 any-note-faulty-requires : tie.Need-any-note-faulty-requires
 any-note-faulty-requires c κs = search needs
 
--- src/entry.rt:19:1
 returns-2 : tie.Need-returns-2
 returns-2 c = raw-next (faultOf (c .before .before .before .before .args .fault) (now (c .before .before .before .before .args .text))) _ _ (sym (c .before .before .faulty .ensures) ∙ c .before .if1 .left) _ (c .any-note-faulty .ensures)
 

@@ -11,9 +11,6 @@ use Rattle.text.specs.Fault.{faultOf}
 use Rattle.annotation.proofs.NoteLaws.{any-note-end, any-note-found, any-note-next}
 use Rattle.annotation.proofs.notes.any_note_faulty.Statement.{statement}
 use Rattle.annotation.proofs.notes.any_note_faulty.Tie as tie
-use Rattle.annotation.proofs.notes.any_note_faulty.Reads as reads
-use Rattle.annotation.proofs.notes.any_note_faulty.Lts as lts
-use Rattle.annotation.proofs.notes.note_faulty.Reads as note-faulty-reads
 
 abbrev Inv-loop : tie.InvT-loop
 Inv-loop text notes fault words i₀ i = (i ≤ length words) × (any (faultOf fault text) (noteSpans (drop i words)) ≡ any (faultOf fault text) (noteSpans words))
@@ -21,35 +18,27 @@ Inv-loop text notes fault words i₀ i = (i ≤ length words) × (any (faultOf f
 abbrev μ-loop : tie.MeasureT-loop
 μ-loop text notes fault words i₀ i = length words - i
 
--- src/notes.rt:34:5
 loop-holds : tie.Need-loop-holds Inv-loop μ-loop
 loop-holds c = (omega arith, refl)
 
--- src/notes.rt:34:16
 sub-loop : tie.Need-sub-loop Inv-loop μ-loop
 sub-loop c = omega arith
 
--- src/notes.rt:35:12
 note-faulty-requires : tie.Need-note-faulty-requires Inv-loop μ-loop
 note-faulty-requires c κs = omega arith
 
--- src/notes.rt:36:13
 returns : tie.Need-returns Inv-loop μ-loop
 returns c = any-note-found (faultOf (c .before .before .before .before .before .before .args .fault) (now (c .before .before .before .before .before .before .args .text))) _ _ (c .before .before .before .loop .inv .1) (c .before .before .loop-test .taken) _ (c .before .note-faulty .ensures) (c .if1 .taken)
 
--- src/notes.rt:38:9
 add-i : tie.Need-add-i Inv-loop μ-loop
 add-i c = omega arith
 
--- src/notes.rt:34:5
 loop-less : tie.Need-loop-less Inv-loop μ-loop
 loop-less c = omega arith
 
--- src/notes.rt:34:5
 loop-again : tie.Need-loop-again Inv-loop μ-loop
 loop-again c = (omega arith, any-note-next (faultOf (c .before .before .before .before .before .before .args .fault) (now (c .before .before .before .before .before .before .args .text))) _ _ (c .before .before .before .loop .inv .1) (c .before .before .loop-test .taken) _ (c .before .note-faulty .ensures) (c .if1 .left))
 
--- src/notes.rt:29:1
 returns-2 : tie.Need-returns-2 Inv-loop μ-loop
 returns-2 c = any-note-end (faultOf (c .before .before .before .before .args .fault) (now (c .before .before .before .before .args .text))) _ _ (c .before .loop .inv .1) (c .loop-test .left)
 

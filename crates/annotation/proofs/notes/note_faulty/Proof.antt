@@ -6,51 +6,37 @@ use Rattle.annotation.proofs.NoteLaws.{note-none, note-one}
 use borrow.Author.Needs.{needs}
 use Rattle.annotation.proofs.notes.note_faulty.Statement.{statement}
 use Rattle.annotation.proofs.notes.note_faulty.Tie as tie
-use Rattle.annotation.proofs.notes.note_faulty.Reads as reads
-use Rattle.annotation.proofs.notes.note_faulty.Lts as lts
-use Rattle.text.proofs.faulty.Reads as faulty-reads
 
--- src/notes.rt:18:8
 mul-if1 : tie.Need-mul-if1
 mul-if1 c = search needs
 
--- src/notes.rt:18:8
 shared-slice-read-if1 : tie.Need-shared-slice-read-if1
 shared-slice-read-if1 c = search needs
 
--- src/notes.rt:19:9
 returns : tie.Need-returns
 returns c = note-none (faultOf (c .before .before .before .before .args .fault) (now (c .before .before .before .before .args .text))) (now (c .before .before .before .before .args .words)) (c .before .before .before .before .args .i) (c .if1 .taken)
 
--- src/notes.rt:22:22
 add-t6 : tie.Need-add-t6
 add-t6 c = search needs
 
--- src/notes.rt:22:16
 mul-t10 : tie.Need-mul-t10
 mul-t10 c = search needs
 
--- src/notes.rt:22:16
 shared-slice-read-t8 : tie.Need-shared-slice-read-t8
 shared-slice-read-t8 c = search needs
 
--- src/notes.rt:23:20
 add-t12 : tie.Need-add-t12
 add-t12 c = search needs
 
--- src/notes.rt:23:14
 mul-t13 : tie.Need-mul-t13
 mul-t13 c = search needs
 
--- src/notes.rt:23:14
 shared-slice-read-t15 : tie.Need-shared-slice-read-t15
 shared-slice-read-t15 c = search needs
 
--- src/notes.rt:25:5
 faulty-requires : tie.Need-faulty-requires
 faulty-requires c κs = search needs
 
--- src/notes.rt:14:1
 returns-2 : tie.Need-returns-2
 returns-2 c = note-one (faultOf (c .before .before .before .before .before .before .before .args .fault) (now (c .before .before .before .before .before .before .before .args .text))) (now (c .before .before .before .before .before .before .before .args .words)) (c .before .before .before .before .before .before .before .args .i) (c .before .before .before .if1 .left) _ (c .faulty .ensures)
 

@@ -6,25 +6,18 @@ use mathlib.Core.List.{List}
 use lib.ListN.{length}
 use denote.Ref.{now}
 use Rattle.lin_spec.specs.Refusals.{sat}
-use Rattle.annotation.specs.Words.{partsText}
+use Rattle.annotation_words.specs.Words.{partsText}
 use Rattle.annotation.proofs.AnnotationLaws.{text-is}
 use borrow.Author.Needs.{needs}
 use Rattle.annotation.proofs.texts.annotation_len.Statement.{statement}
 use Rattle.annotation.proofs.texts.annotation_len.Tie as tie
-use Rattle.annotation.proofs.texts.annotation_len.Reads as reads
-use Rattle.annotation.proofs.texts.annotation_len.Lts as lts
-use Rattle.annotation.proofs.texts.words_len.Reads as words-len-reads
-use Rattle.text.proofs.shown.Reads as shown-reads
 
--- src/texts.rt:71:21
 shown-requires : tie.Need-shown-requires
 shown-requires c κs = search needs
 
--- src/texts.rt:71:5
 words-len-requires : tie.Need-words-len-requires
 words-len-requires c κs = search needs
 
--- src/texts.rt:68:1
 returns : tie.Need-returns
 returns c = c .words-len .ensures ∙ ap (λ (x : List ℕ). sat (length x)) (ap (partsText (now (c .before .before .before .args .text)) (now (c .before .before .before .args .notes))) (c .before .shown .ensures) ∙ text-is (now (c .before .before .before .args .text)) (now (c .before .before .before .args .notes)) _)
 

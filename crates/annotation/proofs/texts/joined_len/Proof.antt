@@ -1,31 +1,23 @@
 -- `annotation::joined_len` meets its contract: nothing, the word, or a space and the word.
 -- Assumes nothing.
 use native.Mathlib.Omega.{arith}
-use Rattle.annotation.proofs.WordLaws.{joined-none, joined-first, joined-later}
+use Rattle.annotation_words.proofs.WordLaws.{joined-none, joined-first, joined-later}
 use borrow.Author.Needs.{needs}
 use Rattle.annotation.proofs.texts.joined_len.Statement.{statement}
 use Rattle.annotation.proofs.texts.joined_len.Tie as tie
-use Rattle.annotation.proofs.texts.joined_len.Reads as reads
-use Rattle.annotation.proofs.texts.joined_len.Lts as lts
-use Rattle.output.proofs.sat_add.Reads as sat-add-reads
 
--- src/texts.rt:26:9
 returns : tie.Need-returns
 returns c = joined-none (c .before .args .n) _ (omega arith) (c .if1 .taken)
 
--- src/texts.rt:29:9
 returns-2 : tie.Need-returns-2
 returns-2 c = joined-first _ (c .before .before .args .w) (omega arith) (c .before .if1 .left) (c .if2 .taken)
 
--- src/texts.rt:31:13
 sat-add-requires : tie.Need-sat-add-requires
 sat-add-requires c κs = search needs
 
--- src/texts.rt:31:5
 sat-add-requires-2 : tie.Need-sat-add-requires-2
 sat-add-requires-2 c κs = search needs
 
--- src/texts.rt:22:1
 returns-3 : tie.Need-returns-3
 returns-3 c = joined-later _ _ (c .before .before .before .if1 .left) (c .before .before .if2 .left) _ (c .before .sat-add .ensures) _ (c .sat-add2 .ensures)
 

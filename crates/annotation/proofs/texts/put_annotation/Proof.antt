@@ -2,30 +2,22 @@
 -- Assumes nothing.
 use mathlib.Core.Path.{ap, sym, _∙_}
 use denote.Ref.{now}
-use Rattle.annotation.specs.Words.{partsText}
-use Rattle.annotation.proofs.WordLaws.{room-as, put-as}
+use Rattle.annotation_words.specs.Words.{partsText}
+use Rattle.annotation_words.proofs.WordLaws.{room-as, put-as}
 use Rattle.annotation.proofs.AnnotationLaws.{text-is}
 use borrow.Author.Needs.{needs}
 use Rattle.annotation.proofs.texts.put_annotation.Statement.{statement}
 use Rattle.annotation.proofs.texts.put_annotation.Tie as tie
-use Rattle.annotation.proofs.texts.put_annotation.Reads as reads
-use Rattle.annotation.proofs.texts.put_annotation.Lts as lts
-use Rattle.annotation.proofs.texts.put_words.Reads as put-words-reads
-use Rattle.text.proofs.shown.Reads as shown-reads
 
--- src/texts.rt:85:30
 shown-requires : tie.Need-shown-requires
 shown-requires c κs = search needs
 
--- src/texts.rt:85:5
 put-words-requires : tie.Need-put-words-requires
 put-words-requires c κs = room-as (sym (ap (partsText (now (c .before .before .before .before .args .text)) (now (c .before .before .before .before .args .notes))) (c .shown .ensures) ∙ text-is (now (c .before .before .before .before .args .text)) (now (c .before .before .before .before .args .notes)) _)) (c .before .before .before .before .pre)
 
--- src/texts.rt:75:1
 same-length : tie.Need-same-length
 same-length c = search needs
 
--- src/texts.rt:75:1
 returns : tie.Need-returns
 returns c = put-as (ap (partsText (now (c .before .before .before .before .before .before .before .args .text)) (now (c .before .before .before .before .before .before .before .args .notes))) (c .before .before .before .shown .ensures) ∙ text-is (now (c .before .before .before .before .before .before .before .args .text)) (now (c .before .before .before .before .before .before .before .args .notes)) _) (c .before .before .put-words .ensures)
 

@@ -7,15 +7,10 @@ use lib.Dec.{ltb}
 use denote.Ref.{now}
 use Rattle.lin_spec.specs.Annotation.{annotationParts}
 use Rattle.output.proofs.Laws.{Left, roomy, finish}
-use Rattle.annotation.specs.Words.{textFrom, partsText}
+use Rattle.annotation_words.specs.Words.{textFrom, partsText}
 use Rattle.annotation.proofs.AnnotationLaws.{part-taken, part-moves, put-start, put-left, put-turn, put-end}
 use Rattle.annotation.proofs.texts.put_words.Statement.{statement}
 use Rattle.annotation.proofs.texts.put_words.Tie as tie
-use Rattle.annotation.proofs.texts.put_words.Reads as reads
-use Rattle.annotation.proofs.texts.put_words.Lts as lts
-use Rattle.annotation.proofs.parts.part_len.Reads as part-len-reads
-use Rattle.annotation.proofs.words.part_word.Reads as part-word-reads
-use Rattle.annotation.proofs.words.put_word.Reads as put-word-reads
 
 abbrev Inv-loop : tie.InvT-loop
 Inv-loop out₀ at text raw notes i₀ o₀ out i o =
@@ -24,58 +19,45 @@ Inv-loop out₀ at text raw notes i₀ o₀ out i o =
 abbrev μ-loop : tie.MeasureT-loop
 μ-loop out₀ at text raw notes i₀ o₀ out i o = length raw - i
 
--- src/texts.rt:57:5
 loop-holds : tie.Need-loop-holds Inv-loop μ-loop
 loop-holds c = (omega arith, omega arith, put-start (now (c .before .before .before .args .text)) (now (c .before .before .before .args .notes)) (now (c .before .before .before .args .raw)) (c .before .before .before .pre))
 
--- src/texts.rt:58:20
 sub-rest : tie.Need-sub-rest Inv-loop μ-loop
 sub-rest c = omega arith
 
--- src/texts.rt:58:20
 part-rest-start : tie.Need-part-rest-start Inv-loop μ-loop
 part-rest-start c = omega arith
 
--- src/texts.rt:58:20
 part-rest-end : tie.Need-part-rest-end Inv-loop μ-loop
 part-rest-end c = omega arith
 
--- src/texts.rt:59:13
 part-len-requires : tie.Need-part-len-requires Inv-loop μ-loop
 part-len-requires c κs = tt
 
--- src/texts.rt:60:13
 slice-aggregate-part : tie.Need-slice-aggregate-part Inv-loop μ-loop
 slice-aggregate-part c = part-taken _ _ (c .before .part-len .ensures)
 
--- src/texts.rt:61:50
 part-word-requires : tie.Need-part-word-requires Inv-loop μ-loop
 part-word-requires c κs = tt
 
--- src/texts.rt:61:9
 put-word-requires : tie.Need-put-word-requires Inv-loop μ-loop
 put-word-requires c κs = roomy _ _ (put-left (now (c .before .before .before .before .before .before .before .before .before .before .args .text)) (now (c .before .before .before .before .before .before .before .before .before .before .args .notes)) (now (c .before .before .before .before .before .before .before .before .before .before .args .raw)) (c .before .before .before .before .before .before .loop .i) (c .before .before .before .before .before .loop-test .taken) _ (c .before .before .before .part-len .ensures) _ (c .part-word .ensures) (c .before .before .before .before .before .before .loop .inv .1) (c .before .before .before .before .before .before .loop .inv .2))
 
--- src/texts.rt:62:9
 add-i : tie.Need-add-i Inv-loop μ-loop
 add-i c = omega (arith, part-moves (now (c .before .before .before .before .before .before .before .before .before .before .before .before .before .args .text)) (now (c .before .before .before .before .before .before .before .before .before .before .before .before .before .args .notes)) (now (c .before .before .before .before .before .before .before .before .before .before .before .before .before .args .raw)) (c .before .before .before .before .before .before .before .before .before .loop .i) (c .before .before .before .before .before .before .before .before .loop-test .taken) _ (c .before .before .before .before .before .before .part-len .ensures))
 
--- src/texts.rt:57:5
 loop-less : tie.Need-loop-less Inv-loop μ-loop
 loop-less c = omega (arith, part-moves (now (c .before .before .before .before .before .before .before .before .before .before .before .before .before .args .text)) (now (c .before .before .before .before .before .before .before .before .before .before .before .before .before .args .notes)) (now (c .before .before .before .before .before .before .before .before .before .before .before .before .before .args .raw)) (c .before .before .before .before .before .before .before .before .before .loop .i) (c .before .before .before .before .before .before .before .before .loop-test .taken) _ (c .before .before .before .before .before .before .part-len .ensures))
 
--- src/texts.rt:57:5
 loop-again : tie.Need-loop-again Inv-loop μ-loop
 loop-again c =
     let m = part-moves (now (c .before .before .before .before .before .before .before .before .before .before .before .before .before .args .text)) (now (c .before .before .before .before .before .before .before .before .before .before .before .before .before .args .notes)) (now (c .before .before .before .before .before .before .before .before .before .before .before .before .before .args .raw)) (c .before .before .before .before .before .before .before .before .before .loop .i) (c .before .before .before .before .before .before .before .before .loop-test .taken) _ (c .before .before .before .before .before .before .part-len .ensures) in
     let t = put-turn (now (c .before .before .before .before .before .before .before .before .before .before .before .before .before .args .text)) (now (c .before .before .before .before .before .before .before .before .before .before .before .before .before .args .notes)) (now (c .before .before .before .before .before .before .before .before .before .before .before .before .before .args .raw)) (c .before .before .before .before .before .before .before .before .before .loop .i) (c .before .before .before .before .before .before .before .before .loop-test .taken) _ (c .before .before .before .before .before .before .part-len .ensures) _ (c .before .before .before .part-word .ensures) (c .before .before .before .before .before .before .before .before .before .loop .inv .1) (c .before .before .before .before .before .before .before .before .before .loop .inv .2) (c .before .before .put-word .ensures) in
     (omega (arith, m), t .0, t .1)
 
--- src/texts.rt:51:1
 same-length : tie.Need-same-length Inv-loop μ-loop
 same-length c = c .before .loop .inv .2 .long
 
--- src/texts.rt:51:1
 returns : tie.Need-returns Inv-loop μ-loop
 returns c = finish (put-end (now (c .before .before .before .before .before .args .text)) (now (c .before .before .before .before .before .args .notes)) (now (c .before .before .before .before .before .args .raw)) (c .before .loop .i) (c .loop-test .left) (c .before .loop .inv .2))
 

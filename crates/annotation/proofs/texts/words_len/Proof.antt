@@ -8,16 +8,10 @@ use lib.Dec.{ltb}
 use denote.Ref.{now}
 use Rattle.lin_spec.specs.Refusals.{sat}
 use Rattle.lin_spec.specs.Annotation.{annotationParts}
-use Rattle.annotation.specs.Words.{textFrom, partsText}
+use Rattle.annotation_words.specs.Words.{textFrom, partsText}
 use Rattle.annotation.proofs.AnnotationLaws.{part-taken, part-moves, count-start, count-turn, count-end}
 use Rattle.annotation.proofs.texts.words_len.Statement.{statement}
 use Rattle.annotation.proofs.texts.words_len.Tie as tie
-use Rattle.annotation.proofs.texts.words_len.Reads as reads
-use Rattle.annotation.proofs.texts.words_len.Lts as lts
-use Rattle.annotation.proofs.parts.part_len.Reads as part-len-reads
-use Rattle.annotation.proofs.texts.joined_len.Reads as joined-len-reads
-use Rattle.annotation.proofs.words.part_word.Reads as part-word-reads
-use Rattle.annotation.proofs.words.word_len.Reads as word-len-reads
 
 abbrev Inv-loop : tie.InvT-loop
 Inv-loop text raw notes i₀ n₀ i n =
@@ -26,57 +20,44 @@ Inv-loop text raw notes i₀ n₀ i n =
 abbrev μ-loop : tie.MeasureT-loop
 μ-loop text raw notes i₀ n₀ i n = length raw - i
 
--- src/texts.rt:40:5
 loop-holds : tie.Need-loop-holds Inv-loop μ-loop
 loop-holds c = (omega arith, count-start (now (c .before .before .args .text)) (now (c .before .before .args .notes)) (now (c .before .before .args .raw)), omega arith)
 
--- src/texts.rt:41:20
 sub-rest : tie.Need-sub-rest Inv-loop μ-loop
 sub-rest c = omega arith
 
--- src/texts.rt:41:20
 part-rest-start : tie.Need-part-rest-start Inv-loop μ-loop
 part-rest-start c = omega arith
 
--- src/texts.rt:41:20
 part-rest-end : tie.Need-part-rest-end Inv-loop μ-loop
 part-rest-end c = omega arith
 
--- src/texts.rt:42:13
 part-len-requires : tie.Need-part-len-requires Inv-loop μ-loop
 part-len-requires c κs = tt
 
--- src/texts.rt:43:13
 slice-aggregate-part : tie.Need-slice-aggregate-part Inv-loop μ-loop
 slice-aggregate-part c = part-taken _ _ (c .before .part-len .ensures)
 
--- src/texts.rt:44:48
 part-word-requires : tie.Need-part-word-requires Inv-loop μ-loop
 part-word-requires c κs = tt
 
--- src/texts.rt:44:27
 word-len-requires : tie.Need-word-len-requires Inv-loop μ-loop
 word-len-requires c κs = tt
 
--- src/texts.rt:44:9
 joined-len-requires : tie.Need-joined-len-requires Inv-loop μ-loop
 joined-len-requires c κs = tt
 
--- src/texts.rt:45:9
 add-i : tie.Need-add-i Inv-loop μ-loop
 add-i c = omega (arith, part-moves (now (c .before .before .before .before .before .before .before .before .before .before .args .text)) (now (c .before .before .before .before .before .before .before .before .before .before .args .notes)) (now (c .before .before .before .before .before .before .before .before .before .before .args .raw)) (c .before .before .before .before .before .before .before .loop .i) (c .before .before .before .before .before .before .loop-test .taken) _ (c .before .before .before .before .part-len .ensures))
 
--- src/texts.rt:40:5
 loop-less : tie.Need-loop-less Inv-loop μ-loop
 loop-less c = omega (arith, part-moves (now (c .before .before .before .before .before .before .before .before .before .before .args .text)) (now (c .before .before .before .before .before .before .before .before .before .before .args .notes)) (now (c .before .before .before .before .before .before .before .before .before .before .args .raw)) (c .before .before .before .before .before .before .before .loop .i) (c .before .before .before .before .before .before .loop-test .taken) _ (c .before .before .before .before .part-len .ensures))
 
--- src/texts.rt:40:5
 loop-again : tie.Need-loop-again Inv-loop μ-loop
 loop-again c =
     let m = part-moves (now (c .before .before .before .before .before .before .before .before .before .before .args .text)) (now (c .before .before .before .before .before .before .before .before .before .before .args .notes)) (now (c .before .before .before .before .before .before .before .before .before .before .args .raw)) (c .before .before .before .before .before .before .before .loop .i) (c .before .before .before .before .before .before .loop-test .taken) _ (c .before .before .before .before .part-len .ensures) in
     (omega (arith, m), count-turn (now (c .before .before .before .before .before .before .before .before .before .before .args .text)) (now (c .before .before .before .before .before .before .before .before .before .before .args .notes)) (now (c .before .before .before .before .before .before .before .before .before .before .args .raw)) (c .before .before .before .before .before .before .before .loop .i) (c .before .before .before .before .before .before .loop-test .taken) _ (c .before .before .before .before .part-len .ensures) _ (c .before .before .part-word .ensures) _ _ _ (c .before .word-len .ensures) (c .joined-len .ensures) _ (c .before .before .before .before .before .before .before .loop .inv .1), omega (arith, c .joined-len .ensures))
 
--- src/texts.rt:35:1
 returns : tie.Need-returns Inv-loop μ-loop
 returns c = count-end (now (c .before .before .before .before .args .text)) (now (c .before .before .before .before .args .notes)) (now (c .before .before .before .before .args .raw)) (c .before .loop .i) (c .loop-test .left) _ _ (c .before .loop .inv .2) (c .before .loop .inv .1)
 
