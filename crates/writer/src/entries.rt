@@ -1,6 +1,6 @@
 // The entries that write a board: `write_lin` from the first byte on, append after the used bytes. (01: Writer; Eight refusals)
-use crate::boards::board_len;
-use crate::boards::put_board;
+use boardtext::board_len;
+use boardtext::put_board;
 use cleaning::Marks;
 use lent::check;
 use lin_spec::Board;
@@ -14,7 +14,7 @@ ghost use Prim.Native.Nat.{_≤_};
 ghost use Rattle.lin_spec.specs.Lent.{lent, badCards};
 ghost use Rattle.lin_spec.specs.Output.{Outcome, answerOf, room as roomOf};
 ghost use Rattle.lin_spec.specs.Append.{appended, append as appendOf, writeLin};
-ghost use Rattle.writer.specs.Filing.{filing, fitted};
+ghost use Rattle.boardtext.specs.Filing.{filing, fitted};
 
 // Puts a board that the checks before 7 have passed after the used bytes, if there is room for it.
 fn append_checked(

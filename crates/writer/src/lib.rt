@@ -1,7 +1,5 @@
 // Boards written as LIN: `write_lin`, and append. (01: Writer and settled form; upstream's writer.rs)
-mod boards;
 mod entries;
-mod heading;
 
 pub use entries::append;
 pub use entries::append_with;

@@ -20,8 +20,8 @@ use Rattle.cleaning.specs.Texts.{emptyOr, headerText, namesText}
 use Rattle.cleaning.specs.Calls.{callsBytes}
 use Rattle.cleaning.specs.declared.texts.Marks.{Marks}
 use Rattle.cleaning.proofs.TextLaws.{clean-length}
-use Rattle.writer.specs.Filing.{filing}
-use Rattle.writer.specs.Pieces.{headingText, dealingText, claimedText, boardPieces}
+use Rattle.boardtext.specs.Filing.{filing}
+use Rattle.boardtext.specs.Pieces.{headingText, dealingText, claimedText, boardPieces}
 
 pub written-is : (m : Marks) (s : List ℕ) (b : Board) (ws cs : List ℕ) → writtenForm (filing m s b ws cs) ≡ joined (boardPieces (m .pipe) (m .line) s b ws cs)
 unfolding writtenForm written meaning lentBoard mapBoard namesText callsBytes headingText dealingText

@@ -26,8 +26,8 @@ ghost use Rattle.lin_spec.specs.Writer.{claimText};
 ghost use Rattle.lin_spec.specs.Lent.{claimOf, badCards};
 ghost use Rattle.lin_spec.specs.Append.{writtenForm};
 ghost use Rattle.output.specs.Put.{Room, Put};
-ghost use Rattle.writer.specs.Pieces.{claimedText, dealingText};
-ghost use Rattle.writer.specs.Filing.{filing};
+ghost use Rattle.boardtext.specs.Pieces.{claimedText, dealingText};
+ghost use Rattle.boardtext.specs.Filing.{filing};
 
 const MD: [u8; 3] = *b"md|";
 
@@ -104,7 +104,7 @@ fn claim_len(claim: MaybeClaim) -> u64
 }
 
 // Puts a board.
-pub(crate) fn put_board(
+pub fn put_board(
     out: &mut [u8],
     at: usize,
     text: &[u8],
@@ -126,7 +126,7 @@ pub(crate) fn put_board(
 }
 
 // How many bytes it has.
-pub(crate) fn board_len(text: &[u8], board: Board, rows: &[u32], cards: &[u8], marks: Marks) -> u64
+pub fn board_len(text: &[u8], board: Board, rows: &[u32], cards: &[u8], marks: Marks) -> u64
     ensures { λ r. ⌜ r ≡ sat (length (writtenForm (filing marks (now (text .entry)) board (now (rows .entry)) (now (cards .entry))))) ⌝ }
 {
     let claim = board.claim;

@@ -4,10 +4,10 @@ use Prim.Native.Nat.{ℕ}
 use mathlib.Core.Path.{ap, sym, _∙_}
 use denote.Ref.{now}
 use Rattle.lin_spec.specs.Refusals.{sat}
-use Rattle.writer.proofs.PieceLaws.{heading-long, heading-sum}
+use Rattle.boardtext.proofs.PieceLaws.{heading-long, heading-sum}
 use borrow.Author.Needs.{needs}
-use Rattle.writer.proofs.heading.heading_len.Statement.{statement}
-use Rattle.writer.proofs.heading.heading_len.Tie as tie
+use Rattle.boardtext.proofs.heading.heading_len.Statement.{statement}
+use Rattle.boardtext.proofs.heading.heading_len.Tie as tie
 
 text-len-requires : tie.Need-text-len-requires
 text-len-requires c κs = search needs

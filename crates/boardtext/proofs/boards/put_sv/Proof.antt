@@ -1,8 +1,8 @@
 -- `writer::put_sv` meets its contract: the letter of the vulnerability is what is put.
 -- Assumes nothing.
 use borrow.Author.Needs.{needs}
-use Rattle.writer.proofs.boards.put_sv.Statement.{statement}
-use Rattle.writer.proofs.boards.put_sv.Tie as tie
+use Rattle.boardtext.proofs.boards.put_sv.Statement.{statement}
+use Rattle.boardtext.proofs.boards.put_sv.Tie as tie
 
 letter-requires : tie.Need-letter-requires
 letter-requires c κs = search needs

@@ -4,10 +4,10 @@ use Prim.Native.Nat.{ℕ}
 use mathlib.Core.Path.{ap, sym, _∙_}
 use denote.Ref.{now}
 use Rattle.lin_spec.specs.Refusals.{sat}
-use Rattle.writer.proofs.PieceLaws.{written-long, board-sum}
+use Rattle.boardtext.proofs.PieceLaws.{written-long, board-sum}
 use borrow.Author.Needs.{needs}
-use Rattle.writer.proofs.boards.board_len.Statement.{statement}
-use Rattle.writer.proofs.boards.board_len.Tie as tie
+use Rattle.boardtext.proofs.boards.board_len.Statement.{statement}
+use Rattle.boardtext.proofs.boards.board_len.Tie as tie
 
 heading-len-requires : tie.Need-heading-len-requires
 heading-len-requires c κs = search needs

@@ -6,10 +6,10 @@ use lib.ListN.{drop}
 use denote.Ref.{now}
 use Rattle.output.specs.Put.{joined}
 use Rattle.output.proofs.Laws.{Left, start, roomy, step, finish}
-use Rattle.writer.specs.Pieces.{dealingPieces, dealingText}
+use Rattle.boardtext.specs.Pieces.{dealingPieces, dealingText}
 use borrow.Author.Needs.{needs}
-use Rattle.writer.proofs.boards.put_dealing.Statement.{statement}
-use Rattle.writer.proofs.boards.put_dealing.Tie as tie
+use Rattle.boardtext.proofs.boards.put_dealing.Statement.{statement}
+use Rattle.boardtext.proofs.boards.put_dealing.Tie as tie
 
 -- what is left to write after k of the puts
 abbrev After : ℕ → tie.Start → List ℕ → ℕ → Type 0

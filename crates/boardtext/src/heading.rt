@@ -13,7 +13,7 @@ ghost use mathlib.Core.Path.{_≡_};
 ghost use lib.ListN.{length};
 ghost use Rattle.lin_spec.specs.Refusals.{sat};
 ghost use Rattle.output.specs.Put.{Room, Put};
-ghost use Rattle.writer.specs.Pieces.{headingText};
+ghost use Rattle.boardtext.specs.Pieces.{headingText};
 
 const MN: [u8; 3] = *b"mn|";
 

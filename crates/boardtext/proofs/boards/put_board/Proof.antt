@@ -7,12 +7,12 @@ use denote.Ref.{now}
 use Rattle.output.specs.Put.{joined}
 use Rattle.output.proofs.Laws.{Left, start, roomy, step, finish}
 use Rattle.lin_spec.specs.Append.{writtenForm}
-use Rattle.writer.specs.Pieces.{boardPieces}
-use Rattle.writer.specs.Filing.{filing}
-use Rattle.writer.proofs.PieceLaws.{written-is}
+use Rattle.boardtext.specs.Pieces.{boardPieces}
+use Rattle.boardtext.specs.Filing.{filing}
+use Rattle.boardtext.proofs.PieceLaws.{written-is}
 use borrow.Author.Needs.{needs}
-use Rattle.writer.proofs.boards.put_board.Statement.{statement}
-use Rattle.writer.proofs.boards.put_board.Tie as tie
+use Rattle.boardtext.proofs.boards.put_board.Statement.{statement}
+use Rattle.boardtext.proofs.boards.put_board.Tie as tie
 
 -- what is left to write after k of the puts
 abbrev After : ℕ → tie.Start → List ℕ → ℕ → Type 0

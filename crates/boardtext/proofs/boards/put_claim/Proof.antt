@@ -1,10 +1,10 @@
 -- `writer::put_claim` meets its contract: nothing, or one put.
 -- Assumes nothing.
 use Rattle.output.proofs.Laws.{start, finish}
-use Rattle.writer.proofs.PieceLaws.{claimed-is}
+use Rattle.boardtext.proofs.PieceLaws.{claimed-is}
 use borrow.Author.Needs.{needs}
-use Rattle.writer.proofs.boards.put_claim.Statement.{statement}
-use Rattle.writer.proofs.boards.put_claim.Tie as tie
+use Rattle.boardtext.proofs.boards.put_claim.Statement.{statement}
+use Rattle.boardtext.proofs.boards.put_claim.Tie as tie
 
 enum-told : tie.Need-enum-told
 enum-told c = search needs

@@ -1,10 +1,10 @@
 -- `writer::claim_len` meets its contract: nothing, or the length of one put.
 -- Assumes nothing.
-use Rattle.writer.proofs.PieceLaws.{claim-long}
+use Rattle.boardtext.proofs.PieceLaws.{claim-long}
 use borrow.Author.Needs.{needs}
 use native.Mathlib.Omega.{arith}
-use Rattle.writer.proofs.boards.claim_len.Statement.{statement}
-use Rattle.writer.proofs.boards.claim_len.Tie as tie
+use Rattle.boardtext.proofs.boards.claim_len.Statement.{statement}
+use Rattle.boardtext.proofs.boards.claim_len.Tie as tie
 
 enum-told : tie.Need-enum-told
 enum-told c = search needs

@@ -1,10 +1,10 @@
 -- `writer::dealing_len` meets its contract: the sum of the lengths of the pieces.
 -- Assumes nothing.
-use Rattle.writer.proofs.PieceLaws.{dealing-long}
+use Rattle.boardtext.proofs.PieceLaws.{dealing-long}
 use borrow.Author.Needs.{needs}
 use native.Mathlib.Omega.{arith}
-use Rattle.writer.proofs.boards.dealing_len.Statement.{statement}
-use Rattle.writer.proofs.boards.dealing_len.Tie as tie
+use Rattle.boardtext.proofs.boards.dealing_len.Statement.{statement}
+use Rattle.boardtext.proofs.boards.dealing_len.Tie as tie
 
 md-len-requires : tie.Need-md-len-requires
 md-len-requires c κs = search needs
