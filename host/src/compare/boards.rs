@@ -31,8 +31,16 @@ pub fn board(bytes: &[u8]) -> Same {
     lent(bytes, &read, &got)
 }
 
+/// The fields alone of the board of a text that opens.
+pub fn read(bytes: &[u8]) -> Same {
+    let text = std::str::from_utf8(bytes).map_err(|e| e.to_string())?;
+    let Ok(want) = oracle::lin::parse_lin(text);
+    let got = boards::board(bytes).map_err(|r| format!("refused: {r:?}"))?;
+    as_upstream(&got, &want)
+}
+
 /// Every field of a board.
-pub(super) fn as_upstream(got: &Board, want: &LinData) -> Same {
+pub fn as_upstream(got: &Board, want: &LinData) -> Same {
     fields(got, &upstream::board(want))
 }
 
