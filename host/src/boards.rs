@@ -42,6 +42,7 @@ impl Seat {
     pub const ALL: [Seat; 4] = [Seat::South, Seat::West, Seat::North, Seat::East];
 }
 
+/// Which sides are vulnerable.
 #[derive(Debug, Clone, Copy, PartialEq, Eq)]
 pub enum Vulnerability {
     None,
@@ -168,23 +169,28 @@ pub struct Heading<'a> {
     pub dealer: Seat,
     pub deal: Deal,
     pub vulnerability: Vulnerability,
+    /// What mn, qx and ah say.
     pub title: Option<&'a [u8]>,
     pub room_board: Option<&'a [u8]>,
     pub board_header: Option<&'a [u8]>,
+    /// The tricks that are claimed.
     pub claim: Option<u8>,
     /// How many calls and how many cards of play the board has.
     pub calls: usize,
     pub cards: usize,
 }
 
+/// A call of the auction.
 #[derive(Debug, Clone, Copy, PartialEq, Eq)]
 pub struct Call<'a> {
+    /// As it was written, without the marks of an alert.
     pub bid: &'a [u8],
     pub alerted: bool,
+    /// What an says of it.
     pub annotation: Option<&'a [u8]>,
 }
 
-/// The default is a board before its first token.
+/// A board. The default is one before its first token.
 #[derive(Debug, Clone, PartialEq, Eq, Default)]
 pub struct Board<'a> {
     pub heading: Heading<'a>,
@@ -212,6 +218,7 @@ impl Default for Heading<'_> {
 }
 
 impl<'a> Heading<'a> {
+    /// The name at a seat.
     pub fn name(&self, seat: Seat) -> &'a [u8] {
         self.names[seat as usize]
     }

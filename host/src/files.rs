@@ -143,10 +143,12 @@ pub struct FileBoard<'a> {
 }
 
 impl<'a> FileBoard<'a> {
+    /// The board without its calls and its play.
     pub fn heading(self) -> Result<Heading<'a>, Refusal> {
         board::heading(self.text)
     }
 
+    /// The whole board.
     pub fn board(self) -> Result<Board<'a>, Refusal> {
         board::board(self.text)
     }

@@ -57,26 +57,34 @@ use std::fmt;
 /// The bytes that a text, or what is used of an output, has at most.
 pub const LIMIT: usize = 1_048_576;
 
+/// What refusal 3 lacks.
 #[derive(Debug, Clone, Copy, PartialEq, Eq)]
 pub enum RowKind {
+    /// Rows for calls.
     Calls,
+    /// Places for the cards of the play.
     Cards,
 }
 
 /// Document 01's refusals, in its order, with what each carries.
 #[derive(Debug, Clone, Copy, PartialEq, Eq)]
 pub enum Refusal {
+    /// A lent text is too long.
     TextTooLong,
-    /// The length of the longest well-formed start.
+    /// A read text is not UTF-8: the length of the longest well-formed start.
     NotUtf8(u64),
-    /// The rows needed of that kind.
+    /// Too few rows, calls before cards: the rows needed of that kind.
     TooFewRows(RowKind, u64),
-    /// The number of boards.
+    /// No board of that number: the number of boards.
     NoBoard(u64),
+    /// A span passes its text's end.
     SpanPastEnd,
+    /// A span's bytes are not UTF-8.
     SpanNotUtf8,
-    /// The bytes that the call would write.
+    /// The output is too small: the bytes that the call would write.
     OutputTooSmall(u64),
+    /// A card, level or number is outside its range, or the used bytes are beyond
+    /// the room.
     OutOfRange,
 }
 

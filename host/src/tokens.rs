@@ -62,6 +62,7 @@ impl TryFrom<Part> for Span {
     }
 }
 
+/// The places of a token's two pieces.
 #[derive(Debug, Clone, Copy, PartialEq, Eq)]
 pub struct Token {
     pub command: Part,
