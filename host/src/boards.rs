@@ -1,7 +1,27 @@
 //! Boards: the heading that a text gives, and its board with calls and play.
+//!
+//! ```
+//! use lin_host_rust::boards::{self, Card, Seat, Vulnerability};
+//!
+//! let text = "pn|Ann,José|md|1SAKH2,CT|sv|e|mb|1N!|an|15-17|pc|HQ|mc|9|".as_bytes();
+//! let board = boards::board(text)?;
+//! assert_eq!(board.heading.name(Seat::West), "José".as_bytes());
+//! assert_eq!(board.heading.dealer, Seat::South);
+//! assert_eq!(board.heading.vulnerability, Vulnerability::EastWest);
+//! assert_eq!(board.heading.claim, Some(9));
+//! let south: Vec<String> = board.heading.deal.cards(Seat::South).map(|c| c.to_string()).collect();
+//! assert_eq!(south, ["SA", "SK", "H2"]);
+//! assert_eq!((board.calls[0].bid, board.calls[0].alerted), (&b"1N"[..], true));
+//! assert_eq!(board.play, ["HQ".parse::<Card>().unwrap()]);
+//!
+//! // the heading alone tells how many rows and cards the board needs
+//! let heading = boards::heading(text)?;
+//! assert_eq!((heading.calls, heading.cards), (1, 1));
+//! # Ok::<(), lin_host_rust::Refusal>(())
+//! ```
 
 use crate::{ffi, tokens::Span, Refusal};
-use std::fmt;
+use std::{fmt, str::FromStr};
 
 pub use ffi::{LinBoard, LinHeading, LinText};
 
@@ -22,6 +42,7 @@ impl Seat {
     pub const ALL: [Seat; 4] = [Seat::South, Seat::West, Seat::North, Seat::East];
 }
 
+/// Which sides are vulnerable.
 #[derive(Debug, Clone, Copy, PartialEq, Eq)]
 pub enum Vulnerability {
     None,
@@ -44,11 +65,43 @@ impl Vulnerability {
 #[derive(Debug, Clone, Copy, PartialEq, Eq)]
 pub struct Card(pub u8);
 
+const SUITS: &str = "SHDC";
+const RANKS: &str = "23456789TJQKA";
+
+/// A text that is no card.
+#[derive(Debug, Clone, Copy, PartialEq, Eq)]
+pub struct NoCard;
+
+impl fmt::Display for NoCard {
+    fn fmt(&self, f: &mut fmt::Formatter) -> fmt::Result {
+        f.write_str("no suit and rank")
+    }
+}
+
+impl std::error::Error for NoCard {}
+
+impl FromStr for Card {
+    type Err = NoCard;
+
+    /// Exactly a suit and a rank, in either case.
+    fn from_str(text: &str) -> Result<Card, NoCard> {
+        let upper = text.to_ascii_uppercase();
+        let mut letters = upper.chars();
+        let (Some(suit), Some(rank), None) = (letters.next(), letters.next(), letters.next())
+        else {
+            return Err(NoCard);
+        };
+        let suit = SUITS.find(suit).ok_or(NoCard)?;
+        let rank = RANKS.find(rank).ok_or(NoCard)?;
+        Ok(Card((13 * suit + rank) as u8))
+    }
+}
+
 impl fmt::Display for Card {
     fn fmt(&self, f: &mut fmt::Formatter) -> fmt::Result {
-        let letter = |of: &[u8], n: u8| of.get(usize::from(n)).map_or('?', |b| char::from(*b));
-        let suit = letter(b"SHDC", self.0 / 13);
-        let rank = letter(b"23456789TJQKA", self.0 % 13);
+        let letter = |of: &str, n: u8| of.chars().nth(n.into()).unwrap_or('?');
+        let suit = letter(SUITS, self.0 / 13);
+        let rank = letter(RANKS, self.0 % 13);
         write!(f, "{suit}{rank}")
     }
 }
@@ -93,6 +146,14 @@ impl Deal {
         &self.counts[from..from + 52]
     }
 
+    /// The cards of a seat by suit, ranks from A down, a repeated one as often as
+    /// it is counted.
+    pub fn cards(&self, seat: Seat) -> impl Iterator<Item = Card> + '_ {
+        let hand = self.hand(seat);
+        let down = (0..52u8).map(|n| 13 * (n / 13) + 12 - n % 13);
+        down.flat_map(|n| (0..hand[usize::from(n)]).map(move |_| Card(n)))
+    }
+
     /// How many cards a seat holds, a repeated one as often as it is counted.
     pub fn len(&self, seat: Seat) -> u64 {
         self.hand(seat).iter().map(|n| u64::from(*n)).sum()
@@ -108,23 +169,28 @@ pub struct Heading<'a> {
     pub dealer: Seat,
     pub deal: Deal,
     pub vulnerability: Vulnerability,
+    /// What mn, qx and ah say.
     pub title: Option<&'a [u8]>,
     pub room_board: Option<&'a [u8]>,
     pub board_header: Option<&'a [u8]>,
+    /// The tricks that are claimed.
     pub claim: Option<u8>,
     /// How many calls and how many cards of play the board has.
     pub calls: usize,
     pub cards: usize,
 }
 
+/// A call of the auction.
 #[derive(Debug, Clone, Copy, PartialEq, Eq)]
 pub struct Call<'a> {
+    /// As it was written, without the marks of an alert.
     pub bid: &'a [u8],
     pub alerted: bool,
+    /// What an says of it.
     pub annotation: Option<&'a [u8]>,
 }
 
-/// The default is a board before its first token.
+/// A board. The default is one before its first token.
 #[derive(Debug, Clone, PartialEq, Eq, Default)]
 pub struct Board<'a> {
     pub heading: Heading<'a>,
@@ -148,6 +214,13 @@ impl Default for Heading<'_> {
             calls: 0,
             cards: 0,
         }
+    }
+}
+
+impl<'a> Heading<'a> {
+    /// The name at a seat.
+    pub fn name(&self, seat: Seat) -> &'a [u8] {
+        self.names[seat as usize]
     }
 }
 

@@ -7,7 +7,7 @@ mod guards;
 mod pbn;
 mod writer;
 
-pub use boards::board;
+pub use boards::{as_upstream as fields_of, board, read};
 pub use files::{file, name, visit, visits};
 pub use pbn::{annotation, annotations, converted, record, Sizes};
 pub use writer::{append, appends, equality, play_text, written};

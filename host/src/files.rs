@@ -1,8 +1,25 @@
 //! Files: how many boards, a board by its number, the name finder, and the
 //! boards one after another.
+//!
+//! ```
+//! use lin_host_rust::{files, Refusal};
+//!
+//! let text = b"pn|Ann|qx|o1|md|1|qx|o2|md|2|mb|p|";
+//! assert_eq!(files::count_boards(text)?, 2);
+//! assert_eq!(files::find_name(text, b"Ann")?, 1);
+//! assert_eq!(files::file_board(text, 1)?.calls[0].bid, b"p");
+//! assert_eq!(files::file_heading(text, 2).err(), Some(Refusal::NoBoard(2)));
+//!
+//! let mut rooms = Vec::new();
+//! for board in files::boards(text)? {
+//!     rooms.push((board.number, board.heading()?.room_board.unwrap()));
+//! }
+//! assert_eq!(rooms, [(0, &b"o1"[..]), (1, &b"o2"[..])]);
+//! # Ok::<(), Refusal>(())
+//! ```
 
 use crate::{
-    boards::{self, flag, Board, Heading, LinHeading},
+    boards::{self as board, flag, Board, Heading, LinHeading},
     ffi,
     tokens::Part,
     Refusal,
@@ -63,7 +80,7 @@ pub fn file_board_into<'a>(
 
 /// The board of a number; refusals 1, 2 and 4.
 pub fn file_board(text: &[u8], number: u64) -> Result<Board<'_>, Refusal> {
-    boards::filled(text, file_heading(text, number)?, |rows, cards| {
+    board::filled(text, file_heading(text, number)?, |rows, cards| {
         file_board_numbers(text, number, rows, cards)
     })
 }
@@ -126,12 +143,14 @@ pub struct FileBoard<'a> {
 }
 
 impl<'a> FileBoard<'a> {
+    /// The board without its calls and its play.
     pub fn heading(self) -> Result<Heading<'a>, Refusal> {
-        boards::heading(self.text)
+        board::heading(self.text)
     }
 
+    /// The whole board.
     pub fn board(self) -> Result<Board<'a>, Refusal> {
-        boards::board(self.text)
+        board::board(self.text)
     }
 }
 
@@ -173,4 +192,11 @@ impl<'a> Iterator for Boards<'a> {
             }
         }
     }
+}
+
+impl std::iter::FusedIterator for Boards<'_> {}
+
+/// The boards of a file, one after another; refusals 1 and 2.
+pub fn boards(text: &[u8]) -> Result<Boards<'_>, Refusal> {
+    Boards::open(text)
 }

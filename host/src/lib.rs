@@ -1,10 +1,48 @@
-//! Safe Rust over the exports of the crate `lin_host`.
+//! LIN records of contract bridge, by the proved library behind the exports of
+//! the crate `lin_host`.
+//!
+//! | module | what it holds |
+//! |---|---|
+//! | [`tokens`] | the tokens of a text, and the document writer |
+//! | [`boards`] | a board with its names, hands, calls and cards |
+//! | [`files`] | the boards of a file, one after another or by number; the name finder |
+//! | [`writer`] | boards written and appended; the play as a text; equality |
+//! | [`pbn`] | boards made of PBN records, and annotations as text |
+//!
+//! An entry answers a value or a [`Refusal`], and a refusal changes nothing.
+//! The other modules compare the exports with upstream and with document 01 in
+//! plain Rust.
+//!
+//! ```
+//! use lin_host_rust::{boards::Seat, files, writer::Appender, Refusal};
+//!
+//! let text = "qx|o1|pn|Ann,Bob|md|3SAK|mb|1C!|an|16+|pc|SA|mc|9|qx|o2|md|1|".as_bytes();
+//! let mut filed = Appender::new(1_000);
+//! for next in files::boards(text)? {
+//!     let board = next.board()?;
+//!     filed.append(&board)?;
+//! }
+//! assert_eq!(files::count_boards(filed.bytes())?, 2);
+//! assert_eq!(files::find_name(filed.bytes(), b"Ann")?, 1);
+//! let first = files::file_board(filed.bytes(), 0)?;
+//! assert_eq!(first.heading.name(Seat::West), b"Bob");
+//! assert_eq!(first.calls[0].annotation, Some(&b"16+"[..]));
+//! assert_eq!(first.play[0].to_string(), "SA");
+//!
+//! let missing = files::file_board(filed.bytes(), 2).unwrap_err();
+//! assert_eq!(missing, Refusal::NoBoard(2));
+//! assert_eq!(missing.number(), 4);
+//! assert_eq!(missing.to_string(), "no board of that number among 2");
+//! # Ok::<(), Refusal>(())
+//! ```
 
 pub mod boards;
 pub mod book;
 pub mod compare;
+pub mod differential;
 mod ffi;
 pub mod files;
+mod gathered;
 pub mod model;
 pub mod pbn;
 pub mod samples;
@@ -19,26 +57,34 @@ use std::fmt;
 /// The bytes that a text, or what is used of an output, has at most.
 pub const LIMIT: usize = 1_048_576;
 
+/// What refusal 3 lacks.
 #[derive(Debug, Clone, Copy, PartialEq, Eq)]
 pub enum RowKind {
+    /// Rows for calls.
     Calls,
+    /// Places for the cards of the play.
     Cards,
 }
 
 /// Document 01's refusals, in its order, with what each carries.
 #[derive(Debug, Clone, Copy, PartialEq, Eq)]
 pub enum Refusal {
+    /// A lent text is too long.
     TextTooLong,
-    /// The length of the longest well-formed start.
+    /// A read text is not UTF-8: the length of the longest well-formed start.
     NotUtf8(u64),
-    /// The rows needed of that kind.
+    /// Too few rows, calls before cards: the rows needed of that kind.
     TooFewRows(RowKind, u64),
-    /// The number of boards.
+    /// No board of that number: the number of boards.
     NoBoard(u64),
+    /// A span passes its text's end.
     SpanPastEnd,
+    /// A span's bytes are not UTF-8.
     SpanNotUtf8,
-    /// The bytes that the call would write.
+    /// The output is too small: the bytes that the call would write.
     OutputTooSmall(u64),
+    /// A card, level or number is outside its range, or the used bytes are beyond
+    /// the room.
     OutOfRange,
 }
 

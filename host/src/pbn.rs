@@ -39,8 +39,8 @@
 use crate::{
     boards::{self, flag, Board, Card, Deal, LinText, Seat, Vulnerability, ROW},
     ffi,
+    gathered::gather_some,
     tokens::Span,
-    writer::gather_some,
     Refusal, LIMIT,
 };
 use std::collections::BTreeMap;

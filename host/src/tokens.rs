@@ -1,6 +1,24 @@
 //! Tokens: a cursor over a text, and the document writer.
+//!
+//! ```
+//! use lin_host_rust::tokens::{self, Tokens};
+//!
+//! let mut all = Tokens::open(b"mb|1C|an|16+|\nx")?;
+//! assert_eq!(all.next(), Some((&b"mb"[..], &b"1C"[..])));
+//! assert_eq!(all.next(), Some((&b"an"[..], &b"16+"[..])));
+//! assert_eq!(all.next(), None);
+//! assert_eq!(all.trailing(), b"\nx");
+//!
+//! let text = tokens::document(&[(b"mb", b"1C"), (b"an", b"16+")], b"\nx")?;
+//! assert_eq!(text, b"mb|1C|an|16+|\nx");
+//! # Ok::<(), lin_host_rust::Refusal>(())
+//! ```
 
-use crate::{ffi, Refusal};
+use crate::{
+    ffi,
+    gathered::{fitted, gather},
+    Refusal,
+};
 
 pub use ffi::{LinPart as Part, LinStep as Step};
 
@@ -44,6 +62,7 @@ impl TryFrom<Part> for Span {
     }
 }
 
+/// The places of a token's two pieces.
 #[derive(Debug, Clone, Copy, PartialEq, Eq)]
 pub struct Token {
     pub command: Part,
@@ -103,6 +122,39 @@ impl Cursor {
     }
 }
 
+/// The tokens of a text, each a command and a value as they stand there.
+#[derive(Debug, Clone)]
+pub struct Tokens<'a> {
+    text: &'a [u8],
+    cursor: Cursor,
+}
+
+impl<'a> Tokens<'a> {
+    /// From the start of a text; refusals 1 and 2.
+    pub fn open(text: &'a [u8]) -> Result<Tokens<'a>, Refusal> {
+        let cursor = Cursor::open(text)?;
+        Ok(Tokens { text, cursor })
+    }
+
+    /// What follows the tokens that were given: after the last, the trailing
+    /// text.
+    pub fn trailing(&self) -> &'a [u8] {
+        self.cursor.trailing(self.text).of(self.text)
+    }
+}
+
+impl<'a> Iterator for Tokens<'a> {
+    type Item = (&'a [u8], &'a [u8]);
+
+    fn next(&mut self) -> Option<Self::Item> {
+        let (next, token) = self.cursor.next(self.text);
+        self.cursor = next;
+        token.map(|token| (token.command.of(self.text), token.value.of(self.text)))
+    }
+}
+
+impl std::iter::FusedIterator for Tokens<'_> {}
+
 /// All tokens of a text, and what trails them.
 pub fn tokens(text: &[u8]) -> Result<(Vec<Token>, Part), Refusal> {
     let mut cursor = Cursor::open(text)?;
@@ -153,4 +205,20 @@ pub fn write_document(
         )
     };
     answer.read()
+}
+
+/// A document of commands and values and what trails them, as a text; refusal 1
+/// if they are too long together, 6 for a part that is not UTF-8, and 7 if the
+/// text is longer than any output takes.
+pub fn document(pairs: &[(&[u8], &[u8])], trailing: &[u8]) -> Result<Vec<u8>, Refusal> {
+    let mut text = Vec::new();
+    let mut rows = Vec::with_capacity(4 * pairs.len());
+    for (command, value) in pairs {
+        for part in [command, value] {
+            let span = gather(&mut text, part);
+            rows.extend([span.start, span.len]);
+        }
+    }
+    let trailing = gather(&mut text, trailing);
+    fitted(|out| write_document(&text, &rows, trailing, out))
 }

@@ -45,10 +45,10 @@
 //! ```
 
 use crate::{
-    boards::{flag, Board, Call, Card, LinBoard, LinText, ROW},
+    boards::{flag, Board, Call, Card, LinBoard, ROW},
     ffi,
-    tokens::Span,
-    LinAnswer, Refusal, LIMIT,
+    gathered::{fitted, gather, gather_some},
+    LinAnswer, Refusal,
 };
 
 /// A board as the exports are lent it: a text, and what stands in it by spans.
@@ -172,24 +172,6 @@ impl Gathered {
     }
 }
 
-/// Puts a part at the end of the text. A text whose places pass 32 bits is
-/// longer than a text may be, and refused before its places are looked at.
-fn gather(text: &mut Vec<u8>, part: &[u8]) -> Span {
-    let word = |n: usize| u32::try_from(n).unwrap_or(u32::MAX);
-    let span = Span::new(word(text.len()), word(part.len()));
-    text.extend(part);
-    span
-}
-
-pub(crate) fn gather_some(text: &mut Vec<u8>, part: Option<&[u8]>) -> LinText {
-    let Span { start, len } = part.map_or(Span::default(), |part| gather(text, part));
-    LinText {
-        present: part.is_some().into(),
-        start,
-        len,
-    }
-}
-
 fn gather_call(text: &mut Vec<u8>, call: &Call) -> [u32; ROW] {
     let bid = gather(text, call.bid);
     let annotation = gather_some(text, call.annotation);
@@ -236,19 +218,6 @@ impl From<&Board<'_>> for Gathered {
 
 fn numbers(play: &[Card]) -> Vec<u8> {
     play.iter().map(|card| card.0).collect()
-}
-
-/// What is written, in an output of its length: the refusal of an empty one
-/// tells how long it is.
-fn fitted(write: impl Fn(&mut [u8]) -> Result<u64, Refusal>) -> Result<Vec<u8>, Refusal> {
-    let needed = match write(&mut []) {
-        Err(Refusal::OutputTooSmall(n)) => n,
-        told => told?,
-    };
-    let room = usize::try_from(needed).map_or(LIMIT, |n| n.min(LIMIT));
-    let mut out = vec![0; room];
-    write(&mut out)?;
-    Ok(out)
 }
 
 /// A board as LIN; refusal 1 if its texts together are too long, 8 for a card

@@ -389,3 +389,26 @@ fn texts_at_the_limit() {
     let long = format!("md|1{}|", "SA".repeat((LIMIT - 5) / 2));
     assert_eq!(heading(&long).deal.hand(Seat::South)[12], 524_285);
 }
+
+#[test]
+fn cards_as_letters() {
+    for n in 0..52 {
+        let text = Card(n).to_string();
+        assert_eq!(text.parse(), Ok(Card(n)));
+        assert_eq!(text.to_lowercase().parse(), Ok(Card(n)));
+        assert_eq!(board(&format!("pc|{text}|")).play, [Card(n)]);
+    }
+    for text in ["", "S", "A", "SAK", "S1", "AS", "Ś2", "SÁ", " SA", "S10"] {
+        assert!(text.parse::<Card>().is_err(), "{text}");
+    }
+}
+
+#[test]
+fn cards_of_a_hand() {
+    let text = "md|1S2A2HK,|";
+    let deal = heading(text).deal;
+    let south: Vec<_> = deal.cards(Seat::South).map(|c| c.to_string()).collect();
+    assert_eq!(south, ["SA", "S2", "S2", "HK"]);
+    assert_eq!(deal.cards(Seat::West).count(), 0);
+    assert_eq!(heading("pn|a,b|").name(Seat::West), b"b");
+}

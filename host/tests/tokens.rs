@@ -3,7 +3,7 @@
 use lin_host_rust::{
     compare::{self, Same},
     tokens::{self, Cursor, Part, Span},
-    Refusal, LIMIT,
+    LinAnswer, Refusal, RowKind, LIMIT,
 };
 use oracle::{random::Rng, records, texts};
 
@@ -315,4 +315,72 @@ fn rows_in_any_order() {
     let text = "a|b|cé|d".as_bytes();
     assert_eq!(write(text, &[0, 3, 2, 5], (0, 9), 30), Ok(19));
     assert_eq!(write(text, &[4, 3, 0, 1, 0, 1, 4, 3], (2, 1), 30), Ok(13));
+}
+
+#[test]
+fn tokens_one_after_another() {
+    let text = b"a|b|c|d|e|";
+    let mut all = tokens::Tokens::open(text).unwrap();
+    assert_eq!(all.trailing(), text);
+    assert_eq!(all.next(), Some((&b"a"[..], &b"b"[..])));
+    assert_eq!(all.trailing(), b"c|d|e|");
+    assert_eq!(all.next(), Some((&b"c"[..], &b"d"[..])));
+    assert_eq!((all.next(), all.next()), (None, None));
+    assert_eq!(all.trailing(), b"e|");
+    assert_eq!(
+        tokens::Tokens::open(b"a|\xFF").err(),
+        Some(Refusal::NotUtf8(2))
+    );
+}
+
+#[test]
+fn documents_of_parts() {
+    for text in texts::NAMED {
+        let mut all = tokens::Tokens::open(text.as_bytes()).unwrap();
+        let pairs: Vec<_> = all.by_ref().collect();
+        let written = tokens::document(&pairs, all.trailing()).unwrap();
+        assert_eq!(written, text.as_bytes());
+    }
+    assert_eq!(
+        tokens::document(&[(b"\xC3", b"")], b""),
+        Err(Refusal::SpanNotUtf8)
+    );
+    let half = vec![b'a'; LIMIT / 2];
+    assert_eq!(
+        tokens::document(&[(&half, &half)], b"b"),
+        Err(Refusal::TextTooLong)
+    );
+    let more = Err(Refusal::OutputTooSmall(LIMIT as u64 + 2));
+    assert_eq!(tokens::document(&[(&half, &half)], b""), more);
+}
+
+#[test]
+fn refusals_by_number_and_value() {
+    let all = [
+        Refusal::TextTooLong,
+        Refusal::NotUtf8(7),
+        Refusal::TooFewRows(RowKind::Calls, 8),
+        Refusal::NoBoard(9),
+        Refusal::SpanPastEnd,
+        Refusal::SpanNotUtf8,
+        Refusal::OutputTooSmall(u64::MAX),
+        Refusal::OutOfRange,
+    ];
+    assert_eq!(all.map(Refusal::number), [1, 2, 3, 4, 5, 6, 7, 8]);
+    let carried = [
+        None,
+        Some(7),
+        Some(8),
+        Some(9),
+        None,
+        None,
+        Some(u64::MAX),
+        None,
+    ];
+    assert_eq!(all.map(Refusal::carried), carried);
+    let cards = Refusal::TooFewRows(RowKind::Cards, 1);
+    for refusal in all.into_iter().chain([cards]) {
+        assert_eq!(LinAnswer::from(refusal).read(), Err(refusal));
+        assert!(!refusal.to_string().is_empty());
+    }
 }

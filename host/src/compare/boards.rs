@@ -31,8 +31,16 @@ pub fn board(bytes: &[u8]) -> Same {
     lent(bytes, &read, &got)
 }
 
+/// The fields alone of the board of a text that opens.
+pub fn read(bytes: &[u8]) -> Same {
+    let text = std::str::from_utf8(bytes).map_err(|e| e.to_string())?;
+    let Ok(want) = oracle::lin::parse_lin(text);
+    let got = boards::board(bytes).map_err(|r| format!("refused: {r:?}"))?;
+    as_upstream(&got, &want)
+}
+
 /// Every field of a board.
-pub(super) fn as_upstream(got: &Board, want: &LinData) -> Same {
+pub fn as_upstream(got: &Board, want: &LinData) -> Same {
     fields(got, &upstream::board(want))
 }
 
@@ -42,9 +50,11 @@ pub(super) fn fields(got: &Board, want: &Board) -> Same {
     same("play", &got.play, &want.play)
 }
 
-/// The board in more rows and cards than it needs, and refused in fewer.
+/// The board in as many rows and cards as it needs and in more, and refused in
+/// fewer.
 pub(super) fn lent(bytes: &[u8], read: Read, board: &Board) -> Same {
-    more(bytes, read, board)?;
+    enough(bytes, read, board, [0, 0])?;
+    enough(bytes, read, board, [ROW + 1, 3])?;
     fewer(bytes, read, &board.heading)
 }
 
@@ -69,17 +79,17 @@ fn heading(got: &Heading, want: &Heading) -> Same {
     same("number of cards", got.cards, want.cards)
 }
 
-/// With more rows and cards than needed the answer is the same and the others
-/// stay.
-fn more(bytes: &[u8], read: Read, board: &Board) -> Same {
+/// With so many words and places more than needed the answer is the same and
+/// those stay.
+fn enough(bytes: &[u8], read: Read, board: &Board, more: [usize; 2]) -> Same {
     let (words, places) = (ROW * board.calls.len(), board.play.len());
-    let (mut want_rows, mut want_cards) = (held_words(words + ROW + 1), held(places + 3));
+    let (mut want_rows, mut want_cards) = (held_words(words + more[0]), held(places + more[1]));
     let mut rows = guarded_words("rows", &want_rows);
     let mut cards = guarded_bytes("cards", &want_cards);
     let got = read(rows.lent(), cards.lent()).read(bytes);
-    same("with more rows", got, Ok(board.heading))?;
+    same("with enough rows", got, Ok(board.heading))?;
     let calls = boards::calls(bytes, &rows.lent()[..words]);
-    same("with more rows", &calls, &board.calls)?;
+    same("with enough rows", &calls, &board.calls)?;
     want_rows[..words].copy_from_slice(&rows.lent()[..words]);
     rows.holds(&want_rows)?;
     let play: Vec<u8> = board.play.iter().map(|c| c.0).collect();

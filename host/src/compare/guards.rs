@@ -61,3 +61,22 @@ pub fn bytes(what: &'static str, held: &[u8]) -> Guarded<u8> {
 pub fn words(what: &'static str, held: &[u32]) -> Guarded<u32> {
     Guarded::new(what, held, |i| 0x5A5A_0000 | (i * 11) as u32)
 }
+
+#[cfg(test)]
+mod tests {
+    use super::*;
+
+    #[test]
+    fn what_changes_is_seen() {
+        for place in 0..2 * GUARD + 3 {
+            let mut buffer = bytes("output", &held(3));
+            assert_eq!(buffer.holds(&held(3)), Ok(()));
+            buffer.all[place] ^= 1;
+            assert!(buffer.holds(&held(3)).is_err(), "{place}");
+        }
+        let mut rows = words("rows", &held_words(2));
+        rows.lent()[1] = 7;
+        assert_eq!(rows.holds(&[held_words(1)[0], 7]), Ok(()));
+        assert!(rows.holds(&held_words(2)).is_err());
+    }
+}

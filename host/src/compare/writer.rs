@@ -76,30 +76,37 @@ pub fn written(lent: Lent) -> Same {
 }
 
 /// Appends one after another to an output that holds these bytes at first:
-/// each as the plain book answers it; the used bytes are the book's, and both
-/// readers find its boards in them.
+/// each as the plain book answers it, which has all that the output then holds
+/// but its last bytes; and both readers find the book's boards in it.
 pub fn appends(first: Vec<u8>, calls: &[Gathered]) -> Same {
     let mut book = Book::new(first.len());
     let mut file = Appender::over(first.clone());
+    let mut out = guards::bytes("output", &first);
+    let mut used = 0;
     for (k, call) in calls.iter().enumerate() {
-        let before = file.clone();
-        let got = file.append_lent(call.lent());
-        same(&format!("call {k}"), got, book.enter(call.lent()))?;
-        if got.is_err() && file != before {
-            return Err(format!("call {k}: refused, and changed"));
-        }
-        same_outputs(&format!("bytes after call {k}"), file.bytes(), &book.bytes)?;
-        let used = book.bytes.len();
-        same_outputs("bytes not used", &file.output()[used..], &first[used..])?;
+        let at = |d: String| format!("call {k}: {d}");
+        let got = call.lent().append(out.lent(), used);
+        same("answer", got, book.enter(call.lent())).map_err(at)?;
+        used = got.unwrap_or(used);
+        let rest = &first[book.bytes.len()..];
+        out.holds(&[&book.bytes, rest].concat()).map_err(at)?;
+        same("appender", file.append_lent(call.lent()), got).map_err(at)?;
+        same_outputs("appender", file.bytes(), &book.bytes).map_err(at)?;
+        same_outputs("appender", file.output(), out.lent()).map_err(at)?;
     }
-    let text = std::str::from_utf8(file.bytes()).map_err(|e| e.to_string())?;
+    found(file.bytes(), &book)
+}
+
+/// Both readers find the book's boards in the used bytes.
+fn found(bytes: &[u8], book: &Book) -> Same {
+    let text = std::str::from_utf8(bytes).map_err(|e| e.to_string())?;
     let Ok(read) = parse_lin_file(text);
     same("boards", read.len(), book.boards.len())?;
     for (k, (got, want)) in read.iter().zip(&book.boards).enumerate() {
         let (got, want) = (upstream::board(got), upstream::board(want));
         fields(&got, &want).map_err(|d| format!("board {k}: {d}"))?;
     }
-    self::file(file.bytes())
+    file(bytes)
 }
 
 /// The text of a play in an output of `len` bytes: upstream's, or refused by 8

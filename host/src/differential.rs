@@ -1,0 +1,120 @@
+//! Differential runs: fresh cases of every kind, compared with the oracle and
+//! with the model for a time that is given.
+
+mod random;
+mod sweeps;
+
+use crate::compare::Same;
+use oracle::random::Rng;
+use std::{
+    fmt,
+    time::{Duration, Instant},
+};
+use sweeps::{Scalars, Words};
+
+/// What is compared.
+#[derive(Debug, Clone, Copy, PartialEq, Eq)]
+pub enum Kind {
+    Texts,
+    Bytes,
+    Places,
+    Documents,
+    Boards,
+    Files,
+    Written,
+    Plays,
+    Pairs,
+    Lists,
+    Appends,
+    Annotations,
+    Records,
+    Scalars,
+    Words,
+}
+
+impl Kind {
+    pub const ALL: [(Kind, &'static str); 15] = [
+        (Kind::Texts, "texts, by tokens"),
+        (Kind::Bytes, "runs of bytes, opened"),
+        (Kind::Places, "places that a cursor steps from"),
+        (Kind::Documents, "documents written"),
+        (Kind::Boards, "boards read"),
+        (Kind::Files, "files read"),
+        (Kind::Written, "boards written"),
+        (Kind::Plays, "play texts"),
+        (Kind::Pairs, "pairs of boards, compared both ways"),
+        (Kind::Lists, "lists of appends"),
+        (Kind::Appends, "appends in them"),
+        (Kind::Annotations, "annotations"),
+        (Kind::Records, "PBN records"),
+        (Kind::Scalars, "texts with one scalar value"),
+        (Kind::Words, "short words"),
+    ];
+}
+
+/// How many cases of each kind were compared, and what differed.
+#[derive(Debug, Clone, Default)]
+pub struct Report {
+    counts: [u64; Kind::ALL.len()],
+    /// How many scalar values and how many short words had their turn, and how
+    /// many there are.
+    pub scalars: (u64, u64),
+    pub words: (u64, u64),
+    pub differences: Vec<String>,
+}
+
+impl Report {
+    pub fn count(&self, kind: Kind) -> u64 {
+        self.counts[kind as usize]
+    }
+
+    pub fn cases(&self) -> u64 {
+        self.counts.iter().sum()
+    }
+
+    /// Counts a case, and keeps what differs.
+    fn add(&mut self, kind: Kind, outcome: Same, subject: impl FnOnce() -> String) {
+        self.counts[kind as usize] += 1;
+        if let Err(difference) = outcome {
+            self.differences
+                .push(format!("{difference}\n{}", subject()));
+        }
+    }
+
+    fn add_many(&mut self, kind: Kind, many: usize) {
+        self.counts[kind as usize] += many as u64;
+    }
+}
+
+impl fmt::Display for Report {
+    fn fmt(&self, f: &mut fmt::Formatter) -> fmt::Result {
+        for (kind, name) in Kind::ALL {
+            writeln!(f, "{:>10} {name}", self.count(kind))?;
+        }
+        writeln!(f, "{:>10} cases", self.cases())?;
+        let swept = |(done, all): (u64, u64)| format!("{} of {all}", done.min(all));
+        writeln!(f, "scalar values: {}", swept(self.scalars))?;
+        writeln!(f, "short words: {}", swept(self.words))?;
+        for difference in &self.differences {
+            writeln!(f, "DIFFERS {difference}")?;
+        }
+        write!(f, "{} differences", self.differences.len())
+    }
+}
+
+/// A run of so much time; a seed gives the same cases in the same order.
+pub fn run(time: Duration, seed: u64) -> Report {
+    let mut rng = Rng::new(seed);
+    let mut report = Report::default();
+    let mut scalars = Scalars::new(seed);
+    let mut words = Words::new(seed);
+    let start = Instant::now();
+    while start.elapsed() < time {
+        random::round(&mut rng, &mut report);
+        scalars.some(&mut report);
+        words.some(&mut report);
+    }
+    report.scalars = scalars.turns();
+    report.words = words.turns();
+    report
+}
