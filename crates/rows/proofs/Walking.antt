@@ -1,10 +1,11 @@
 -- What the walks over a slice of call structs share: a row's machine value, its place, the numbers of a loop. (01: Language form)
 -- Assumes nothing.
-use mathlib.Core.Path.{_≡_, refl}
+use mathlib.Core.Path.{_≡_, refl, ap}
 use mathlib.Core.Bool.{Bool, true, false, not}
-use mathlib.Core.List.{List}
+use mathlib.Core.List.{List, [], _∷_}
 use Prim.Native.Nat.{ℕ, suc, _<_, _≤_, _+_, _*_, _^_}
 use native.Mathlib.Omega.{arith}
+use lib.ListN.{getD}
 use lib.Dec.{T as Holds}
 use package.mir.Val.{Val}
 use denote.Struct.Laws as LL
@@ -17,6 +18,10 @@ vals = LL.vals T.the-type T′.the-laws
 
 abbrev pub mach : CallRow → Val
 mach h = LL.tuple-val T.the-type T′.the-laws (T.the-type .to h)
+
+-- the value of a list of one
+pub sole : (u v : Val) → u ∷ [] ≡ v ∷ [] → u ≡ v
+sole u v e = ap (λ (l : List Val). getD l 0 u) e
 
 -- a test that holds, and one that does not
 pub on : (t : Bool) → Holds t → t ≡ true

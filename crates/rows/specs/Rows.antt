@@ -6,7 +6,7 @@ use lib.ListN.{length, take}
 use Rattle.lin_spec.specs.Records.{span, optionOf}
 use Rattle.lin_spec.specs.Output.{overlay}
 use Rattle.lin_spec.specs.Board.{CallOf}
-use Rattle.lin_spec.specs.Reading.{maybeOf, callWords}
+use Rattle.lin_spec.specs.Reading.{flag, maybeOf, annotationWords, callWords}
 use Rattle.lin_spec.specs.Lent.{callIn, callRows}
 use Rattle.lin_spec.specs.declared.Span.{Span}
 use Rattle.rows.specs.declared.CallRow.{CallRow}
@@ -31,6 +31,10 @@ laid (x ∷ xs) (y ∷ ys) = x ∷ laid xs ys
 -- the rows that words give, six to a row, over those that were there
 unfoldable pub filled : (words : List ℕ) → List CallRow → List CallRow
 filled ws rs = laid (map (λ c. rowIn (callIn c)) (callRows ws)) rs
+
+-- the six words of a row
+abbrev pub wordsOf : CallRow → List ℕ
+wordsOf r = r .bid .start ∷ r .bid .len ∷ flag (r .alerted) ∷ annotationWords (optionOf (r .annotation))
 
 -- the words with the words of the rows in them from the first on, six to a row, as many rows as there is room for
 unfoldable pub spilled : List CallRow → (words : List ℕ) → List ℕ
