@@ -141,11 +141,11 @@ taken (suc n) [] i d h = refl
 taken (suc n) (x ∷ xs) zero d h = refl
 taken (suc n) (x ∷ xs) (suc i) d h = taken n xs i d (le-of-suc-le-suc h)
 
--- one row off the front of the first m
-pub row-front : (rs : List CallRow) (m i : ℕ) → i < min (length rs) m → drop i (take m rs) ≡ getD rs i emptyRow ∷ drop (i + 1) (take m rs)
-row-front rs m i h =
-    let l : i < length (take m rs) = omega (arith, length-take m rs) in
-    drop-cons (take m rs) i emptyRow l ∙ ap (λ (x : CallRow). x ∷ drop (suc i) (take m rs)) (taken m rs i emptyRow (omega arith)) ∙ ap (λ (k : ℕ). getD rs i emptyRow ∷ drop k (take m rs)) (sym (add-one i))
+-- one off the front of the first m
+pub front : {A : Type 0} (xs : List A) (m i : ℕ) (d : A) → i < min (length xs) m → drop i (take m xs) ≡ getD xs i d ∷ drop (i + 1) (take m xs)
+front {A} xs m i d h =
+    let l : i < length (take m xs) = omega (arith, length-take m xs) in
+    drop-cons (take m xs) i d l ∙ ap (λ (x : A). x ∷ drop (suc i) (take m xs)) (taken m xs i d (omega arith)) ∙ ap (λ (k : ℕ). getD xs i d ∷ drop k (take m xs)) (sym (add-one i))
 
 abbrev firsts : List CallRow → List ℕ → List CallRow
 firsts rs vs = take (length vs / 6) rs
@@ -158,7 +158,7 @@ spill-start rs vs = start (record { room = omega (arith, words-many (firsts rs v
 
 module _ (rs : List CallRow) (vs : List ℕ) (i : ℕ) (ws : List ℕ) (at : ℕ) (h : Spilling rs vs i ws at) where
   pub spill-next : i < min (length rs) (length vs / 6) → Left ws at (wordsOf (getD rs i emptyRow) ++ callWords (map called (drop (i + 1) (firsts rs vs)))) vs 0 (callWords (map called (firsts rs vs)))
-  spill-next l = subst (λ (x : List ℕ). Left ws at x vs 0 (callWords (map called (firsts rs vs)))) (ap (λ (x : List CallRow). callWords (map called x)) (row-front rs (length vs / 6) i l) ∙ words-cons (getD rs i emptyRow) (drop (i + 1) (firsts rs vs))) h
+  spill-next l = subst (λ (x : List ℕ). Left ws at x vs 0 (callWords (map called (firsts rs vs)))) (ap (λ (x : List CallRow). callWords (map called x)) (front rs (length vs / 6) i emptyRow l) ∙ words-cons (getD rs i emptyRow) (drop (i + 1) (firsts rs vs))) h
 
   pub spill-more : (l : i < min (length rs) (length vs / 6)) (zs : List ℕ) (at′ : ℕ) → Put ws at (wordsOf (getD rs i emptyRow)) zs at′ → Spilling rs vs (i + 1) zs at′
   spill-more l zs at′ p = step (spill-next l) p
