@@ -9,6 +9,7 @@ pub use access::put_row;
 pub use access::row_count;
 use lin_spec::MaybeSpan;
 use lin_spec::Span;
+pub use reader::file_board_rows;
 pub use reader::parse_lin_rows;
 pub use words::fill_rows;
 pub use words::spill_rows;

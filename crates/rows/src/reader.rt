@@ -8,6 +8,10 @@ use board::put_cards;
 use document::Cursor;
 use document::Opened;
 use document::open;
+use file::Numbered;
+use file::OpenedBoards;
+use file::find_board;
+use file::open_boards;
 use lin_spec::Heading;
 use lin_spec::MaybeSpan;
 use lin_spec::Refusal;
@@ -20,7 +24,7 @@ ghost use lib.ListN.{length, take};
 ghost use Rattle.board.specs.Reader.{boardAt};
 ghost use Rattle.rows.specs.Rows.{rowIn, laid};
 ghost use Rattle.lin_spec.specs.Refusals.{unless};
-ghost use Rattle.rows.specs.Reader.{fewStructs, RowReading, textAnswer, readRows, Steps, Heads, refusedHeaded};
+ghost use Rattle.rows.specs.Reader.{fewStructs, RowReading, textAnswer, fileAnswer, readRows, fileRows, Steps, Heads, refusedHeaded};
 
 // A call as a row, and the place after it.
 struct RowStep {
@@ -118,6 +122,22 @@ fn text_headed(text: &[u8], rows: usize, cards: &mut [u8]) -> Headed
     }
 }
 
+// The heading of the board of a number.
+fn file_headed(text: &[u8], number: usize, rows: usize, cards: &mut [u8]) -> Headed
+    ensures { λ r. ⌜ Heads (now (text .entry)) (fileAnswer (now (text .entry)) number rows (now (cards .entry))) rows (now (cards .entry)) r (now (cards .exit)) ⌝ }
+{
+    let cursor = match open_boards(text) {
+        OpenedBoards::At(c) => c,
+        OpenedBoards::Refused(r) => {
+            return headed_refused(r);
+        }
+    };
+    match find_board(text, cursor, number) {
+        Numbered::At(p) => headed_at(text, p.start, p.stop, rows, cards),
+        Numbered::Missing(n) => headed_refused(Refusal::NoBoard(n as u64)),
+    }
+}
+
 // The heading alone.
 fn heading_of(h: Headed) -> Heading
     ensures { λ r. ⌜ r ≡ h .heading ⌝ }
@@ -130,6 +150,20 @@ pub fn parse_lin_rows(text: &[u8], rows: &mut [CallRow], cards: &mut [u8]) -> He
     ensures { λ r. ⌜ _≡_ {A = RowReading} (record { heading = r; rows = now (rows .exit); cards = now (cards .exit) }) (readRows (now (text .entry)) (now (rows .entry)) (now (cards .entry))) ⌝ }
 {
     let h = text_headed(text, rows.len(), cards);
+    store_rows(rows, text, h.calls, h.start, h.stop);
+    heading_of(h)
+}
+
+// The board of a number: its calls go into the rows, and its play into the cards.
+pub fn file_board_rows(
+    text: &[u8],
+    number: usize,
+    rows: &mut [CallRow],
+    cards: &mut [u8],
+) -> Heading
+    ensures { λ r. ⌜ _≡_ {A = RowReading} (record { heading = r; rows = now (rows .exit); cards = now (cards .exit) }) (fileRows (now (text .entry)) number (now (rows .entry)) (now (cards .entry))) ⌝ }
+{
+    let h = file_headed(text, number, rows.len(), cards);
     store_rows(rows, text, h.calls, h.start, h.stop);
     heading_of(h)
 }
