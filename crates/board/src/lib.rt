@@ -14,3 +14,4 @@ pub use reader::heading_at;
 pub use reader::names_at;
 pub use reader::parse_lin;
 pub use reader::parse_lin_heading;
+pub use reader::put_cards;

@@ -62,7 +62,7 @@ fn put_calls(rows: &mut [u32], text: &[u8], at: usize) -> usize
 }
 
 // Stores every card from a place on.
-fn put_cards(cards: &mut [u8], text: &[u8], at: usize) -> usize
+pub fn put_cards(cards: &mut [u8], text: &[u8], at: usize) -> usize
     requires { ⌜ Room (now cards) 0 (boardAt (now text) at .play) × (length (now text) < 2 ^ 32) ⌝ }
     ensures { λ r. ⌜ Put (now (cards .entry)) 0 (boardAt (now (text .entry)) at .play) (now (cards .exit)) r ⌝ }
 {

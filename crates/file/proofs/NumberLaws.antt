@@ -162,7 +162,7 @@ getD-map f [] n d = refl
 getD-map f (a ∷ l) zero d = refl
 getD-map f (a ∷ l) (suc n) d = getD-map f l n d
 
-numbered-is : (s : List ℕ) (n : ℕ) (p : Section) → Board s n p → numbered s n ≡ boardAt (take (p .stop) s) (p .start)
+pub numbered-is : (s : List ℕ) (n : ℕ) (p : Section) → Board s n p → numbered s n ≡ boardAt (take (p .stop) s) (p .start)
 unfolding fileSpans boardIn
 numbered-is s n p b = getD-map (boardIn s) (boardsOf (sections s)) n (section 0 0 false) ∙ ap (boardIn s) (b .is)
 
@@ -180,7 +180,7 @@ module _ (s : List ℕ) (o : OpenedBoards) (e : openedOf o ≡ openBoards s) whe
         }
 
     -- the checks 1 and 2 are passed
-    passed : {A : Type 0} (ds : List (Option Refusal)) (a : A) → unless (tooLong s ∷ notUtf8 s ∷ ds) a ≡ unless ds a
+    pub passed : {A : Type 0} (ds : List (Option Refusal)) (a : A) → unless (tooLong s ∷ notUtf8 s ∷ ds) a ≡ unless ds a
     unfolding openBoards
     passed ds a = unless-passed (tooLong s ∷ notUtf8 s ∷ []) ds (first s) (standingOf c) a taken
 
@@ -189,11 +189,11 @@ module _ (s : List ℕ) (o : OpenedBoards) (e : openedOf o ≡ openBoards s) whe
     counted n h = (let z : accepted n ≡ unless [] (length (fileSpans s)) = unfold unless in ap accepted (h ∙ sym (spans-count s)) in z) ∙ sym (passed [] (length (fileSpans s)))
 
     module _ (n : ℕ) where
-      missing : (k : ℕ) → k ≡ length (boardsOf (sections s)) → k ≤ n → {A : Type 0} (ds : List (Option Refusal)) (a : A) → unless (noBoard n (length (fileSpans s)) ∷ ds) a ≡ refused (NoBoard k)
+      pub missing : (k : ℕ) → k ≡ length (boardsOf (sections s)) → k ≤ n → {A : Type 0} (ds : List (Option Refusal)) (a : A) → unless (noBoard n (length (fileSpans s)) ∷ ds) a ≡ refused (NoBoard k)
       unfolding unless
       missing k h l ds a = let q : length (fileSpans s) ≡ k = spans-count s ∙ sym h in rw q (simp (le-leb k n l))
 
-      there : (p : Section) → Board s n p → {A : Type 0} (ds : List (Option Refusal)) (a : A) → unless (noBoard n (length (fileSpans s)) ∷ ds) a ≡ unless ds a
+      pub there : (p : Section) → Board s n p → {A : Type 0} (ds : List (Option Refusal)) (a : A) → unless (noBoard n (length (fileSpans s)) ∷ ds) a ≡ unless ds a
       unfolding unless
       there p b ds a = simp (lt-leb (length (fileSpans s)) n (let x = b .some in let y = spans-count s in omega arith))
 
@@ -223,7 +223,7 @@ module _ (s : List ℕ) (o : OpenedBoards) (e : openedOf o ≡ openBoards s) whe
     left : openBoards s ≡ refused r
     left = sym e ∙ ap openedOf f
 
-    stopped : {A : Type 0} (ds : List (Option Refusal)) (a : A) → unless (tooLong s ∷ notUtf8 s ∷ ds) a ≡ refused r
+    pub stopped : {A : Type 0} (ds : List (Option Refusal)) (a : A) → unless (tooLong s ∷ notUtf8 s ∷ ds) a ≡ refused r
     unfolding openBoards
     stopped ds a = unless-refused (tooLong s ∷ notUtf8 s ∷ []) ds (first s) a r left
 

@@ -5,9 +5,11 @@ mod sections;
 
 pub use finder::find_name;
 pub use numbers::Counted;
+pub use numbers::Numbered;
 pub use numbers::count_boards;
 pub use numbers::file_board;
 pub use numbers::file_heading;
+pub use numbers::find_board;
 pub use sections::BoardCursor;
 pub use sections::BoardStep;
 pub use sections::OpenedBoards;

@@ -20,7 +20,7 @@ pub enum Counted {
 }
 
 // A board's section, or how many boards there are if there is none of that number.
-enum Numbered {
+pub enum Numbered {
     At(Section),
     Missing(usize),
 }
@@ -53,7 +53,7 @@ pub fn count_boards(text: &[u8]) -> Counted
 }
 
 // The section of the board of a number, from a cursor at the first section.
-fn find_board(text: &[u8], cursor: BoardCursor, number: usize) -> Numbered
+pub fn find_board(text: &[u8], cursor: BoardCursor, number: usize) -> Numbered
     requires { ⌜ Ready (now text) cursor ⌝ }
     ensures { λ r. ⌜ Numbers (now (text .entry)) number r ⌝ }
 {

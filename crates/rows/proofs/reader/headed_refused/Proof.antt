@@ -1,0 +1,17 @@
+-- `rows::headed_refused` meets its contract. Assumes nothing.
+use mathlib.Core.Path.{ap}
+use Rattle.lin_spec.specs.declared.Heading.{Heading}
+use borrow.Author.Needs.{needs}
+use Rattle.rows.proofs.reader.headed_refused.Statement.{statement}
+use Rattle.rows.proofs.reader.headed_refused.Tie as tie
+
+-- src/reader.rt:80:9
+refused-requires : tie.Need-refused-requires
+refused-requires c κs = search needs
+
+-- src/reader.rt:77:1
+returns : tie.Need-returns
+returns c = ap (λ (x : Heading). record { calls = 0; start = 0; stop = 0; heading = x }) (c .refused .ensures)
+
+pub headed-refused-spec : {M : Type 1} → statement M
+headed-refused-spec = tie.close (tie.spec refused-requires returns)
