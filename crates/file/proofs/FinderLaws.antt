@@ -20,10 +20,10 @@ use Rattle.lin_spec.proofs.Base.{picked}
 use Rattle.lin_spec.proofs.Utf8.{short, whole-text}
 use Rattle.lin_spec.proofs.File.{remaining, Found, all-remain}
 use Rattle.board.specs.Reader.{boardAt}
-use Rattle.file.specs.Sections.{sectionOf, standingOf}
+use Rattle.sections.specs.Sections.{sectionOf, standingOf}
 use Rattle.file.specs.Numbers.{Ready, Finds}
-use Rattle.file.specs.declared.sections.Section.{Section}
-use Rattle.file.specs.declared.sections.BoardCursor.{BoardCursor}
+use Rattle.sections.specs.declared.sections.Section.{Section}
+use Rattle.sections.specs.declared.sections.BoardCursor.{BoardCursor}
 use Rattle.file.proofs.NumberLaws.{Way, way-begin, number-board, number-other, way-on}
 
 -- One section

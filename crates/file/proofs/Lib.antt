@@ -1,3 +1,2 @@
-pub mod SectionLaws
 pub mod NumberLaws
 pub mod FinderLaws

@@ -28,13 +28,13 @@ use Rattle.lin_spec.proofs.Checks.{unless-same, unless-refused, unless-passed}
 use Rattle.lin_spec.proofs.Document.{opened}
 use Rattle.lin_spec.proofs.File.{remaining, Found, Visited, visits, all-remain}
 use Rattle.board.specs.Reader.{boardAt}
-use Rattle.file.specs.Sections.{sectionOf, standingOf, openedOf, visitOf}
+use Rattle.sections.specs.Sections.{sectionOf, standingOf, openedOf, visitOf}
 use Rattle.file.specs.Numbers.{first, Ready, Counts, Holds, Board, Numbers}
-use Rattle.file.specs.declared.sections.Section.{Section}
-use Rattle.file.specs.declared.sections.BoardCursor.{BoardCursor}
-use Rattle.file.specs.declared.sections.BoardStep.{BoardStep}
-use Rattle.file.specs.declared.sections.OpenedBoards.{OpenedBoards}
-use Rattle.file.specs.declared.sections.OpenedBoards.the-variants.{At, Refused}
+use Rattle.sections.specs.declared.sections.Section.{Section}
+use Rattle.sections.specs.declared.sections.BoardCursor.{BoardCursor}
+use Rattle.sections.specs.declared.sections.BoardStep.{BoardStep}
+use Rattle.sections.specs.declared.sections.OpenedBoards.{OpenedBoards}
+use Rattle.sections.specs.declared.sections.OpenedBoards.the-variants.{At, Refused}
 use Rattle.file.specs.declared.numbers.Numbered.{Numbered}
 
 -- what a step that was called for and taken apart says

@@ -10,9 +10,9 @@ use Rattle.lin_spec.specs.Refusals.{Answer}
 use Rattle.lin_spec.specs.Refusals.Answer.{refused, accepted}
 use Rattle.lin_spec.specs.Reading.{stream}
 use Rattle.lin_spec.specs.File.{Section as Part, section, Standing, holds, sections, boardsOf, boardIn, hasName}
-use Rattle.file.specs.Sections.{sectionOf, standingOf}
-use Rattle.file.specs.declared.sections.Section.{Section}
-use Rattle.file.specs.declared.sections.BoardCursor.{BoardCursor}
+use Rattle.sections.specs.Sections.{sectionOf, standingOf}
+use Rattle.sections.specs.declared.sections.Section.{Section}
+use Rattle.sections.specs.declared.sections.BoardCursor.{BoardCursor}
 use Rattle.file.specs.declared.numbers.Counted.{Counted}
 use Rattle.file.specs.declared.numbers.Counted.the-variants.{Count, Refused}
 use Rattle.file.specs.declared.numbers.Numbered.{Numbered}

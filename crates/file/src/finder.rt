@@ -1,13 +1,13 @@
 // The name finder. (01: "the finder counts a file's boards with a given name ..")
 use crate::numbers::Counted;
-use crate::sections::BoardCursor;
-use crate::sections::BoardStep;
-use crate::sections::Section;
-use crate::sections::holds_qx;
 use board::names_at;
 use lin_spec::LIMIT;
 use lin_spec::Refusal;
 use lin_spec::Span;
+use sections::BoardCursor;
+use sections::BoardStep;
+use sections::Section;
+use sections::holds_qx;
 use text::part;
 use text::same_bytes;
 use text::well_formed_len;

@@ -1,13 +1,13 @@
 // How many boards a file has, and a board by its number. (01: File; refusal 4)
-use crate::sections::BoardCursor;
-use crate::sections::BoardStep;
-use crate::sections::OpenedBoards;
-use crate::sections::Section;
-use crate::sections::open_boards;
 use board::board_at;
 use board::heading_at;
 use lin_spec::Heading;
 use lin_spec::Refusal;
+use sections::BoardCursor;
+use sections::BoardStep;
+use sections::OpenedBoards;
+use sections::Section;
+use sections::open_boards;
 ghost use mathlib.Core.Path.{_≡_};
 ghost use Rattle.lin_spec.specs.Reading.{Reading};
 ghost use Rattle.lin_spec.specs.File.{countBoards, fileHeading, fileBoard};

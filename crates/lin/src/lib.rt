@@ -33,16 +33,16 @@ pub use lin_spec::Verdict;
 pub use lin_spec::Vulnerability;
 
 // Files. (01: File; names)
-pub use file::BoardCursor;
-pub use file::BoardStep;
 pub use file::Counted;
-pub use file::OpenedBoards;
-pub use file::Section;
 pub use file::count_boards;
 pub use file::file_board;
 pub use file::file_heading;
 pub use file::find_name;
-pub use file::open_boards;
+pub use sections::BoardCursor;
+pub use sections::BoardStep;
+pub use sections::OpenedBoards;
+pub use sections::Section;
+pub use sections::open_boards;
 
 // The writer. (01: Writer; play text; equality)
 pub use cardtext::format_cardplay_by_trick;

@@ -21,12 +21,12 @@ use Rattle.lin_spec.specs.declared.Heading.{Heading}
 use Rattle.lin_spec.proofs.Checks.{unless-refused, unless-passed}
 use Rattle.lin_spec.proofs.File.{remaining, Found, all-remain}
 use Rattle.board.specs.Reader.{boardAt}
-use Rattle.file.specs.Sections.{sectionOf, standingOf, openedOf}
+use Rattle.sections.specs.Sections.{sectionOf, standingOf, openedOf}
 use Rattle.file.specs.Numbers.{Ready}
-use Rattle.file.specs.declared.sections.Section.{Section}
-use Rattle.file.specs.declared.sections.BoardCursor.{BoardCursor}
-use Rattle.file.specs.declared.sections.OpenedBoards.{OpenedBoards}
-use Rattle.file.specs.declared.sections.OpenedBoards.the-variants.{At, Refused}
+use Rattle.sections.specs.declared.sections.Section.{Section}
+use Rattle.sections.specs.declared.sections.BoardCursor.{BoardCursor}
+use Rattle.sections.specs.declared.sections.OpenedBoards.{OpenedBoards}
+use Rattle.sections.specs.declared.sections.OpenedBoards.the-variants.{At, Refused}
 use Rattle.file.proofs.NumberLaws.{Way, way-begin, way-on, number-board, number-other}
 use Rattle.output.specs.Put.{Room, Put}
 use Rattle.output.proofs.Laws.{Left, start, roomy, step, finish, overlay-nil}

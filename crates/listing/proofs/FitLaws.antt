@@ -42,9 +42,9 @@ use Rattle.lin_spec.proofs.Decimal.{length-short, length-long}
 use Rattle.lin_spec.proofs.Rules.{number-only}
 use Rattle.lin_spec.proofs.Reading.{part-most}
 use Rattle.lin_spec.proofs.File.{visit-is, visits}
-use Rattle.file.specs.Sections.{standingOf}
+use Rattle.sections.specs.Sections.{standingOf}
 use Rattle.file.specs.Numbers.{Ready}
-use Rattle.file.specs.declared.sections.BoardCursor.{BoardCursor}
+use Rattle.sections.specs.declared.sections.BoardCursor.{BoardCursor}
 use Rattle.file.proofs.NumberLaws.{Way, way-begin, way-on}
 use Rattle.output.specs.Put.{Put}
 use Rattle.listing.specs.Lines.{sectionLine}

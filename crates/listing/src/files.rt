@@ -1,11 +1,6 @@
 // All that linlist prints for an input, as one entry: the sections of the file are passed twice, once to measure the lines and once to
 // put them. (01: Program linlist)
 use board::heading_at;
-use file::BoardCursor;
-use file::BoardStep;
-use file::OpenedBoards;
-use file::Section;
-use file::open_boards;
 use lin_spec::Heading;
 use lin_spec::Refusal;
 use lin_spec::Written;
@@ -15,6 +10,11 @@ use listing_lines::put_board_line;
 use listing_lines::put_header;
 use listing_lines::refusal_line;
 use output::sat_add;
+use sections::BoardCursor;
+use sections::BoardStep;
+use sections::OpenedBoards;
+use sections::Section;
+use sections::open_boards;
 ghost use mathlib.Core.Path.{_≡_};
 ghost use mathlib.Core.List.{_++_};
 ghost use lib.ListN.{length};
@@ -23,7 +23,7 @@ ghost use Rattle.lin_spec.specs.Output.{Outcome, answerOf};
 ghost use Rattle.lin_spec.specs.Reading.{headingOf};
 ghost use Rattle.lin_spec.specs.File.{boardIn, fileSpans};
 ghost use Rattle.lin_spec.specs.Listing.{header, boardLines, listing, writeLine};
-ghost use Rattle.file.specs.Sections.{sectionOf};
+ghost use Rattle.sections.specs.Sections.{sectionOf};
 ghost use Rattle.file.specs.Numbers.{Holds, Ready};
 ghost use Rattle.output.specs.Put.{Room, Put};
 ghost use Rattle.listing.specs.Lines.{sectionLine};

@@ -11,12 +11,12 @@ use Rattle.lin_spec.specs.declared.Span.{Span}
 use Rattle.lin_spec.specs.declared.Refusal.{Refusal}
 use Rattle.lin_spec.specs.declared.Refusal.the-variants.{NoBoard}
 use Rattle.board.specs.Reader.{boardAt}
-use Rattle.file.specs.Sections.{openedOf}
+use Rattle.sections.specs.Sections.{openedOf}
 use Rattle.file.specs.Numbers.{Board, Holds}
-use Rattle.file.specs.declared.sections.BoardCursor.{BoardCursor}
-use Rattle.file.specs.declared.sections.Section.{Section}
-use Rattle.file.specs.declared.sections.OpenedBoards.{OpenedBoards}
-use Rattle.file.specs.declared.sections.OpenedBoards.the-variants.{At, Refused}
+use Rattle.sections.specs.declared.sections.BoardCursor.{BoardCursor}
+use Rattle.sections.specs.declared.sections.Section.{Section}
+use Rattle.sections.specs.declared.sections.OpenedBoards.{OpenedBoards}
+use Rattle.sections.specs.declared.sections.OpenedBoards.the-variants.{At, Refused}
 use Rattle.file.proofs.NumberLaws.{passed, missing, there, stopped, numbered-is}
 use Rattle.rows.specs.declared.reader.Headed.{Headed}
 use Rattle.rows.specs.Reader.{fewStructs, fileAnswer, refusedHeaded, Heads}

@@ -12,10 +12,6 @@ use native.Mathlib.Omega.{arith}
 use Prim.Native.Nat.{_-_}
 use Rattle.file.proofs.finder.any_same.Statement.{statement}
 use Rattle.file.proofs.finder.any_same.Tie as tie
-use Rattle.file.proofs.finder.any_same.Reads as reads
-use Rattle.file.proofs.finder.any_same.Lts as lts
-use Rattle.file.proofs.finder.same_name.Reads as same-name-reads
-use Rattle.text.proofs.part.Reads as part-reads
 
 abbrev Inv-loop : tie.InvT-loop
 Inv-loop text name names seat₀ seat = (any (λ x. sameName (bytesAt text x) name) (drop seat names) ≡ any (λ x. sameName (bytesAt text x) name) names) × (length names ≡ 4)
@@ -23,51 +19,39 @@ Inv-loop text name names seat₀ seat = (any (λ x. sameName (bytesAt text x) na
 abbrev μ-loop : tie.MeasureT-loop
 μ-loop text name names seat₀ seat = 4 - seat
 
--- src/finder.rt:42:5
 loop-holds : tie.Need-loop-holds Inv-loop μ-loop
 loop-holds c = (refl, search needs)
 
--- src/finder.rt:43:17
 mul-x : tie.Need-mul-x Inv-loop μ-loop
 mul-x c = search needs
 
--- src/finder.rt:43:17
 array-copy-out-x : tie.Need-array-copy-out-x Inv-loop μ-loop
 array-copy-out-x c = search needs
 
--- src/finder.rt:44:33
 cast-part : tie.Need-cast-part Inv-loop μ-loop
 cast-part c = search needs
 
--- src/finder.rt:44:51
 cast-part-2 : tie.Need-cast-part-2 Inv-loop μ-loop
 cast-part-2 c = search needs
 
--- src/finder.rt:44:22
 part-requires : tie.Need-part-requires Inv-loop μ-loop
 part-requires c κs = tt
 
--- src/finder.rt:44:12
 same-name-requires : tie.Need-same-name-requires Inv-loop μ-loop
 same-name-requires c κs = tt
 
--- src/finder.rt:45:13
 returns : tie.Need-returns Inv-loop μ-loop
 returns c = let i = c .before .before .before .before .before .before .before .loop .inv in any-found (λ x. sameName (bytesAt (now (c .before .before .before .before .before .before .before .before .before .before .args .text)) x) (now (c .before .before .before .before .before .before .before .before .before .before .args .name))) (span 0 0) _ _ (i .0) (omega (arith, i .1)) _ (c .before .same-name .ensures ∙ ap (λ y. sameName y (now (c .before .before .before .before .before .before .before .before .before .before .args .name))) (c .before .before .part .ensures)) (c .if1 .taken)
 
--- src/finder.rt:47:9
 add-seat : tie.Need-add-seat Inv-loop μ-loop
 add-seat c = omega arith
 
--- src/finder.rt:42:5
 loop-less : tie.Need-loop-less Inv-loop μ-loop
 loop-less c = omega arith
 
--- src/finder.rt:42:5
 loop-again : tie.Need-loop-again Inv-loop μ-loop
 loop-again c = let i = c .before .before .before .before .before .before .before .loop .inv in (any-next (λ x. sameName (bytesAt (now (c .before .before .before .before .before .before .before .before .before .before .args .text)) x) (now (c .before .before .before .before .before .before .before .before .before .before .args .name))) (span 0 0) _ _ (i .0) (omega (arith, i .1)) _ (c .before .same-name .ensures ∙ ap (λ y. sameName y (now (c .before .before .before .before .before .before .before .before .before .before .args .name))) (c .before .before .part .ensures)) (c .if1 .left), i .1)
 
--- src/finder.rt:38:1
 returns-2 : tie.Need-returns-2 Inv-loop μ-loop
 returns-2 c = let i = c .before .loop .inv in any-end (λ x. sameName (bytesAt (now (c .before .before .before .before .args .text)) x) (now (c .before .before .before .before .args .name))) (span 0 0) (c .before .before .before .before .args .t2) (c .before .loop .seat) (i .0) (omega (arith, i .1))
 

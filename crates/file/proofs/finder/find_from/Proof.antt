@@ -2,17 +2,13 @@
 -- Assumes nothing.
 use Rattle.file.proofs.FinderLaws.{Tally, tally-begin, tally-small, tally-on, tally-end}
 use Rattle.file.proofs.NumberLaws.{seen, found-holds}
-use Rattle.file.specs.Sections.{standingOf}
+use Rattle.sections.specs.Sections.{standingOf}
 use lib.ListN.{length}
 use borrow.Author.Needs.{needs}
 use native.Mathlib.Omega.{arith}
 use Prim.Native.Nat.{_+_, _-_}
 use Rattle.file.proofs.finder.find_from.Statement.{statement}
 use Rattle.file.proofs.finder.find_from.Tie as tie
-use Rattle.file.proofs.finder.find_from.Reads as reads
-use Rattle.file.proofs.finder.find_from.Lts as lts
-use Rattle.file.proofs.finder.found_in.Reads as found-in-reads
-use Rattle.file.proofs.sections.BoardCursor.next.Reads as next-reads
 
 abbrev Inv-loop : tie.InvT-loop
 Inv-loop text name count₀ c₀ count c = Tally text name count (standingOf c)
@@ -20,39 +16,30 @@ Inv-loop text name count₀ c₀ count c = Tally text name count (standingOf c)
 abbrev μ-loop : tie.MeasureT-loop
 μ-loop text name count₀ c₀ count c = length text + 2 - c .at
 
--- src/finder.rt:73:5
 loop-holds : tie.Need-loop-holds Inv-loop μ-loop
 loop-holds c = tally-begin _ _ _ (c .before .before .pre)
 
--- src/finder.rt:74:15
 next-requires : tie.Need-next-requires Inv-loop μ-loop
 next-requires c κs = tt
 
--- src/finder.rt:75:33
 enum-known-p : tie.Need-enum-known-p Inv-loop μ-loop
 enum-known-p c = search needs
 
--- src/finder.rt:76:26
 found-in-requires : tie.Need-found-in-requires Inv-loop μ-loop
 found-in-requires c κs = found-holds _ _ (c .before .before .before .before .loop .inv .way) _ _ _ (seen _ _ _ _ (c .before .before .before .next .ensures) (c .before .p .given .1))
 
--- src/finder.rt:76:17
 add-count : tie.Need-add-count Inv-loop μ-loop
 add-count c = omega (arith, tally-small _ _ _ _ (c .before .before .before .before .before .loop .inv) _ _ _ (seen _ _ _ _ (c .before .before .before .before .next .ensures) (c .before .before .p .given .1)) _ (c .found-in .ensures) .1)
 
--- src/finder.rt:73:5
 loop-less : tie.Need-loop-less Inv-loop μ-loop
 loop-less c = let f = seen _ _ _ _ (c .before .before .before .before .next .ensures) (c .before .before .p .given .1) in omega (arith, f .later, f .within)
 
--- src/finder.rt:73:5
 loop-again : tie.Need-loop-again Inv-loop μ-loop
 loop-again c = tally-on _ _ _ _ (c .before .before .before .before .before .loop .inv) _ _ _ (seen _ _ _ _ (c .before .before .before .before .next .ensures) (c .before .before .p .given .1)) _ (c .found-in .ensures)
 
--- src/finder.rt:80:17
 enum-told : tie.Need-enum-told Inv-loop μ-loop
 enum-told c = search needs
 
--- src/finder.rt:80:17
 returns : tie.Need-returns Inv-loop μ-loop
 returns c = tally-end _ _ _ _ (c .before .before .before .loop .inv) ((seen _ _ _ _ (c .before .before .next .ensures) (c .enum-told .given .1)) .1)
 

@@ -4,32 +4,22 @@ use Rattle.file.proofs.NumberLaws.{ready, counted, count-refused}
 use borrow.Author.Needs.{needs}
 use Rattle.file.proofs.numbers.count_boards.Statement.{statement}
 use Rattle.file.proofs.numbers.count_boards.Tie as tie
-use Rattle.file.proofs.numbers.count_boards.Reads as reads
-use Rattle.file.proofs.numbers.count_boards.Lts as lts
-use Rattle.file.proofs.numbers.count_from.Reads as count-from-reads
-use Rattle.file.proofs.sections.open_boards.Reads as open-boards-reads
 
--- src/numbers.rt:49:11
 open-boards-requires : tie.Need-open-boards-requires
 open-boards-requires c κs = search needs
 
--- src/numbers.rt:50:26
 enum-known-c : tie.Need-enum-known-c
 enum-known-c c = search needs
 
--- src/numbers.rt:50:47
 count-from-requires : tie.Need-count-from-requires
 count-from-requires c κs = ready _ _ (c .before .before .before .open-boards .ensures) _ (c .before .c .given .1)
 
--- src/numbers.rt:51:31
 enum-known-r : tie.Need-enum-known-r
 enum-known-r c = search needs
 
--- src/numbers.rt:46:1
 returns : tie.Need-returns
 returns c = counted _ _ (c .before .before .before .before .open-boards .ensures) _ (c .before .before .c .given .1) _ (c .count-from .ensures)
 
--- src/numbers.rt:46:1
 returns-2 : tie.Need-returns-2
 returns-2 c = count-refused _ _ (c .before .before .before .open-boards .ensures) _ (c .before .r .given .1)
 

@@ -1,16 +1,13 @@
 -- `file::count_from` meets its contract: a turn passes a section.
 -- Assumes nothing.
 use Rattle.file.proofs.NumberLaws.{Way, seen, way-begin, way-on, way-end}
-use Rattle.file.specs.Sections.{standingOf}
+use Rattle.sections.specs.Sections.{standingOf}
 use lib.ListN.{length}
 use borrow.Author.Needs.{needs}
 use native.Mathlib.Omega.{arith}
 use Prim.Native.Nat.{_+_, _-_}
 use Rattle.file.proofs.numbers.count_from.Statement.{statement}
 use Rattle.file.proofs.numbers.count_from.Tie as tie
-use Rattle.file.proofs.numbers.count_from.Reads as reads
-use Rattle.file.proofs.numbers.count_from.Lts as lts
-use Rattle.file.proofs.sections.BoardCursor.next.Reads as next-reads
 
 abbrev Inv-loop : tie.InvT-loop
 Inv-loop text c₀ c = Way text (standingOf c)
@@ -18,31 +15,24 @@ Inv-loop text c₀ c = Way text (standingOf c)
 abbrev μ-loop : tie.MeasureT-loop
 μ-loop text c₀ c = length text + 2 - c .at
 
--- src/numbers.rt:34:5
 loop-holds : tie.Need-loop-holds Inv-loop μ-loop
 loop-holds c = way-begin _ _ (c .before .pre)
 
--- src/numbers.rt:35:15
 next-requires : tie.Need-next-requires Inv-loop μ-loop
 next-requires c κs = tt
 
--- src/numbers.rt:36:36
 enum-known-next : tie.Need-enum-known-next Inv-loop μ-loop
 enum-known-next c = search needs
 
--- src/numbers.rt:34:5
 loop-less : tie.Need-loop-less Inv-loop μ-loop
 loop-less c = let f = seen _ _ _ _ (c .before .before .before .next .ensures) (c .before .next2 .given .1) in omega (arith, f .later, f .within)
 
--- src/numbers.rt:34:5
 loop-again : tie.Need-loop-again Inv-loop μ-loop
 loop-again c = way-on _ _ (c .before .before .before .before .loop .inv) _ _ _ (seen _ _ _ _ (c .before .before .before .next .ensures) (c .before .next2 .given .1))
 
--- src/numbers.rt:40:17
 enum-told : tie.Need-enum-told Inv-loop μ-loop
 enum-told c = search needs
 
--- src/numbers.rt:40:17
 returns : tie.Need-returns Inv-loop μ-loop
 returns c = way-end _ _ (c .before .before .before .loop .inv) ((seen _ _ _ _ (c .before .before .next .ensures) (c .enum-told .given .1)) .1)
 

@@ -1,16 +1,13 @@
 -- `file::find_board` meets its contract: a turn passes a section that is not the one looked for.
 -- Assumes nothing.
 use Rattle.file.proofs.NumberLaws.{Seeks, seen, seeks-begin, seeks-on, seeks-found, seeks-missing}
-use Rattle.file.specs.Sections.{standingOf}
+use Rattle.sections.specs.Sections.{standingOf}
 use lib.ListN.{length}
 use borrow.Author.Needs.{needs}
 use native.Mathlib.Omega.{arith}
 use Prim.Native.Nat.{_+_, _-_}
 use Rattle.file.proofs.numbers.find_board.Statement.{statement}
 use Rattle.file.proofs.numbers.find_board.Tie as tie
-use Rattle.file.proofs.numbers.find_board.Reads as reads
-use Rattle.file.proofs.numbers.find_board.Lts as lts
-use Rattle.file.proofs.sections.BoardCursor.next.Reads as next-reads
 
 abbrev Inv-loop : tie.InvT-loop
 Inv-loop text number c₀ c = Seeks text number (standingOf c)
@@ -18,35 +15,27 @@ Inv-loop text number c₀ c = Seeks text number (standingOf c)
 abbrev μ-loop : tie.MeasureT-loop
 μ-loop text number c₀ c = length text + 2 - c .at
 
--- src/numbers.rt:61:5
 loop-holds : tie.Need-loop-holds Inv-loop μ-loop
 loop-holds c = seeks-begin _ _ _ (c .before .pre)
 
--- src/numbers.rt:62:15
 next-requires : tie.Need-next-requires Inv-loop μ-loop
 next-requires c κs = tt
 
--- src/numbers.rt:63:30
 enum-known-n : tie.Need-enum-known-n Inv-loop μ-loop
 enum-known-n c = search needs
 
--- src/numbers.rt:65:21
 returns : tie.Need-returns Inv-loop μ-loop
 returns c = seeks-found _ _ _ (c .before .before .before .before .before .before .loop .inv) _ _ _ (seen _ _ _ _ (c .before .before .before .before .before .next .ensures) (c .before .before .before .n .given .1)) (c .if1 .taken)
 
--- src/numbers.rt:61:5
 loop-less : tie.Need-loop-less Inv-loop μ-loop
 loop-less c = let f = seen _ _ _ _ (c .before .before .before .before .before .next .ensures) (c .before .before .before .n .given .1) in omega (arith, f .later, f .within)
 
--- src/numbers.rt:61:5
 loop-again : tie.Need-loop-again Inv-loop μ-loop
 loop-again c = seeks-on _ _ _ (c .before .before .before .before .before .before .loop .inv) _ _ _ (seen _ _ _ _ (c .before .before .before .before .before .next .ensures) (c .before .before .before .n .given .1)) (c .if1 .left)
 
--- src/numbers.rt:70:17
 enum-told : tie.Need-enum-told Inv-loop μ-loop
 enum-told c = search needs
 
--- src/numbers.rt:70:17
 returns-2 : tie.Need-returns-2 Inv-loop μ-loop
 returns-2 c = seeks-missing _ _ _ (c .before .before .before .loop .inv) ((seen _ _ _ _ (c .before .before .next .ensures) (c .enum-told .given .1)) .1)
 

@@ -3,9 +3,6 @@
 use borrow.Author.Needs.{needs}
 use Rattle.lin_host.proofs.annotations.annotation_numbers.Statement.{statement}
 use Rattle.lin_host.proofs.annotations.annotation_numbers.Tie as tie
-use Rattle.lin_host.proofs.annotations.annotation_numbers.Reads as reads
-use Rattle.lin_host.proofs.annotations.annotation_numbers.Lts as lts
-use Rattle.lin_host.proofs.answers.refusal.Reads as refusal-reads
 
 enum-told : tie.Need-enum-told
 enum-told c = search needs

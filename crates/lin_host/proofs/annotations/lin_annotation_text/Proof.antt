@@ -5,10 +5,6 @@ use Rattle.lin_host.specs.Annotations.{annotatedNumbers}
 use borrow.Author.Needs.{needs}
 use Rattle.lin_host.proofs.annotations.lin_annotation_text.Statement.{statement}
 use Rattle.lin_host.proofs.annotations.lin_annotation_text.Tie as tie
-use Rattle.lin_host.proofs.annotations.lin_annotation_text.Reads as reads
-use Rattle.lin_host.proofs.annotations.lin_annotation_text.Lts as lts
-use Rattle.annotation.proofs.annotation_text.Reads as annotation-text-reads
-use Rattle.lin_host.proofs.annotations.annotation_numbers.Reads as annotation-numbers-reads
 
 annotation-text-requires : tie.Need-annotation-text-requires
 annotation-text-requires c κs = search needs

@@ -3,9 +3,6 @@
 use borrow.Author.Needs.{needs}
 use Rattle.lin_host.proofs.answers.written.Statement.{statement}
 use Rattle.lin_host.proofs.answers.written.Tie as tie
-use Rattle.lin_host.proofs.answers.written.Reads as reads
-use Rattle.lin_host.proofs.answers.written.Lts as lts
-use Rattle.lin_host.proofs.answers.refusal.Reads as refusal-reads
 
 enum-known-w : tie.Need-enum-known-w
 enum-known-w c = search needs

@@ -4,20 +4,13 @@ use Rattle.lin_host.specs.Boards.{headingNumbers}
 use borrow.Author.Needs.{needs}
 use Rattle.lin_host.proofs.boards.heading_numbers.Statement.{statement}
 use Rattle.lin_host.proofs.boards.heading_numbers.Tie as tie
-use Rattle.lin_host.proofs.boards.heading_numbers.Reads as reads
-use Rattle.lin_host.proofs.boards.heading_numbers.Lts as lts
-use Rattle.lin_host.proofs.boards.board_numbers.Reads as board-numbers-reads
-use Rattle.lin_host.proofs.boards.verdict_numbers.Reads as verdict-numbers-reads
 
--- src/boards.rt:166:17
 verdict-numbers-requires : tie.Need-verdict-numbers-requires
 verdict-numbers-requires c κs = search needs
 
--- src/boards.rt:169:16
 board-numbers-requires : tie.Need-board-numbers-requires
 board-numbers-requires c κs = search needs
 
--- src/boards.rt:160:1
 returns : tie.Need-returns
 unfolding headingNumbers
 returns c = cc

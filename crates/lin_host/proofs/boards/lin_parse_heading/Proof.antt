@@ -5,20 +5,13 @@ use Rattle.lin_host.specs.Boards.{headingNumbers}
 use borrow.Author.Needs.{needs}
 use Rattle.lin_host.proofs.boards.lin_parse_heading.Statement.{statement}
 use Rattle.lin_host.proofs.boards.lin_parse_heading.Tie as tie
-use Rattle.lin_host.proofs.boards.lin_parse_heading.Reads as reads
-use Rattle.lin_host.proofs.boards.lin_parse_heading.Lts as lts
-use Rattle.board.proofs.parse_lin_heading.Reads as parse-lin-heading-reads
-use Rattle.lin_host.proofs.boards.heading_numbers.Reads as heading-numbers-reads
 
--- src/boards.rt:179:21
 parse-lin-heading-requires : tie.Need-parse-lin-heading-requires
 parse-lin-heading-requires c κs = search needs
 
--- src/boards.rt:179:5
 heading-numbers-requires : tie.Need-heading-numbers-requires
 heading-numbers-requires c κs = search needs
 
--- src/boards.rt:175:1
 returns : tie.Need-returns
 returns c = c .heading-numbers .ensures ∙ ap headingNumbers (c .before .parse-lin-heading .ensures)
 

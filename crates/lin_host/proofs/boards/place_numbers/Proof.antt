@@ -11,8 +11,6 @@ use Rattle.lin_host.specs.Boards.{placeNumbers}
 use borrow.Author.Needs.{needs}
 use Rattle.lin_host.proofs.boards.place_numbers.Statement.{statement}
 use Rattle.lin_host.proofs.boards.place_numbers.Tie as tie
-use Rattle.lin_host.proofs.boards.place_numbers.Reads as reads
-use Rattle.lin_host.proofs.boards.place_numbers.Lts as lts
 
 nth : List Span → ℕ → Span
 nth xs i = getD xs i (span 0 0)
@@ -26,23 +24,18 @@ four (s ∷ w ∷ n ∷ []) h = absurd (omega arith)
 four (s ∷ w ∷ n ∷ e ∷ []) h = refl
 four (s ∷ w ∷ n ∷ e ∷ x ∷ xs) h = absurd (omega arith)
 
--- src/boards.rt:70:13
 array-copy-out-s : tie.Need-array-copy-out-s
 array-copy-out-s c = search needs
 
--- src/boards.rt:71:13
 array-copy-out-w : tie.Need-array-copy-out-w
 array-copy-out-w c = search needs
 
--- src/boards.rt:72:13
 array-copy-out-n : tie.Need-array-copy-out-n
 array-copy-out-n c = search needs
 
--- src/boards.rt:73:13
 array-copy-out-e : tie.Need-array-copy-out-e
 array-copy-out-e c = search needs
 
--- src/boards.rt:67:1
 returns : tie.Need-returns
 unfolding nth
 returns c = four _ (search needs)

@@ -4,10 +4,6 @@ use Rattle.lin_host.specs.Codes.{badCodes}
 use borrow.Author.Needs.{needs}
 use Rattle.lin_host.proofs.codes.bad_codes.Statement.{statement}
 use Rattle.lin_host.proofs.codes.bad_codes.Tie as tie
-use Rattle.lin_host.proofs.codes.bad_codes.Reads as reads
-use Rattle.lin_host.proofs.codes.bad_codes.Lts as lts
-use Rattle.lin_host.proofs.codes.bad_claim.Reads as bad-claim-reads
-use Rattle.lin_host.proofs.codes.bad_texts.Reads as bad-texts-reads
 
 bad-texts-requires : tie.Need-bad-texts-requires
 bad-texts-requires c κs = search needs

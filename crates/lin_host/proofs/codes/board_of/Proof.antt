@@ -4,13 +4,6 @@ use Rattle.lin_host.specs.Codes.{boardOf}
 use borrow.Author.Needs.{needs}
 use Rattle.lin_host.proofs.codes.board_of.Statement.{statement}
 use Rattle.lin_host.proofs.codes.board_of.Tie as tie
-use Rattle.lin_host.proofs.codes.board_of.Reads as reads
-use Rattle.lin_host.proofs.codes.board_of.Lts as lts
-use Rattle.lin_host.proofs.codes.claim_of.Reads as claim-of-reads
-use Rattle.lin_host.proofs.codes.names_of.Reads as names-of-reads
-use Rattle.lin_host.proofs.codes.seat_of.Reads as seat-of-reads
-use Rattle.lin_host.proofs.codes.text_of.Reads as text-of-reads
-use Rattle.lin_host.proofs.codes.vulnerability_of.Reads as vulnerability-of-reads
 
 names-of-requires : tie.Need-names-of-requires
 names-of-requires c κs = search needs

@@ -4,8 +4,6 @@ use borrow.Author.Tests.{eq-eqb, ne-eqb, lt-ltb, le-ltb}
 use borrow.Author.Needs.{needs}
 use Rattle.lin_host.proofs.codes.claim_of.Statement.{statement}
 use Rattle.lin_host.proofs.codes.claim_of.Tie as tie
-use Rattle.lin_host.proofs.codes.claim_of.Reads as reads
-use Rattle.lin_host.proofs.codes.claim_of.Lts as lts
 
 returns : tie.Need-returns
 returns c = simp (eq-eqb _ _ (c .if1 .taken))

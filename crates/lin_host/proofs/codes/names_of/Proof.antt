@@ -4,8 +4,6 @@ use Rattle.lin_host.proofs.CodeLaws.{eight}
 use borrow.Author.Needs.{needs}
 use Rattle.lin_host.proofs.codes.names_of.Statement.{statement}
 use Rattle.lin_host.proofs.codes.names_of.Tie as tie
-use Rattle.lin_host.proofs.codes.names_of.Reads as reads
-use Rattle.lin_host.proofs.codes.names_of.Lts as lts
 
 array-read-t9 : tie.Need-array-read-t9
 array-read-t9 c = search needs

@@ -3,8 +3,6 @@
 use borrow.Author.Tests.{ne-eqb}
 use Rattle.lin_host.proofs.codes.seat_of.Statement.{statement}
 use Rattle.lin_host.proofs.codes.seat_of.Tie as tie
-use Rattle.lin_host.proofs.codes.seat_of.Reads as reads
-use Rattle.lin_host.proofs.codes.seat_of.Lts as lts
 
 returns : tie.Need-returns
 returns c = rw (c .match .keys1)

@@ -7,12 +7,6 @@ use Rattle.lin_host.proofs.ConvertingLaws.{converting}
 use borrow.Author.Needs.{needs}
 use Rattle.lin_host.proofs.converting.lin_from_board.Statement.{statement}
 use Rattle.lin_host.proofs.converting.lin_from_board.Tie as tie
-use Rattle.lin_host.proofs.converting.lin_from_board.Reads as reads
-use Rattle.lin_host.proofs.converting.lin_from_board.Lts as lts
-use Rattle.lin_host.proofs.boards.heading_numbers.Reads as heading-numbers-reads
-use Rattle.lin_host.proofs.records.bad_record.Reads as bad-record-reads
-use Rattle.lin_host.proofs.records.record_of.Reads as record-of-reads
-use Rattle.pbn.proofs.from_board_with.Reads as from-board-with-reads
 
 bad-record-requires : tie.Need-bad-record-requires
 bad-record-requires c κs = search needs

@@ -5,20 +5,13 @@ use Rattle.lin_host.specs.Answers.{numbersOf}
 use borrow.Author.Needs.{needs}
 use Rattle.lin_host.proofs.files.lin_count_boards.Statement.{statement}
 use Rattle.lin_host.proofs.files.lin_count_boards.Tie as tie
-use Rattle.lin_host.proofs.files.lin_count_boards.Reads as reads
-use Rattle.lin_host.proofs.files.lin_count_boards.Lts as lts
-use Rattle.file.proofs.count_boards.Reads as count-boards-reads
-use Rattle.lin_host.proofs.files.counted.Reads as counted-reads
 
--- src/files.rt:124:13
 count-boards-requires : tie.Need-count-boards-requires
 count-boards-requires c κs = search needs
 
--- src/files.rt:124:5
 counted-requires : tie.Need-counted-requires
 counted-requires c κs = search needs
 
--- src/files.rt:120:1
 returns : tie.Need-returns
 returns c = c .counted .ensures ∙ ap numbersOf (c .before .count-boards .ensures)
 

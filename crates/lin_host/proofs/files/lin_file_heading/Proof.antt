@@ -5,20 +5,13 @@ use Rattle.lin_host.specs.Boards.{headingNumbers}
 use borrow.Author.Needs.{needs}
 use Rattle.lin_host.proofs.files.lin_file_heading.Statement.{statement}
 use Rattle.lin_host.proofs.files.lin_file_heading.Tie as tie
-use Rattle.lin_host.proofs.files.lin_file_heading.Reads as reads
-use Rattle.lin_host.proofs.files.lin_file_heading.Lts as lts
-use Rattle.file.proofs.file_heading.Reads as file-heading-reads
-use Rattle.lin_host.proofs.boards.heading_numbers.Reads as heading-numbers-reads
 
--- src/files.rt:131:21
 file-heading-requires : tie.Need-file-heading-requires
 file-heading-requires c κs = search needs
 
--- src/files.rt:131:5
 heading-numbers-requires : tie.Need-heading-numbers-requires
 heading-numbers-requires c κs = search needs
 
--- src/files.rt:127:1
 returns : tie.Need-returns
 returns c = c .heading-numbers .ensures ∙ ap headingNumbers (c .before .file-heading .ensures)
 

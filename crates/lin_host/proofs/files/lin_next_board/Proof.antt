@@ -5,20 +5,13 @@ use Rattle.lin_host.specs.Files.{visitNumbers}
 use borrow.Author.Needs.{needs}
 use Rattle.lin_host.proofs.files.lin_next_board.Statement.{statement}
 use Rattle.lin_host.proofs.files.lin_next_board.Tie as tie
-use Rattle.lin_host.proofs.files.lin_next_board.Reads as reads
-use Rattle.lin_host.proofs.files.lin_next_board.Lts as lts
-use Rattle.file.proofs.sections.BoardCursor.next.Reads as next-reads
-use Rattle.lin_host.proofs.files.section_numbers.Reads as section-numbers-reads
 
--- src/files.rt:171:21
 next-requires : tie.Need-next-requires
 next-requires c κs = search needs
 
--- src/files.rt:171:5
 section-numbers-requires : tie.Need-section-numbers-requires
 section-numbers-requires c κs = search needs
 
--- src/files.rt:162:1
 returns : tie.Need-returns
 returns c = c .section-numbers .ensures ∙ ap visitNumbers (c .before .next .ensures)
 

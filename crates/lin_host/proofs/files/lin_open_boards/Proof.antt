@@ -5,20 +5,13 @@ use Rattle.lin_host.specs.Files.{openedNumbers}
 use borrow.Author.Needs.{needs}
 use Rattle.lin_host.proofs.files.lin_open_boards.Statement.{statement}
 use Rattle.lin_host.proofs.files.lin_open_boards.Tie as tie
-use Rattle.lin_host.proofs.files.lin_open_boards.Reads as reads
-use Rattle.lin_host.proofs.files.lin_open_boards.Lts as lts
-use Rattle.file.proofs.open_boards.Reads as open-boards-reads
-use Rattle.lin_host.proofs.files.opened_numbers.Reads as opened-numbers-reads
 
--- src/files.rt:158:20
 open-boards-requires : tie.Need-open-boards-requires
 open-boards-requires c κs = search needs
 
--- src/files.rt:158:5
 opened-numbers-requires : tie.Need-opened-numbers-requires
 opened-numbers-requires c κs = search needs
 
--- src/files.rt:154:1
 returns : tie.Need-returns
 returns c = c .opened-numbers .ensures ∙ ap openedNumbers (c .before .open-boards .ensures)
 

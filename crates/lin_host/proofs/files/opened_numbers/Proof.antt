@@ -4,33 +4,23 @@ use Rattle.lin_host.specs.Files.{openedNumbers}
 use borrow.Author.Needs.{needs}
 use Rattle.lin_host.proofs.files.opened_numbers.Statement.{statement}
 use Rattle.lin_host.proofs.files.opened_numbers.Tie as tie
-use Rattle.lin_host.proofs.files.opened_numbers.Reads as reads
-use Rattle.lin_host.proofs.files.opened_numbers.Lts as lts
-use Rattle.lin_host.proofs.answers.refusal.Reads as refusal-reads
-use Rattle.lin_host.proofs.files.flag_number.Reads as flag-number-reads
 
--- src/files.rt:74:26
 enum-known-o : tie.Need-enum-known-o
 enum-known-o c = search needs
 
--- src/files.rt:82:20
 flag-number-requires : tie.Need-flag-number-requires
 flag-number-requires c κs = search needs
 
--- src/files.rt:84:31
 enum-known-o-2 : tie.Need-enum-known-o-2
 enum-known-o-2 c = search needs
 
--- src/files.rt:85:21
 refusal-requires : tie.Need-refusal-requires
 refusal-requires c κs = search needs
 
--- src/files.rt:70:1
 returns : tie.Need-returns
 unfolding openedNumbers
 returns c = rw (c .before .before .o .given .1, c .flag-number .ensures)
 
--- src/files.rt:70:1
 returns-2 : tie.Need-returns-2
 unfolding openedNumbers
 returns-2 c = rw (c .before .before .o2 .given .1, c .refusal .ensures)

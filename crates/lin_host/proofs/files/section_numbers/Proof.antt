@@ -4,28 +4,20 @@ use Rattle.lin_host.specs.Files.{visitNumbers}
 use borrow.Author.Needs.{needs}
 use Rattle.lin_host.proofs.files.section_numbers.Statement.{statement}
 use Rattle.lin_host.proofs.files.section_numbers.Tie as tie
-use Rattle.lin_host.proofs.files.section_numbers.Reads as reads
-use Rattle.lin_host.proofs.files.section_numbers.Lts as lts
-use Rattle.lin_host.proofs.files.flag_number.Reads as flag-number-reads
 
--- src/files.rt:97:26
 enum-known-s : tie.Need-enum-known-s
 enum-known-s c = search needs
 
--- src/files.rt:102:20
 flag-number-requires : tie.Need-flag-number-requires
 flag-number-requires c κs = search needs
 
--- src/files.rt:106:26
 enum-known-s-2 : tie.Need-enum-known-s-2
 enum-known-s-2 c = search needs
 
--- src/files.rt:93:1
 returns : tie.Need-returns
 unfolding visitNumbers
 returns c = rw (c .before .before .s .given .1, c .flag-number .ensures)
 
--- src/files.rt:93:1
 returns-2 : tie.Need-returns-2
 unfolding visitNumbers
 returns-2 c = rw (c .before .s2 .given .1)

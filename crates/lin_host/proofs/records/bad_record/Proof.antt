@@ -4,11 +4,6 @@ use Rattle.lin_host.specs.Records.{badRecord}
 use borrow.Author.Needs.{needs}
 use Rattle.lin_host.proofs.records.bad_record.Statement.{statement}
 use Rattle.lin_host.proofs.records.bad_record.Tie as tie
-use Rattle.lin_host.proofs.records.bad_record.Reads as reads
-use Rattle.lin_host.proofs.records.bad_record.Lts as lts
-use Rattle.lin_host.proofs.records.bad_dealer.Reads as bad-dealer-reads
-use Rattle.lin_host.proofs.records.bad_head.Reads as bad-head-reads
-use Rattle.lin_host.proofs.records.bad_names.Reads as bad-names-reads
 
 bad-names-requires : tie.Need-bad-names-requires
 bad-names-requires c κs = search needs

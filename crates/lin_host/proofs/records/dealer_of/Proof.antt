@@ -4,9 +4,6 @@ use borrow.Author.Tests.{eq-eqb, ne-eqb}
 use borrow.Author.Needs.{needs}
 use Rattle.lin_host.proofs.records.dealer_of.Statement.{statement}
 use Rattle.lin_host.proofs.records.dealer_of.Tie as tie
-use Rattle.lin_host.proofs.records.dealer_of.Reads as reads
-use Rattle.lin_host.proofs.records.dealer_of.Lts as lts
-use Rattle.lin_host.proofs.codes.seat_of.Reads as seat-of-reads
 
 returns : tie.Need-returns
 returns c = simp (eq-eqb _ _ (c .if1 .taken))

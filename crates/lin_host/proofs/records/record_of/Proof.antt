@@ -6,13 +6,6 @@ use Rattle.lin_host.specs.Records.{recordOf}
 use borrow.Author.Needs.{needs}
 use Rattle.lin_host.proofs.records.record_of.Statement.{statement}
 use Rattle.lin_host.proofs.records.record_of.Tie as tie
-use Rattle.lin_host.proofs.records.record_of.Reads as reads
-use Rattle.lin_host.proofs.records.record_of.Lts as lts
-use Rattle.lin_host.proofs.codes.text_of.Reads as text-of-reads
-use Rattle.lin_host.proofs.codes.vulnerability_of.Reads as vulnerability-of-reads
-use Rattle.lin_host.proofs.records.board_number_of.Reads as board-number-of-reads
-use Rattle.lin_host.proofs.records.dealer_of.Reads as dealer-of-reads
-use Rattle.lin_host.proofs.records.result_of.Reads as result-of-reads
 
 text-of-requires : tie.Need-text-of-requires
 text-of-requires c κs = search needs

@@ -7,8 +7,6 @@ use Rattle.lin_spec.specs.declared.MaybeResult.the-variants.{Tricks}
 use borrow.Author.Tests.{eq-eqb, ne-eqb}
 use Rattle.lin_host.proofs.records.result_of.Statement.{statement}
 use Rattle.lin_host.proofs.records.result_of.Tie as tie
-use Rattle.lin_host.proofs.records.result_of.Reads as reads
-use Rattle.lin_host.proofs.records.result_of.Lts as lts
 
 returns : tie.Need-returns
 returns c = simp (eq-eqb _ _ (c .if1 .taken))

@@ -5,20 +5,13 @@ use Rattle.lin_host.specs.Answers.{numbersOf}
 use borrow.Author.Needs.{needs}
 use Rattle.lin_host.proofs.tokens.lin_open.Statement.{statement}
 use Rattle.lin_host.proofs.tokens.lin_open.Tie as tie
-use Rattle.lin_host.proofs.tokens.lin_open.Reads as reads
-use Rattle.lin_host.proofs.tokens.lin_open.Lts as lts
-use Rattle.document.proofs.open.Reads as open-reads
-use Rattle.lin_host.proofs.tokens.opened.Reads as opened-reads
 
--- src/tokens.rt:99:12
 open-requires : tie.Need-open-requires
 open-requires c κs = search needs
 
--- src/tokens.rt:99:5
 opened-requires : tie.Need-opened-requires
 opened-requires c κs = search needs
 
--- src/tokens.rt:95:1
 returns : tie.Need-returns
 returns c = c .opened .ensures ∙ ap numbersOf (c .before .«open» .ensures)
 

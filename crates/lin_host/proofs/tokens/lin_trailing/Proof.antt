@@ -3,15 +3,10 @@
 use borrow.Author.Needs.{needs}
 use Rattle.lin_host.proofs.tokens.lin_trailing.Statement.{statement}
 use Rattle.lin_host.proofs.tokens.lin_trailing.Tie as tie
-use Rattle.lin_host.proofs.tokens.lin_trailing.Reads as reads
-use Rattle.lin_host.proofs.tokens.lin_trailing.Lts as lts
-use Rattle.document.proofs.trailing.Reads as trailing-reads
 
--- src/tokens.rt:115:9
 trailing-requires : tie.Need-trailing-requires
 trailing-requires c κs = search needs
 
--- src/tokens.rt:111:1
 returns : tie.Need-returns
 returns c = cc
 

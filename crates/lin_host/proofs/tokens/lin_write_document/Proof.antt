@@ -5,24 +5,16 @@ use Rattle.lin_host.specs.Answers.{outcomeNumbers}
 use borrow.Author.Needs.{needs}
 use Rattle.lin_host.proofs.tokens.lin_write_document.Statement.{statement}
 use Rattle.lin_host.proofs.tokens.lin_write_document.Tie as tie
-use Rattle.lin_host.proofs.tokens.lin_write_document.Reads as reads
-use Rattle.lin_host.proofs.tokens.lin_write_document.Lts as lts
-use Rattle.document.proofs.write_document.Reads as write-document-reads
-use Rattle.lin_host.proofs.answers.written.Reads as written-reads
 
--- src/tokens.rt:132:13
 write-document-requires : tie.Need-write-document-requires
 write-document-requires c κs = search needs
 
--- src/tokens.rt:132:5
 written-requires : tie.Need-written-requires
 written-requires c κs = search needs
 
--- src/tokens.rt:122:1
 same-length : tie.Need-same-length
 same-length c = search needs
 
--- src/tokens.rt:122:1
 returns : tie.Need-returns
 returns c = rw (c .written .ensures) (ap outcomeNumbers (c .before .before .before .write-document .ensures))
 

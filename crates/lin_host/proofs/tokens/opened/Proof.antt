@@ -3,27 +3,19 @@
 use borrow.Author.Needs.{needs}
 use Rattle.lin_host.proofs.tokens.opened.Statement.{statement}
 use Rattle.lin_host.proofs.tokens.opened.Tie as tie
-use Rattle.lin_host.proofs.tokens.opened.Reads as reads
-use Rattle.lin_host.proofs.tokens.opened.Lts as lts
-use Rattle.lin_host.proofs.answers.refusal.Reads as refusal-reads
 
--- src/tokens.rt:44:20
 enum-known-o : tie.Need-enum-known-o
 enum-known-o c = search needs
 
--- src/tokens.rt:49:25
 enum-known-o-2 : tie.Need-enum-known-o-2
 enum-known-o-2 c = search needs
 
--- src/tokens.rt:49:31
 refusal-requires : tie.Need-refusal-requires
 refusal-requires c κs = search needs
 
--- src/tokens.rt:40:1
 returns : tie.Need-returns
 returns c = rw (c .before .o .given .1)
 
--- src/tokens.rt:40:1
 returns-2 : tie.Need-returns-2
 returns-2 c = rw (c .before .before .o2 .given .1) (c .refusal .ensures)
 

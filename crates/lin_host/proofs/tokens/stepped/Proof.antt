@@ -3,22 +3,16 @@
 use borrow.Author.Needs.{needs}
 use Rattle.lin_host.proofs.tokens.stepped.Statement.{statement}
 use Rattle.lin_host.proofs.tokens.stepped.Tie as tie
-use Rattle.lin_host.proofs.tokens.stepped.Reads as reads
-use Rattle.lin_host.proofs.tokens.stepped.Lts as lts
 
--- src/tokens.rt:70:21
 enum-known-s : tie.Need-enum-known-s
 enum-known-s c = search needs
 
--- src/tokens.rt:82:21
 enum-known-s-2 : tie.Need-enum-known-s-2
 enum-known-s-2 c = search needs
 
--- src/tokens.rt:66:1
 returns : tie.Need-returns
 returns c = rw (c .before .before .before .s .given .1)
 
--- src/tokens.rt:66:1
 returns-2 : tie.Need-returns-2
 returns-2 c = rw (c .before .s2 .given .1)
 

@@ -3,9 +3,6 @@
 use borrow.Author.Needs.{needs}
 use Rattle.lin_host.proofs.writing.compared.Statement.{statement}
 use Rattle.lin_host.proofs.writing.compared.Tie as tie
-use Rattle.lin_host.proofs.writing.compared.Reads as reads
-use Rattle.lin_host.proofs.writing.compared.Lts as lts
-use Rattle.lin_host.proofs.answers.refusal.Reads as refusal-reads
 
 enum-told : tie.Need-enum-told
 enum-told c = search needs

@@ -7,12 +7,6 @@ use Rattle.lin_host.proofs.WritingLaws.{appending}
 use borrow.Author.Needs.{needs}
 use Rattle.lin_host.proofs.writing.lin_append.Statement.{statement}
 use Rattle.lin_host.proofs.writing.lin_append.Tie as tie
-use Rattle.lin_host.proofs.writing.lin_append.Reads as reads
-use Rattle.lin_host.proofs.writing.lin_append.Lts as lts
-use Rattle.lin_host.proofs.answers.written.Reads as written-reads
-use Rattle.lin_host.proofs.codes.bad_codes.Reads as bad-codes-reads
-use Rattle.lin_host.proofs.codes.board_of.Reads as board-of-reads
-use Rattle.writer.proofs.append_with.Reads as append-with-reads
 
 bad-codes-requires : tie.Need-bad-codes-requires
 bad-codes-requires c κs = search needs

@@ -5,10 +5,6 @@ use Rattle.lin_host.specs.Answers.{outcomeNumbers}
 use borrow.Author.Needs.{needs}
 use Rattle.lin_host.proofs.writing.lin_play_text.Statement.{statement}
 use Rattle.lin_host.proofs.writing.lin_play_text.Tie as tie
-use Rattle.lin_host.proofs.writing.lin_play_text.Reads as reads
-use Rattle.lin_host.proofs.writing.lin_play_text.Lts as lts
-use Rattle.cardtext.proofs.format_cardplay_by_trick.Reads as format-cardplay-by-trick-reads
-use Rattle.lin_host.proofs.answers.written.Reads as written-reads
 
 format-cardplay-by-trick-requires : tie.Need-format-cardplay-by-trick-requires
 format-cardplay-by-trick-requires c κs = search needs

@@ -7,12 +7,6 @@ use Rattle.lin_host.proofs.WritingLaws.{comparing}
 use borrow.Author.Needs.{needs}
 use Rattle.lin_host.proofs.writing.lin_same_board.Statement.{statement}
 use Rattle.lin_host.proofs.writing.lin_same_board.Tie as tie
-use Rattle.lin_host.proofs.writing.lin_same_board.Reads as reads
-use Rattle.lin_host.proofs.writing.lin_same_board.Lts as lts
-use Rattle.equality.proofs.same_boards.Reads as same-boards-reads
-use Rattle.lin_host.proofs.codes.bad_codes.Reads as bad-codes-reads
-use Rattle.lin_host.proofs.codes.board_of.Reads as board-of-reads
-use Rattle.lin_host.proofs.writing.compared.Reads as compared-reads
 
 bad-codes-requires : tie.Need-bad-codes-requires
 bad-codes-requires c κs = search needs

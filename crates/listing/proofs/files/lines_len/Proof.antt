@@ -2,7 +2,7 @@
 -- Assumes nothing.
 use Rattle.listing.proofs.FileLaws.{Measured, measured-begin, measured-on, measured-end}
 use Rattle.file.proofs.NumberLaws.{seen, found-holds}
-use Rattle.file.specs.Sections.{standingOf}
+use Rattle.sections.specs.Sections.{standingOf}
 use lib.ListN.{length}
 use borrow.Author.Needs.{needs}
 use native.Mathlib.Omega.{arith}

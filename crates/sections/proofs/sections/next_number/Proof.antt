@@ -1,27 +1,21 @@
 -- `file::next_number` meets its contract.
 -- Assumes nothing.
 use Prim.Native.Nat.{_+_}
-use Rattle.file.proofs.SectionLaws.{number-stays, number-more}
+use Rattle.sections.proofs.SectionLaws.{number-stays, number-more}
 use native.Mathlib.Omega.{arith}
 use borrow.Author.Needs.{needs}
-use Rattle.file.proofs.sections.next_number.Statement.{statement}
-use Rattle.file.proofs.sections.next_number.Tie as tie
-use Rattle.file.proofs.sections.next_number.Reads as reads
-use Rattle.file.proofs.sections.next_number.Lts as lts
+use Rattle.sections.proofs.sections.next_number.Statement.{statement}
+use Rattle.sections.proofs.sections.next_number.Tie as tie
 
--- src/sections.rt:130:9
 returns : tie.Need-returns
 returns c = let a = c .before .args in number-stays (a .number) (a .board) (c .if1 .taken)
 
--- src/sections.rt:133:16
 add-result : tie.Need-add-result
 add-result c = search needs
 
--- src/sections.rt:133:9
 returns-2 : tie.Need-returns-2
 returns-2 c = let a = c .before .before .args in number-more (a .number) (a .number + 1) (a .board) (c .before .if1 .left) (omega arith)
 
--- src/sections.rt:126:1
 returns-3 : tie.Need-returns-3
 returns-3 c = let a = c .before .before .args in number-more (a .number) (a .number) (a .board) (c .before .if1 .left) (omega arith)
 

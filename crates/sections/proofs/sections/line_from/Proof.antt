@@ -1,37 +1,27 @@
 -- `file::line_from` meets its contract: the line ends at the next LF or at the end.
 -- Assumes nothing.
-use Rattle.file.proofs.SectionLaws.{line-stop, line-is}
+use Rattle.sections.proofs.SectionLaws.{line-stop, line-is}
 use mathlib.Core.Path.{_≡_, ap, _∙_}
 use native.Mathlib.Omega.{arith}
 use borrow.Author.Needs.{needs}
-use Rattle.file.proofs.sections.line_from.Statement.{statement}
-use Rattle.file.proofs.sections.line_from.Tie as tie
-use Rattle.file.proofs.sections.line_from.Reads as reads
-use Rattle.file.proofs.sections.line_from.Lts as lts
-use Rattle.text.proofs.find_byte.Reads as find-byte-reads
-use Rattle.text.proofs.is_blank.Reads as is-blank-reads
+use Rattle.sections.proofs.sections.line_from.Statement.{statement}
+use Rattle.sections.proofs.sections.line_from.Tie as tie
 
--- src/sections.rt:117:9
 find-byte-requires : tie.Need-find-byte-requires
 find-byte-requires c κs = search needs
 
--- src/sections.rt:121:26
 sub-is-blank : tie.Need-sub-is-blank
 sub-is-blank c = omega (arith, line-stop _ _ _ (c .before .before .pre) (c .find-byte .ensures) .0)
 
--- src/sections.rt:121:26
 part-is-blank-start : tie.Need-part-is-blank-start
 part-is-blank-start c = omega (arith, line-stop _ _ _ (c .before .before .pre) (c .find-byte .ensures) .0)
 
--- src/sections.rt:121:26
 part-is-blank-end : tie.Need-part-is-blank-end
 part-is-blank-end c = omega (arith, line-stop _ _ _ (c .before .before .pre) (c .find-byte .ensures) .1)
 
--- src/sections.rt:121:17
 is-blank-requires : tie.Need-is-blank-requires
 is-blank-requires c κs = search needs
 
--- src/sections.rt:113:1
 returns : tie.Need-returns
 returns c = line-is _ _ _ (c .before .before .before .before .pre) (c .before .before .find-byte .ensures) _ (c .is-blank .ensures)
 

@@ -33,9 +33,9 @@ use Rattle.lin_spec.proofs.Records.{part-length, part-rest}
 use Rattle.lin_spec.proofs.Cursor.{find-within, find-after, cut-at, cut-end}
 use Rattle.lin_spec.proofs.File.{lineAt, partEnd, visit-is, upTo, none-yet, stream-take}
 use Rattle.lin_spec.proofs.File.{line-stops, part-later}
-use Rattle.file.specs.Sections.{sectionOf, standingOf}
-use Rattle.file.specs.declared.sections.Section.{Section}
-use Rattle.file.specs.declared.sections.BoardCursor.{BoardCursor}
+use Rattle.sections.specs.Sections.{sectionOf, standingOf}
+use Rattle.sections.specs.declared.sections.Section.{Section}
+use Rattle.sections.specs.declared.sections.BoardCursor.{BoardCursor}
 use Rattle.commands.specs.Steps.{TokenAt}
 use Rattle.commands.proofs.StepLaws.{command-is}
 

@@ -3,12 +3,12 @@ use Rattle.lin_spec.specs.Refusals.{Answer}
 use Rattle.lin_spec.specs.Refusals.Answer.{refused, accepted}
 use Rattle.lin_spec.specs.File.{Section as Part, section, Standing, Visit}
 use Rattle.lin_spec.specs.File.Visit.{found, ended}
-use Rattle.file.specs.declared.sections.Section.{Section}
-use Rattle.file.specs.declared.sections.BoardCursor.{BoardCursor}
-use Rattle.file.specs.declared.sections.OpenedBoards.{OpenedBoards}
-use Rattle.file.specs.declared.sections.OpenedBoards.the-variants.{At, Refused}
-use Rattle.file.specs.declared.sections.BoardStep.{BoardStep}
-use Rattle.file.specs.declared.sections.BoardStep.the-variants.{Found, Ended}
+use Rattle.sections.specs.declared.sections.Section.{Section}
+use Rattle.sections.specs.declared.sections.BoardCursor.{BoardCursor}
+use Rattle.sections.specs.declared.sections.OpenedBoards.{OpenedBoards}
+use Rattle.sections.specs.declared.sections.OpenedBoards.the-variants.{At, Refused}
+use Rattle.sections.specs.declared.sections.BoardStep.{BoardStep}
+use Rattle.sections.specs.declared.sections.BoardStep.the-variants.{Found, Ended}
 
 abbrev pub sectionOf : Section → Part
 sectionOf p = section (p .start) (p .stop) (p .board)

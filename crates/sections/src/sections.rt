@@ -21,7 +21,7 @@ ghost use Rattle.lin_spec.specs.Refusals.{sat};
 ghost use Rattle.lin_spec.specs.Reading.{stream};
 ghost use Rattle.lin_spec.specs.File.{holds, partAt, after, visit, openBoards};
 ghost use Rattle.lin_spec.proofs.File.{lineAt, partEnd};
-ghost use Rattle.file.specs.Sections.{sectionOf, standingOf, openedOf, visitOf};
+ghost use Rattle.sections.specs.Sections.{sectionOf, standingOf, openedOf, visitOf};
 
 // A part or a line of a file, from one place up to another, and whether it is a board.
 pub struct Section {
@@ -49,7 +49,7 @@ pub enum BoardStep {
 }
 
 // Whether the text has a qx token.
-pub(crate) fn holds_qx(text: &[u8]) -> bool
+pub fn holds_qx(text: &[u8]) -> bool
     ensures { λ r. ⌜ r ≡ holds (ascii "qx") (stream (now (text .entry)) 0) ⌝ }
 {
     let mut c = Cursor { at: 0 };

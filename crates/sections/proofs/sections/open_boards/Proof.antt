@@ -1,35 +1,25 @@
 -- `file::open_boards` meets its contract.
 -- Assumes nothing.
-use Rattle.file.proofs.SectionLaws.{boards-opened, boards-refused}
+use Rattle.sections.proofs.SectionLaws.{boards-opened, boards-refused}
 use borrow.Author.Needs.{needs}
-use Rattle.file.proofs.sections.open_boards.Statement.{statement}
-use Rattle.file.proofs.sections.open_boards.Tie as tie
-use Rattle.file.proofs.sections.open_boards.Reads as reads
-use Rattle.file.proofs.sections.open_boards.Lts as lts
-use Rattle.document.proofs.open.Reads as open-reads
-use Rattle.file.proofs.sections.holds_qx.Reads as holds-qx-reads
+use Rattle.sections.proofs.sections.open_boards.Statement.{statement}
+use Rattle.sections.proofs.sections.open_boards.Tie as tie
 
--- src/sections.rt:174:11
 open-requires : tie.Need-open-requires
 open-requires c κs = search needs
 
--- src/sections.rt:176:26
 enum-told : tie.Need-enum-told
 enum-told c = search needs
 
--- src/sections.rt:176:26
 holds-qx-requires : tie.Need-holds-qx-requires
 holds-qx-requires c κs = search needs
 
--- src/sections.rt:183:25
 enum-known-r : tie.Need-enum-known-r
 enum-known-r c = search needs
 
--- src/sections.rt:171:1
 returns : tie.Need-returns
 returns c = boards-opened _ _ (c .before .before .before .«open» .ensures) _ (c .before .enum-told .given .1) _ (c .holds-qx .ensures)
 
--- src/sections.rt:171:1
 returns-2 : tie.Need-returns-2
 returns-2 c = boards-refused _ _ (c .before .before .before .«open» .ensures) _ (c .before .r .given .1)
 

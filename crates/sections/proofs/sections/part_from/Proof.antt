@@ -1,17 +1,13 @@
 -- `file::part_from` meets its contract: a turn passes a token that ends no part.
 -- Assumes nothing.
-use Rattle.file.proofs.SectionLaws.{Walks, walks-begin, walks-end, walks-stop, walks-on}
+use Rattle.sections.proofs.SectionLaws.{Walks, walks-begin, walks-end, walks-stop, walks-on}
 use Rattle.commands.proofs.StepLaws.{commanded}
 use lib.ListN.{length}
 use borrow.Author.Needs.{needs}
 use native.Mathlib.Omega.{arith}
 use Prim.Native.Nat.{_-_}
-use Rattle.file.proofs.sections.part_from.Statement.{statement}
-use Rattle.file.proofs.sections.part_from.Tie as tie
-use Rattle.file.proofs.sections.part_from.Reads as reads
-use Rattle.file.proofs.sections.part_from.Lts as lts
-use Rattle.commands.proofs.next_command.Reads as next-command-reads
-use Rattle.file.proofs.sections.moved_back.Reads as moved-back-reads
+use Rattle.sections.proofs.sections.part_from.Statement.{statement}
+use Rattle.sections.proofs.sections.part_from.Tie as tie
 
 abbrev Inv-loop : tie.InvT-loop
 Inv-loop text at back₀ board₀ c₀ back board c = Walks text at back (c .at) board
@@ -19,39 +15,30 @@ Inv-loop text at back₀ board₀ c₀ back board c = Walks text at back (c .at)
 abbrev μ-loop : tie.MeasureT-loop
 μ-loop text at back₀ board₀ c₀ back board c = length text - c .at
 
--- src/sections.rt:87:5
 loop-holds : tie.Need-loop-holds Inv-loop μ-loop
 loop-holds c = walks-begin _ _
 
--- src/sections.rt:88:15
 next-command-requires : tie.Need-next-command-requires Inv-loop μ-loop
 next-command-requires c κs = tt
 
--- src/sections.rt:89:30
 enum-known-k : tie.Need-enum-known-k Inv-loop μ-loop
 enum-known-k c = search needs
 
--- src/sections.rt:91:21
 returns : tie.Need-returns Inv-loop μ-loop
 returns c = walks-stop _ _ _ _ _ (c .before .before .before .before .before .loop .inv) _ _ _ (commanded _ _ _ _ (c .before .before .before .before .next-command .ensures) (c .before .before .k .given .1)) (c .if1 .taken)
 
--- src/sections.rt:97:17
 moved-back-requires : tie.Need-moved-back-requires Inv-loop μ-loop
 moved-back-requires c κs = tt
 
--- src/sections.rt:87:5
 loop-less : tie.Need-loop-less Inv-loop μ-loop
 loop-less c = let t = commanded _ _ _ _ (c .before .before .before .before .before .next-command .ensures) (c .before .before .before .k .given .1) in omega (arith, t .later, t .within)
 
--- src/sections.rt:87:5
 loop-again : tie.Need-loop-again Inv-loop μ-loop
 loop-again c = walks-on _ _ _ _ _ (c .before .before .before .before .before .before .loop .inv) _ _ _ (commanded _ _ _ _ (c .before .before .before .before .before .next-command .ensures) (c .before .before .before .k .given .1)) (c .before .if1 .left) _ (c .moved-back .ensures)
 
--- src/sections.rt:102:17
 enum-told : tie.Need-enum-told Inv-loop μ-loop
 enum-told c = search needs
 
--- src/sections.rt:102:17
 returns-2 : tie.Need-returns-2 Inv-loop μ-loop
 returns-2 c = walks-end _ _ _ _ _ (c .before .before .before .loop .inv) (commanded _ _ _ _ (c .before .before .next-command .ensures) (c .enum-told .given .1))
 

@@ -1,51 +1,37 @@
 -- `BoardCursor::next` meets its contract: each answer by the tests that led there.
 -- Assumes nothing.
-use Rattle.file.proofs.SectionLaws.{line-short, line-ended, line-passed, part-ended, part-passed}
+use Rattle.sections.proofs.SectionLaws.{line-short, line-ended, line-passed, part-ended, part-passed}
 use Rattle.lin_spec.specs.File.{Section}
 use mathlib.Core.Path.{_≡_, ap}
 use native.Mathlib.Omega.{arith}
 use borrow.Author.Needs.{needs}
-use Rattle.file.proofs.sections.BoardCursor.next.Statement.{statement}
-use Rattle.file.proofs.sections.BoardCursor.next.Tie as tie
-use Rattle.file.proofs.sections.BoardCursor.next.Reads as reads
-use Rattle.file.proofs.sections.BoardCursor.next.Lts as lts
-use Rattle.file.proofs.sections.line_from.Reads as line-from-reads
-use Rattle.file.proofs.sections.part_from.Reads as part-from-reads
-use Rattle.file.proofs.sections.passed.Reads as passed-reads
+use Rattle.sections.proofs.sections.BoardCursor.next.Statement.{statement}
+use Rattle.sections.proofs.sections.BoardCursor.next.Tie as tie
 
--- src/sections.rt:157:17
 returns : tie.Need-returns
 returns c = line-ended _ _ (c .before .before .if1 .taken) (c .if2 .taken)
 
--- src/sections.rt:159:17
 line-from-requires : tie.Need-line-from-requires
 line-from-requires c κs = search needs
 
--- src/sections.rt:160:39
 add-passed : tie.Need-add-passed
 add-passed c = omega (arith, line-short _ _ _ (c .before .before .if2 .left) (c .before .line-from .ensures))
 
--- src/sections.rt:160:13
 passed-requires : tie.Need-passed-requires
 passed-requires c κs = search needs
 
--- src/sections.rt:160:13
 returns-2 : tie.Need-returns-2
 returns-2 c = line-passed _ _ (c .before .before .before .before .before .if1 .taken) (c .before .before .before .if2 .left) _ (c .before .before .line-from .ensures) (c .passed .ensures)
 
--- src/sections.rt:162:13
 part-from-requires : tie.Need-part-from-requires
 part-from-requires c κs = search needs
 
--- src/sections.rt:164:13
 returns-3 : tie.Need-returns-3
 returns-3 c = part-ended _ _ (c .before .before .before .before .if1 .left) _ (c .before .before .before .part-from .ensures) (c .if3 .taken)
 
--- src/sections.rt:166:9
 passed-requires-2 : tie.Need-passed-requires-2
 passed-requires-2 c κs = search needs
 
--- src/sections.rt:152:5
 returns-4 : tie.Need-returns-4
 returns-4 c = part-passed _ _ (c .before .before .before .before .before .if1 .left) _ (c .before .before .before .before .part-from .ensures) (c .before .if3 .left) (c .passed2 .ensures)
 

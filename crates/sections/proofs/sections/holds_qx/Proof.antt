@@ -1,6 +1,6 @@
 -- `file::holds_qx` meets its contract: a turn takes a token that is no qx off those that are still to be read.
 -- Assumes nothing.
-use Rattle.file.proofs.SectionLaws.{qx-here, qx-later, no-qx}
+use Rattle.sections.proofs.SectionLaws.{qx-here, qx-later, no-qx}
 use Rattle.commands.proofs.StepLaws.{commanded}
 use Rattle.lin_spec.specs.File.{holds}
 use Rattle.lin_spec.specs.Reading.{stream}
@@ -10,11 +10,8 @@ use borrow.Author.Needs.{needs}
 use mathlib.Core.Path.{_≡_, refl, sym, _∙_}
 use native.Mathlib.Omega.{arith}
 use Prim.Native.Nat.{_-_}
-use Rattle.file.proofs.sections.holds_qx.Statement.{statement}
-use Rattle.file.proofs.sections.holds_qx.Tie as tie
-use Rattle.file.proofs.sections.holds_qx.Reads as reads
-use Rattle.file.proofs.sections.holds_qx.Lts as lts
-use Rattle.commands.proofs.next_command.Reads as next-command-reads
+use Rattle.sections.proofs.sections.holds_qx.Statement.{statement}
+use Rattle.sections.proofs.sections.holds_qx.Tie as tie
 
 abbrev Inv-loop : tie.InvT-loop
 Inv-loop text c₀ c = holds (ascii "qx") (stream text (c .at)) ≡ holds (ascii "qx") (stream text 0)
@@ -22,35 +19,27 @@ Inv-loop text c₀ c = holds (ascii "qx") (stream text (c .at)) ≡ holds (ascii
 abbrev μ-loop : tie.MeasureT-loop
 μ-loop text c₀ c = length text - c .at
 
--- src/sections.rt:55:5
 loop-holds : tie.Need-loop-holds Inv-loop μ-loop
 loop-holds c = refl
 
--- src/sections.rt:56:15
 next-command-requires : tie.Need-next-command-requires Inv-loop μ-loop
 next-command-requires c κs = tt
 
--- src/sections.rt:57:30
 enum-known-k : tie.Need-enum-known-k Inv-loop μ-loop
 enum-known-k c = search needs
 
--- src/sections.rt:59:21
 returns : tie.Need-returns Inv-loop μ-loop
 returns c = qx-here _ _ _ _ _ (commanded _ _ _ _ (c .before .before .before .before .next-command .ensures) (c .before .before .k .given .1)) (c .if1 .taken) ∙ c .before .before .before .before .before .loop .inv
 
--- src/sections.rt:55:5
 loop-less : tie.Need-loop-less Inv-loop μ-loop
 loop-less c = let t = commanded _ _ _ _ (c .before .before .before .before .next-command .ensures) (c .before .before .k .given .1) in omega (arith, t .later, t .within)
 
--- src/sections.rt:55:5
 loop-again : tie.Need-loop-again Inv-loop μ-loop
 loop-again c = qx-later _ _ _ _ _ (commanded _ _ _ _ (c .before .before .before .before .next-command .ensures) (c .before .before .k .given .1)) (c .if1 .left) ∙ c .before .before .before .before .before .loop .inv
 
--- src/sections.rt:64:17
 enum-told : tie.Need-enum-told Inv-loop μ-loop
 enum-told c = search needs
 
--- src/sections.rt:64:17
 returns-2 : tie.Need-returns-2 Inv-loop μ-loop
 returns-2 c = no-qx _ _ (commanded _ _ _ _ (c .before .before .next-command .ensures) (c .enum-told .given .1)) ∙ c .before .before .before .loop .inv
 
