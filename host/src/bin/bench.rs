@@ -2,6 +2,8 @@
 //! driver: `bench [RUNS [WORD]]`, over all inputs or those whose name has the
 //! word. docs/BENCHMARKS.md says what the rows are.
 
+#[path = "../bench/clock.rs"]
+mod clock;
 #[path = "../bench/inputs.rs"]
 mod inputs;
 #[path = "../bench/works.rs"]
@@ -14,7 +16,7 @@ use works::Work;
 fn main() {
     let runs = env::args().nth(1).and_then(|a| a.parse().ok());
     let runs = runs.unwrap_or(21usize).max(1);
-    println!("medians of {runs} interleaved runs; growth from 256 KiB to 512 KiB to 1 MiB");
+    println!("medians of {runs} interleaved runs, processor time; growth from 256 KiB to 512 KiB to 1 MiB");
     line(
         "",
         ["bytes", "Rust ms", "exports ms", "ratio", "growth", ""].map(str::to_string),
