@@ -5,7 +5,7 @@ use native.Mathlib.Nat.{zero-add}
 use native.Mathlib.Numerals.{add-one}
 use native.Mathlib.Omega.{arith}
 use mathlib.Core.Path.{_≡_, refl, ap, sym, _∙_}
-use mathlib.Core.Bool.{Bool, true, false, _&&_, _||_, not, and-true, and-false, or-false}
+use mathlib.Core.Bool.{Bool, true, false, _&&_, _||_, not, and-true, or-false}
 use mathlib.Core.List.{List, [], _∷_}
 use lib.ListN.{length, getD, drop, drop-of-length-le}
 use lib.Dec.{eqb}
@@ -71,37 +71,23 @@ held-suc (m ∷ a) [] (suc i) = held-none a i
 held-suc (m ∷ a) (n ∷ b) zero = refl
 held-suc (m ∷ a) (n ∷ b) (suc i) = held-suc a b i
 
-stray : (x y : Bool) → (not x && y) ≡ true → (x || not y) ≡ false
-stray true y h = sym h
-stray false true h = refl
-stray false false h = sym h
+-- one card more is looked at: h says whether those before are held, and what is left decides with it as the whole does
+pub held-turn : (a b : List ℕ) (i m n : ℕ) → m ≡ getD a i 0 → n ≡ getD b i 0 → (h : Bool) {w : Bool}
+    → (h && heldIn (drop i a) (drop i b)) ≡ w → ((h && (eqb m 0 || not (eqb n 0))) && heldIn (drop (i + 1) a) (drop (i + 1) b)) ≡ w
+held-turn a b i m n em en true v = sym (held-suc a b i ∙ rw (← em, ← en, ← add-one i)) ∙ v
+held-turn a b i m n em en false v = v
 
-kept : (x y : Bool) → (not x && y) ≡ false → (x || not y) ≡ true
-kept true y h = refl
-kept false true h = sym h
-kept false false h = refl
-
--- the test of a card
-module _ (a b : List ℕ) (i m n : ℕ) (em : m ≡ getD a i 0) (en : n ≡ getD b i 0) where
-  pub held-stray : (not (eqb m 0) && eqb n 0) ≡ true → heldIn (drop i a) (drop i b) ≡ false
-  held-stray h = held-suc a b i ∙ rw (← em, ← en, stray (eqb m 0) (eqb n 0) h)
-
-  pub held-next : (not (eqb m 0) && eqb n 0) ≡ false → heldIn (drop (i + 1) a) (drop (i + 1) b) ≡ heldIn (drop i a) (drop i b)
-  held-next h = sym (held-suc a b i ∙ rw (← em, ← en, kept (eqb m 0) (eqb n 0) h, ← add-one i))
-
-pub held-end : (a b : List ℕ) (i : ℕ) → length a ≤ i → heldIn (drop i a) (drop i b) ≡ true
+-- and after the last card h says it alone
+pub held-end : (a b : List ℕ) (i : ℕ) → length a ≤ i → (h : Bool) {w : Bool} → (h && heldIn (drop i a) (drop i b)) ≡ w → h ≡ w
 unfolding heldIn
-held-end a b i h = rw (drop-of-length-le a h)
+held-end a b i l h v = sym (and-true h) ∙ (rw (drop-of-length-le a l) at v)
 
 -- When East is left out
 
 -- whether it has as many cards as the remainder and each of them in it, by the count of the remainder
 module _ (e r : List ℕ) (east : ℕ) where
-  pub rest-other : heldIn e r ≡ false → false ≡ (eqb east (sum r) && heldIn e r)
-  rest-other h = sym (ap (λ (t : Bool). eqb east (sum r) && t) h ∙ and-false (eqb east (sum r)))
-
-  pub rest-same : heldIn e r ≡ true → (n : ℕ) → n ≡ sum r → eqb east n ≡ (eqb east (sum r) && heldIn e r)
-  rest-same h n k = ap (eqb east) k ∙ sym (ap (λ (t : Bool). eqb east (sum r) && t) h ∙ and-true (eqb east (sum r)))
+  pub rest-is : (h : Bool) → h ≡ heldIn e r → (n : ℕ) → n ≡ sum r → (eqb east n && h) ≡ (eqb east (sum r) && heldIn e r)
+  rest-is h eh n en = rw (eh, en)
 
 -- by the tests of the code
 module _ (d : List ℕ) (t : Bool) (et : t ≡ othersThirteen d) where

@@ -15,7 +15,8 @@ use Rattle.lin_spec.specs.Letters.{seatNumber, handAt, handLength}
 use Rattle.lin_spec.specs.Writer.{ranksFrom, suitText, handText}
 use Rattle.lin_spec.specs.declared.Seat.{Seat}
 use Rattle.cards.proofs.HandLaws.{count-at}
-use Rattle.output.proofs.Laws.{Left, store}
+use Rattle.output.specs.Put.{Put}
+use Rattle.output.proofs.Laws.{Left, store, overlay-nil}
 use Rattle.cardtext.specs.Hands.{suitsText}
 
 -- A byte n times
@@ -37,6 +38,13 @@ module _ (n b : ℕ) {d : List ℕ} {pos : ℕ} {d₀ : List ℕ} {at : ℕ} {wh
 pub repeat-end : (n b : ℕ) → n ≤ 0 → replicate n b ≡ []
 repeat-end zero b h = refl
 repeat-end (suc n) b h = absurd (not-suc-le-zero h)
+
+-- a byte that stands never, or once
+pub repeat-none : (d : List ℕ) (at n b : ℕ) → n ≡ 0 → Put d at (replicate n b) d at
+repeat-none d at n b e = rw e (record { next = omega arith; text = sym (overlay-nil d at) })
+
+pub repeat-once : (n b : ℕ) → n ≡ 1 → replicate n b ≡ b ∷ []
+repeat-once n b e = rw e
 
 -- Ranks from A down
 

@@ -38,16 +38,15 @@ fn is_rest(counts: &[u32; 208], east: u64) -> bool
     ensures { λ r. ⌜ r ≡ (eqb east (sum (restOf (now (counts .entry)))) && heldIn (handAt (now (counts .entry)) East) (restOf (now (counts .entry)))) ⌝ }
 {
     let mut n: u64 = 0;
+    let mut held = true;
     let mut c = 0;
     while c < Deal::CARDS {
         let free = unheld(counts, c);
-        if (counts[3 * Deal::CARDS + c] != 0) & (free == 0) {
-            return false;
-        }
+        held = held & ((counts[3 * Deal::CARDS + c] == 0) | (free != 0));
         n += free;
         c += 1;
     }
-    east == n
+    (east == n) & held
 }
 
 // Whether the three other hands have 13 cards each.

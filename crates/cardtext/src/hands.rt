@@ -19,6 +19,13 @@ fn put_repeated(out: &mut [u8], at: usize, b: u8, n: u32) -> usize
     requires { ⌜ Room (now out) at (replicate n b) ⌝ }
     ensures { λ r. ⌜ Put (now (out .entry)) at (replicate n b) (now (out .exit)) r ⌝ }
 {
+    if n == 0 {
+        return at;
+    }
+    // Most stand once.
+    if n == 1 {
+        return put_byte(out, at, b);
+    }
     let mut o = at;
     let mut left = n;
     while 0 < left {

@@ -2,8 +2,7 @@
 use crate::commands::command_of;
 use document::Cursor;
 use document::Part;
-use document::Step;
-use document::command;
+use document::next_pipe;
 use lin_spec::Span;
 ghost use Prim.Native.Nat.{_<_, _^_};
 ghost use lib.ListN.{length};
@@ -25,14 +24,22 @@ pub enum Known {
 pub fn next_command(text: &[u8], cursor: Cursor) -> Commanded
     ensures { λ r. ⌜ Commands (now (text .entry)) (cursor .at) r ⌝ }
 {
-    match cursor.next(text) {
-        Step::Found(t, c) => {
-            let k = command_of(command(text, t));
-            let value = t.value;
-            Commanded::Token(k, value, c)
-        }
-        Step::Ended(_) => Commanded::Ended,
+    let at = cursor.at;
+    let p = next_pipe(text, at);
+    if text.len() <= p {
+        return Commanded::Ended;
     }
+    let v = p + 1;
+    let q = next_pipe(text, v);
+    if text.len() <= q {
+        return Commanded::Ended;
+    }
+    let k = command_of(&text[at..p]);
+    let value = Part {
+        start: v,
+        len: q - v,
+    };
+    Commanded::Token(k, value, Cursor { at: q + 1 })
 }
 
 // The same in a text whose places are numbers of 32 bits.

@@ -2,7 +2,7 @@
 -- Assumes nothing.
 use Prim.Native.Nat.{ℕ, _+_, _≤_, _<_, min}
 use native.Mathlib.Omega.{arith}
-use mathlib.Core.Path.{_≡_, refl, ap, sym, _∙_}
+use mathlib.Core.Path.{_≡_, refl, ap, sym, _∙_, subst}
 use mathlib.Core.Bool.{Bool, true, false, not}
 use mathlib.Core.List.{List}
 use lib.ListN.{length}
@@ -19,6 +19,8 @@ use Rattle.lin_spec.specs.declared.Refusal.{Refusal}
 use Rattle.lin_spec.specs.declared.Refusal.the-variants.{TextTooLong, NotUtf8, SpanPastEnd, SpanNotUtf8, OutputTooSmall}
 use Rattle.lin_spec.proofs.Utf8.{short, whole-text}
 use Rattle.output.specs.Put.{Put}
+use Rattle.document.specs.Rows.{Looked}
+use Rattle.document.specs.declared.writer.Look.{Look}
 
 -- open
 module _ (s : List ℕ) where
@@ -67,3 +69,7 @@ module _ (s ws : List ℕ) (tr : Span) (o : List ℕ) where
             let z : length (documentText s ws tr) ≤ room o = omega arith in
             let e : 0 + length (documentText s ws tr) ≡ length (documentText s ws tr) = omega arith in
             simp (le-ltb limit (length s) h, ← et, k, ← eu, l, le-ltb (room o) (length (documentText s ws tr)) z, p .next, p .text, e)
+
+-- what a look that was taken apart says
+pub looked : (s ws : List ℕ) (tr : Span) (r v : Look) → Looked s ws tr r → r ≡ v → Looked s ws tr v
+looked s ws tr r v h e = subst (Looked s ws tr) e h

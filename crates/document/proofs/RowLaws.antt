@@ -1,17 +1,20 @@
 -- Laws of rows: one row off the front of the words, what is left to write, to count and to check. (01: Tokens)
 -- Assumes nothing.
-use Prim.Native.Nat.{ℕ, _+_, _-_, _≤_, _<_}
+use Prim.Native.Nat.{ℕ, _+_, _-_, _^_, _≤_, _<_}
 use native.Mathlib.Omega.{arith}
 use mathlib.Core.Path.{_≡_, refl, ap, sym, _∙_}
 use mathlib.Core.Bool.{Bool, true, false, _||_, or-false}
 use mathlib.Core.List.{List, [], _∷_, _++_, append-assoc, append-nil}
 use lib.ListN.{length, drop, length-append, length-drop}
 use Rattle.lin_spec.specs.Base.{any}
-use Rattle.lin_spec.specs.Records.{bytesAt}
-use Rattle.lin_spec.specs.Refusals.{sat}
+use borrow.Author.Tests.{ltb-false}
+use Rattle.lin_spec.specs.Records.{endOf, bytesAt}
+use Rattle.lin_spec.specs.Refusals.{sat, passesEnd}
 use Rattle.lin_spec.specs.Tokens.{write}
 use Rattle.lin_spec.specs.Document.{rowsIn, spansOf, documentText}
 use Rattle.lin_spec.specs.declared.Span.{Span}
+use Rattle.lin_spec.proofs.Base.{or-none}
+use Rattle.lin_spec.proofs.Records.{part-length}
 use Rattle.text.proofs.ListLaws.{next-word}
 use Rattle.output.proofs.Laws.{Left}
 use Rattle.document.specs.declared.writer.Row.{Row}
@@ -106,11 +109,64 @@ module _ (f : Span → Bool) (ws : List ℕ) (tr : Span) (i : ℕ) where
         let q : f (rowAt ws i .value) ≡ false = sym value-is ∙ l in
         sym (any-cons h ∙ simp (p, q))
 
--- Writing: what is left to write from word i on, as a row and the others; past the last row, as the trailing text
+-- Looking at every row once, by one test of its two spans
+
+or-both : (a b c : Bool) → (a || (b || c)) ≡ ((a || b) || c)
+or-both true b c = refl
+or-both false b c = refl
+
+or-swap : (x t y : Bool) {w : Bool} → (x || (t || y)) ≡ w → ((x || t) || y) ≡ w
+or-swap true t y e = e
+or-swap false t y e = e
+
+module _ (f : Span → Bool) (ws : List ℕ) (tr : Span) (i : ℕ) (h : 4 ≤ length ws - i) (r : Row) (e : r ≡ rowOf (rowAt ws i)) (t : Bool) (et : t ≡ (f (r .command) || f (r .value))) where
+  row-any : any f (spansOf (rowsIn (drop i ws)) tr) ≡ (t || any f (spansOf (rowsIn (drop (i + 4) ws)) tr))
+  row-any =
+      any-cons f ws tr i h
+      ∙ or-both (f (rowAt ws i .command)) (f (rowAt ws i .value)) (any f (spansOf (rowsIn (drop (i + 4) ws)) tr))
+      ∙ ap (λ (b : Bool). b || any f (spansOf (rowsIn (drop (i + 4) ws)) tr)) (sym (et ∙ ap (λ (x : Row). f (x .command) || f (x .value)) e))
+
+  pub row-yes : {w : Bool} → any f (spansOf (rowsIn (drop i ws)) tr) ≡ w → t ≡ true → w ≡ true
+  row-yes v k = sym v ∙ row-any ∙ simp k
+
+  pub row-no : {w : Bool} → any f (spansOf (rowsIn (drop i ws)) tr) ≡ w → t ≡ false → any f (spansOf (rowsIn (drop (i + 4) ws)) tr) ≡ w
+  row-no v k = (let z : any f (spansOf (rowsIn (drop (i + 4) ws)) tr) ≡ (t || any f (spansOf (rowsIn (drop (i + 4) ws)) tr)) = simp k in z) ∙ sym row-any ∙ v
+
+  pub row-or : (x : Bool) {w : Bool} → (x || any f (spansOf (rowsIn (drop i ws)) tr)) ≡ w → ((x || t) || any f (spansOf (rowsIn (drop (i + 4) ws)) tr)) ≡ w
+  row-or x v = or-swap x t (any f (spansOf (rowsIn (drop (i + 4) ws)) tr)) (sym (ap (λ (b : Bool). x || b) row-any) ∙ v)
+
+-- after the last row the trailing span decides
+module _ (f : Span → Bool) (ws : List ℕ) (tr : Span) (i : ℕ) (h : length ws - i < 4) where
+  pub last-any : {w : Bool} → any f (spansOf (rowsIn (drop i ws)) tr) ≡ w → (t : Bool) → t ≡ f tr → w ≡ t
+  last-any v t et = sym v ∙ any-end f ws tr i h ∙ sym et
+
+  pub last-or : (x : Bool) {w : Bool} → (x || any f (spansOf (rowsIn (drop i ws)) tr)) ≡ w → (t : Bool) → t ≡ f tr → w ≡ (x || t)
+  last-or x v t et = sym v ∙ ap (λ (b : Bool). x || b) (any-end f ws tr i h ∙ sym et)
+
+-- the bytes of spans that are within the text
+within-both : (s : List ℕ) (x y : Span) → (passesEnd s x || passesEnd s y) ≡ false → (endOf x ≤ length s) × (endOf y ≤ length s)
+within-both s x y k = let n = or-none (passesEnd s x) (passesEnd s y) k in (ltb-false (length s) (endOf x) (n .0), ltb-false (length s) (endOf y) (n .1))
+
+pub row-within : (s : List ℕ) (r : Row) → (passesEnd s (r .command) || passesEnd s (r .value)) ≡ false → (endOf (r .command) ≤ length s) × (endOf (r .value) ≤ length s)
+row-within s r k = within-both s (r .command) (r .value) k
+
+pub row-sized : (s : List ℕ) (r : Row) (x : ℕ) → (passesEnd s (r .command) || passesEnd s (r .value)) ≡ false → x ≡ r .command .len + r .value .len + 2 → x < 2 ^ 64
+    → x ≡ sat (length (rowText s r))
+row-sized s r x k e l =
+    let w = row-within s r k in
+    let a = part-length s (r .command .start) (r .command .len) (w .0) in
+    let b = part-length s (r .value .start) (r .value .len) (w .1) in
+    let c = row-long s r in
+    omega arith
+
+pub span-within : (s : List ℕ) (x : Span) (t : Bool) → t ≡ passesEnd s x → t ≡ false → endOf x ≤ length s
+span-within s x t e k = ltb-false (length s) (endOf x) (sym e ∙ k)
+
+pub span-sized : (s : List ℕ) (x : Span) → endOf x ≤ length s → length (bytesAt s x) ≡ x .len
+span-sized s x h = part-length s (x .start) (x .len) h
+
+-- Writing: what is left to write past the last row is the trailing text
 
 module _ (s ws : List ℕ) (tr : Span) (i : ℕ) {d : List ℕ} {pos : ℕ} {d₀ : List ℕ} {at : ℕ} {whole : List ℕ} (l : Left d pos (documentText s (drop i ws) tr) d₀ at whole) where
-  pub row-left : 4 ≤ length ws - i → (r : Row) → r ≡ rowOf (rowAt ws i) → Left d pos (rowText s r ++ documentText s (drop (i + 4) ws) tr) d₀ at whole
-  row-left h r e = rw (e, ← text-cons s ws tr i h) l
-
   pub trailing-left : length ws - i < 4 → Left d pos (bytesAt s tr ++ []) d₀ at whole
   trailing-left h = rw append-nil (rw (text-end s ws tr i h) at l)

@@ -9,6 +9,7 @@ pub use tokens::Position;
 pub use tokens::Step;
 pub use tokens::Token;
 pub use tokens::command;
+pub use tokens::next_pipe;
 pub use tokens::open;
 pub use tokens::trailing;
 pub use tokens::value;

@@ -1,5 +1,7 @@
 pub mod DigitLaws
+pub mod FindLaws
 pub mod ListLaws
 pub mod PartLaws
+pub mod TornLaws
 pub mod Utf8Laws
 pub mod WhiteLaws

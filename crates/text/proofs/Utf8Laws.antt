@@ -17,7 +17,7 @@ use Rattle.lin_spec.specs.Utf8.{Utf, first, tails, utfStep, utf, isWhole, utf8,
 use Rattle.lin_spec.specs.Utf8.Utf.{whole, needs, ill}
 use Rattle.lin_spec.proofs.Base.{and-left, and-right, allBelow, same-below}
 use Rattle.lin_spec.proofs.Utf8.{utf-append, whole-utf8, utf8-ascii, utf8-longest, longest-within, longest-after}
-use Rattle.text.specs.Utf8.{bytesOf, lowOf, highOf, Front, Past, Eight}
+use Rattle.text.specs.Utf8.{bytesOf, lowOf, highOf, Front, Past, Sixteen}
 
 -- From place to place
 
@@ -49,20 +49,20 @@ past-next s a i p h k = past-then s a i (i + 1) p (past-front s i 1 (rw (drop-co
 abbrev pub isAscii : (s : List ℕ) (i : ℕ) → Bool
 isAscii s i = leb (getD s i 0) 0x7F
 
--- eight bytes are passed, each by its test
-pub eight-past : (s : List ℕ) (i : ℕ) → i + 8 ≤ length s
-    → (isAscii s i && isAscii s (i + 1) && isAscii s (i + 2) && isAscii s (i + 3) && isAscii s (i + 4) && isAscii s (i + 5) && isAscii s (i + 6) && isAscii s (i + 7)) ≡ true
-    → Eight s i
-eight-past s i h e = record { within = h; past = to 7 tt (to 6 tt (to 5 tt (to 4 tt (to 3 tt (to 2 tt (to 1 tt one)))))) e }
+-- sixteen bytes are passed, each by its test
+pub sixteen-past : (s : List ℕ) (i : ℕ) → i + 16 ≤ length s
+    → (isAscii s i && isAscii s (i + 1) && isAscii s (i + 2) && isAscii s (i + 3) && isAscii s (i + 4) && isAscii s (i + 5) && isAscii s (i + 6) && isAscii s (i + 7) && isAscii s (i + 8) && isAscii s (i + 9) && isAscii s (i + 10) && isAscii s (i + 11) && isAscii s (i + 12) && isAscii s (i + 13) && isAscii s (i + 14) && isAscii s (i + 15)) ≡ true
+    → Sixteen s i
+sixteen-past s i h e = record { within = h; past = to 15 tt (to 14 tt (to 13 tt (to 12 tt (to 11 tt (to 10 tt (to 9 tt (to 8 tt (to 7 tt (to 6 tt (to 5 tt (to 4 tt (to 3 tt (to 2 tt (to 1 tt one)))))))))))))) e }
   where
     one : isAscii s i ≡ true → Past s i (i + 1)
     one f = past-next s i i (past-here s i) (omega arith) (leb-true (getD s i 0) 0x7F f)
 
-    to : (k : ℕ) → T (ltb k 8) → {t : Bool} → (t ≡ true → Past s i (i + k)) → (t && isAscii s (i + k)) ≡ true → Past s i (i + suc k)
+    to : (k : ℕ) → T (ltb k 16) → {t : Bool} → (t ≡ true → Past s i (i + k)) → (t && isAscii s (i + k)) ≡ true → Past s i (i + suc k)
     to k l {t} f e =
         let b = leb-true (getD s (i + k) 0) 0x7F (and-right t (isAscii s (i + k)) e) in
         let d : i + suc k ≡ i + k + 1 = omega arith in
-        let m = ltb→lt k 8 l in
+        let m = ltb→lt k 16 l in
         rw d (past-next s i (i + k) (f (and-left t (isAscii s (i + k)) e)) (omega arith) b)
 
 -- the end of the text is the end of its longest start, where it is reached

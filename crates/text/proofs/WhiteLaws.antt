@@ -10,8 +10,8 @@ use mathlib.Core.Bool.{Bool, true, false, _&&_, _||_, false≢true, and-true, an
 use mathlib.Core.List.{List, [], _∷_, _++_, map, append-nil}
 use lib.ListN.{length, getD, take, drop, length-append, length-drop, length-map, drop-of-length-le}
 use lib.Seq.{drop-cons, take-at, drop-drop, length-take-le, take-all, take-take}
-use lib.Dec.{eqb, leb}
-use borrow.Author.Tests.{eq-eqb, ne-eqb, eqb-true, eqb-false, leb-true, leb-false, le-leb, lt-leb}
+use lib.Dec.{eqb, leb, ltb}
+use borrow.Author.Tests.{eq-eqb, ne-eqb, eqb-true, eqb-false, leb-true, leb-false, ltb-true, le-leb, lt-leb}
 use Rattle.lin_spec.specs.Base.{pick, any, null, starts, eqList}
 use Rattle.lin_spec.specs.Utf8.{encode}
 use Rattle.lin_spec.specs.White.{whiteSpace, front, whiteAt, skipWhite, trimStart, blank, trimEnd, trim, lower, sameWord}
@@ -314,6 +314,38 @@ end-end s (suc n) g h = absurd (not-suc-le-zero h)
 pub both-ends : (s r : List ℕ) (i : ℕ) → Starts s i → r ≡ trimEnd (take (length s - i) (drop i s)) → r ≡ trim s
 unfolding trim
 both-ends s r i g e = e ∙ ap trimEnd (rest-all s i ∙ g .0)
+
+-- Ends of ASCII that are no white space
+
+-- a byte of ASCII above 20 hex, by the tests on it, is no white space character and in none
+plain-white : (b : ℕ) → 0x20 < b → isWhite (b ∷ []) ≡ false
+plain-white b h = sym (white₁-is b) ∙ simp (lt-leb b 0xD (omega arith), and-false, ne-eqb b 0x20 (λ e. omega arith))
+
+plain-front : (s : List ℕ) → 0x20 < getD s 0 0 → getD s 0 0 < 0x80 → whiteAt s ≡ 0
+plain-front s h k = sym (none-white (whiteAt s) _ _ _ (front-is s) _ refl (plain-white (getD s 0 0) h) (λ c. omega arith) (λ c. omega arith))
+
+plain-back : (s : List ℕ) → 0x20 < last s 1 → last s 1 < 0x80 → whiteBack s ≡ 0
+plain-back s h k = sym (none-white (whiteBack s) _ _ _ (back-is s) _ refl (plain-white (last s 1) h) (λ c. omega arith) (λ c. omega arith))
+
+all-four : (p q r t : Bool) → (p && q && r && t) ≡ true → (p ≡ true) × (q ≡ true) × (r ≡ true) × (t ≡ true)
+all-four true true true true h = (refl, refl, refl, refl)
+all-four true true true false h = absurd (false≢true h)
+all-four true true false t h = absurd (false≢true h)
+all-four true false r t h = absurd (false≢true h)
+all-four false q r t h = absurd (false≢true h)
+
+-- a text stays whose first and last byte are such
+pub plain-trim : (s : List ℕ) → (length s ≡ 0 → ⊥)
+    → (ltb 0x20 (getD s 0 0) && ltb (getD s 0 0) 0x80 && ltb 0x20 (getD s (length s - 1) 0) && ltb (getD s (length s - 1) 0) 0x80) ≡ true
+    → trim s ≡ s
+unfolding trim trimStart last
+plain-trim s n h =
+    let q = all-four (ltb 0x20 (getD s 0 0)) (ltb (getD s 0 0) 0x80) (ltb 0x20 (getD s (length s - 1) 0)) (ltb (getD s (length s - 1) 0) 0x80) h in
+    let f = plain-front s (ltb-true 0x20 (getD s 0 0) (q .0)) (ltb-true (getD s 0 0) 0x80 (q .1)) in
+    let l : last s 1 ≡ getD s (length s - 1) 0 = simp (le-leb 1 (length s) (omega (arith, n))) in
+    let g = plain-back s (rw l (ltb-true 0x20 (getD s (length s - 1) 0) (q .2))) (rw l (ltb-true (getD s (length s - 1) 0) 0x80 (q .3))) in
+    let e : skipWhite 0 s ≡ s = skip-at s ∙ simp f in
+    ap trimEnd e ∙ back-none s g
 
 -- The loop over a word
 

@@ -1,4 +1,5 @@
 pub mod Digits
 pub mod Fault
+pub mod Find
 pub mod Utf8
 pub mod White

@@ -2,7 +2,9 @@
 use Prim.Native.Nat.{ℕ, _+_, _≤_}
 use mathlib.Core.Path.{_≡_}
 use mathlib.Core.List.{List}
-use lib.ListN.{length, drop}
+use mathlib.Core.Bool.{Bool, _&&_}
+use lib.ListN.{length, drop, getD}
+use lib.Dec.{leb}
 use Rattle.lin_spec.specs.Utf8.{Utf, longest}
 use Rattle.lin_spec.specs.Utf8.Utf.{whole, needs, ill}
 
@@ -24,6 +26,14 @@ highOf whole = 0xBF
 highOf (needs n lo hi) = hi
 highOf ill = 0xBF
 
+-- a byte that is not the first of its character: UTF8-tail
+abbrev pub isTail : ℕ → Bool
+isTail b = leb 0x80 b && leb b 0xBF
+
+-- the byte of s at the place i is one; beyond the end there is none
+abbrev pub tailAt : List ℕ → ℕ → Bool
+tailAt s i = isTail (getD s i 0)
+
 -- the first n bytes of t are whole characters, so that its longest well-formed start goes on after them; n is 0 only where t starts with none
 pub record Front (t : List ℕ) (n : ℕ) : Type 0 where
   pub within : n ≤ length t
@@ -35,7 +45,7 @@ pub record Past (s : List ℕ) (a b : ℕ) : Type 0 where
   pub order : a ≤ b
   pub after : a + longest (drop a s) ≡ b + longest (drop b s)
 
--- s has eight bytes from the place i on, all of them whole characters
-pub record Eight (s : List ℕ) (i : ℕ) : Type 0 where
-  pub within : i + 8 ≤ length s
-  pub past : Past s i (i + 8)
+-- s has sixteen bytes from the place i on, all of them whole characters
+pub record Sixteen (s : List ℕ) (i : ℕ) : Type 0 where
+  pub within : i + 16 ≤ length s
+  pub past : Past s i (i + 16)

@@ -13,6 +13,7 @@ pub use parts::find_byte;
 pub use parts::part;
 pub use parts::same_bytes;
 pub use parts::shown;
+pub use parts::torn;
 pub use utf8::is_utf8;
 pub use utf8::well_formed_len;
 pub use utf8::width;

@@ -3,7 +3,7 @@ ghost use mathlib.Core.Path.{_≡_};
 ghost use mathlib.Core.Bool.{true, _&&_};
 ghost use lib.Dec.{leb};
 ghost use Rattle.lin_spec.specs.Utf8.{first, utf8, longest};
-ghost use Rattle.text.specs.Utf8.{bytesOf, lowOf, highOf, Front, Past, Eight};
+ghost use Rattle.text.specs.Utf8.{bytesOf, lowOf, highOf, Front, Past, Sixteen};
 
 // How many bytes a character has that begins with `a`, 0 where none does. RFC 3629, 4: UTF8-1 to UTF8-4
 pub fn width(a: u8) -> usize
@@ -69,6 +69,13 @@ fn char_len(t: &[u8]) -> usize
     if t.len() < n {
         return 0;
     }
+    // Most have two.
+    if n == 2 {
+        if !in_range(t[1], lowest(a), highest(a)) {
+            return 0;
+        }
+        return n;
+    }
     let mut low = lowest(a);
     let mut high = highest(a);
     let mut k = 1;
@@ -83,14 +90,14 @@ fn char_len(t: &[u8]) -> usize
     n
 }
 
-// Tests eight bytes from `i` on for ASCII. Promised is what the loop needs: where it says true, they are there and are whole characters.
-fn ascii_eight(s: &[u8], i: usize) -> bool
-    ensures { λ r. ⌜ (r ≡ true → Eight (now (s .entry)) i) ⌝ }
+// Tests sixteen bytes from `i` on for ASCII. Promised is what the loop needs: where it says true, they are there and are whole characters.
+fn ascii_sixteen(s: &[u8], i: usize) -> bool
+    ensures { λ r. ⌜ (r ≡ true → Sixteen (now (s .entry)) i) ⌝ }
 {
-    if s.len() < 8 {
+    if s.len() < 16 {
         return false;
     }
-    if s.len() - 8 < i {
+    if s.len() - 16 < i {
         return false;
     }
     (s[i] <= 0x7F)
@@ -101,15 +108,23 @@ fn ascii_eight(s: &[u8], i: usize) -> bool
         & (s[i + 5] <= 0x7F)
         & (s[i + 6] <= 0x7F)
         & (s[i + 7] <= 0x7F)
+        & (s[i + 8] <= 0x7F)
+        & (s[i + 9] <= 0x7F)
+        & (s[i + 10] <= 0x7F)
+        & (s[i + 11] <= 0x7F)
+        & (s[i + 12] <= 0x7F)
+        & (s[i + 13] <= 0x7F)
+        & (s[i + 14] <= 0x7F)
+        & (s[i + 15] <= 0x7F)
 }
 
-// Passes bytes of ASCII from `from` on, by eights, and gives the place after them. Promised is that whole characters were passed.
-fn eights_end(s: &[u8], from: usize) -> usize
+// Passes bytes of ASCII from `from` on, by sixteens, and gives the place after them. Promised is that whole characters were passed.
+fn sixteens_end(s: &[u8], from: usize) -> usize
     ensures { λ r. ⌜ Past (now (s .entry)) from r ⌝ }
 {
     let mut i = from;
-    while ascii_eight(s, i) {
-        i += 8;
+    while ascii_sixteen(s, i) {
+        i += 16;
     }
     i
 }
@@ -118,7 +133,7 @@ fn eights_end(s: &[u8], from: usize) -> usize
 fn ascii_end(s: &[u8], from: usize) -> usize
     ensures { λ r. ⌜ Past (now (s .entry)) from r ⌝ }
 {
-    let mut i = eights_end(s, from);
+    let mut i = sixteens_end(s, from);
     while i < s.len() {
         if 0x7F < s[i] {
             return i;
@@ -126,6 +141,19 @@ fn ascii_end(s: &[u8], from: usize) -> usize
         i += 1;
     }
     i
+}
+
+// The same, where most often there is none.
+fn past_ascii(s: &[u8], from: usize) -> usize
+    ensures { λ r. ⌜ Past (now (s .entry)) from r ⌝ }
+{
+    if s.len() <= from {
+        return from;
+    }
+    if 0x7F < s[from] {
+        return from;
+    }
+    ascii_end(s, from)
 }
 
 // The length of the longest well-formed start of `s`.
@@ -138,7 +166,7 @@ pub fn well_formed_len(s: &[u8]) -> usize
         if n == 0 {
             return i;
         }
-        i = ascii_end(s, i + n);
+        i = past_ascii(s, i + n);
     }
     i
 }

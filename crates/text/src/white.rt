@@ -1,5 +1,6 @@
 // White space at both ends of a text, and words compared ignoring ASCII case. (01: Records, Tokens)
 ghost use mathlib.Core.Path.{_≡_};
+ghost use mathlib.Core.Bool.{true};
 ghost use mathlib.Core.List.{[], _∷_};
 ghost use Prim.Native.Nat.{_≤_};
 ghost use lib.ListN.{length, take, drop, getD};
@@ -126,8 +127,20 @@ fn trim_end(s: &[u8]) -> usize
     n
 }
 
-// The part of the text between the white space at its ends.
-pub fn trim(s: &[u8]) -> &[u8]
+// Whether the first and the last byte are of ASCII and no white space. Promised is what the trimming needs: where it says true, the text stays.
+fn plain_ends(s: &[u8]) -> bool
+    ensures { λ r. ⌜ (r ≡ true → trim (now (s .entry)) ≡ now (s .entry)) ⌝ }
+{
+    if s.len() == 0 {
+        return false;
+    }
+    let a = s[0];
+    let b = s[s.len() - 1];
+    (0x20 < a) & (a < 0x80) & (0x20 < b) & (b < 0x80)
+}
+
+// The text without the white space at its ends.
+fn trim_ends(s: &[u8]) -> &[u8]
     ensures { λ r. ⌜ now r ≡ trim (now (s .entry)) ⌝ }
 {
     let a = trim_start(s);
@@ -136,11 +149,21 @@ pub fn trim(s: &[u8]) -> &[u8]
     &t[..n]
 }
 
+// The part of the text between the white space at its ends.
+pub fn trim(s: &[u8]) -> &[u8]
+    ensures { λ r. ⌜ now r ≡ trim (now (s .entry)) ⌝ }
+{
+    if plain_ends(s) {
+        return s;
+    }
+    trim_ends(s)
+}
+
 // Nothing is left after trimming.
 pub fn is_blank(s: &[u8]) -> bool
     ensures { λ r. ⌜ r ≡ blank (now (s .entry)) ⌝ }
 {
-    trim(s).len() == 0
+    trim_ends(s).len() == 0
 }
 
 // A capital of ASCII as the small letter, any other byte as it is.

@@ -1,54 +1,62 @@
--- `commands::next_command` meets its contract: the cursor's step, with the number of the command.
+-- `commands::next_command` meets its contract: the pipes that were found say which step it is.
 -- Assumes nothing.
+use Rattle.lin_spec.specs.Records.{part}
+use Rattle.lin_spec.proofs.Cursor.{step-none, step-one, step-two, step-after}
 use Rattle.commands.proofs.StepLaws.{token-at, no-token}
-use Rattle.commands.specs.Commands.{commandOf}
-use Rattle.document.specs.Steps.{stepOf}
-use mathlib.Core.Path.{_≡_, ap, sym, _∙_}
 use borrow.Author.Needs.{needs}
 use Rattle.commands.proofs.steps.next_command.Statement.{statement}
 use Rattle.commands.proofs.steps.next_command.Tie as tie
-use Rattle.commands.proofs.steps.next_command.Reads as reads
-use Rattle.commands.proofs.steps.next_command.Lts as lts
-use Rattle.commands.proofs.commands.command_of.Reads as command-of-reads
-use Rattle.document.proofs.tokens.Cursor.next.Reads as next-reads
-use Rattle.document.proofs.command.Reads as command-reads
 
--- src/steps.rt:28:11
-next-requires : tie.Need-next-requires
-next-requires c κs = search needs
+next-pipe-requires : tie.Need-next-pipe-requires
+next-pipe-requires c κs = search needs
 
--- src/steps.rt:29:21
-enum-known-t : tie.Need-enum-known-t
-enum-known-t c = search needs
+returns : tie.Need-returns
+returns c = no-token _ _ _ (step-none _ _ _ (c .before .next-pipe .ensures) (c .if1 .taken))
 
--- src/steps.rt:30:32
-command-requires : tie.Need-command-requires
-command-requires c κs = search needs
+add-v : tie.Need-add-v
+add-v c = search needs
 
--- src/steps.rt:30:17
+next-pipe-requires-2 : tie.Need-next-pipe-requires-2
+next-pipe-requires-2 c κs = search needs
+
+returns-2 : tie.Need-returns-2
+returns-2 c = no-token _ _ _ (step-one _ _ _ (c .before .before .before .next-pipe .ensures) (c .before .before .if1 .left) _ (c .before .next-pipe2 .ensures) (c .if2 .taken))
+
+sub-command-of : tie.Need-sub-command-of
+sub-command-of c = step-after _ _ _ (c .before .before .before .next-pipe .ensures) (c .before .before .if1 .left)
+
+part-command-of-start : tie.Need-part-command-of-start
+part-command-of-start c = step-after _ _ _ (c .before .before .before .next-pipe .ensures) (c .before .before .if1 .left)
+
+part-command-of-end : tie.Need-part-command-of-end
+part-command-of-end c = search needs
+
 command-of-requires : tie.Need-command-of-requires
 command-of-requires c κs = search needs
 
--- src/steps.rt:34:27
-enum-told : tie.Need-enum-told
-enum-told c = search needs
+sub-t9 : tie.Need-sub-t9
+sub-t9 c = step-after _ _ _ (c .before .before .before .next-pipe2 .ensures) (c .before .before .if2 .left)
 
--- src/steps.rt:25:1
-returns : tie.Need-returns
-returns c = token-at _ _ _ _ _ (sym (c .before .before .before .before .before .before .next .ensures) ∙ ap stepOf (c .before .before .before .before .t .given .1)) _ (c .before .command-of .ensures ∙ ap commandOf (c .before .before .command .ensures))
+add-t9 : tie.Need-add-t9
+add-t9 c = search needs
 
--- src/steps.rt:25:1
-returns-2 : tie.Need-returns-2
-returns-2 c = no-token _ _ _ (sym (c .before .before .next .ensures) ∙ ap stepOf (c .enum-told .given .1))
+returns-3 : tie.Need-returns-3
+unfolding part
+returns-3 c = token-at _ _ _ _ _ (step-two _ _ _ (c .before .before .before .before .before .next-pipe .ensures) (c .before .before .before .before .if1 .left) _ (c .before .before .before .next-pipe2 .ensures) (c .before .before .if2 .left)) _ (c .command-of .ensures)
 
 pub next-command-spec : {M : Type 1} → statement M
 next-command-spec =
     tie.close
     (tie.spec
-    next-requires
-    enum-known-t
-    command-requires
-    command-of-requires
-    enum-told
+    next-pipe-requires
     returns
-    returns-2)
+    add-v
+    next-pipe-requires-2
+    returns-2
+    sub-command-of
+    part-command-of-start
+    part-command-of-end
+    command-of-requires
+    sub-t9
+    add-t9
+    returns-3)

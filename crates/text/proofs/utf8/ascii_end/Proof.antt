@@ -14,11 +14,11 @@ Inv-loop s from i₀ i = Past s from i
 abbrev μ-loop : tie.MeasureT-loop
 μ-loop s from i₀ i = length s - i
 
-eights-end-requires : tie.Need-eights-end-requires Inv-loop μ-loop
-eights-end-requires c κs = search needs
+sixteens-end-requires : tie.Need-sixteens-end-requires Inv-loop μ-loop
+sixteens-end-requires c κs = search needs
 
 loop-holds : tie.Need-loop-holds Inv-loop μ-loop
-loop-holds c = c .eights-end .ensures
+loop-holds c = c .sixteens-end .ensures
 
 shared-slice-read-if1 : tie.Need-shared-slice-read-if1 Inv-loop μ-loop
 shared-slice-read-if1 c = search needs
@@ -44,7 +44,7 @@ ascii-end-spec =
     (tie.spec
     Inv-loop
     μ-loop
-    eights-end-requires
+    sixteens-end-requires
     loop-holds
     shared-slice-read-if1
     returns

@@ -36,19 +36,19 @@ char-len-requires c κs = search needs
 returns : tie.Need-returns Inv-loop μ-loop
 returns c = char-none _ _ _ (c .before .char-len .ensures) (c .before .before .before .before .loop .inv) (c .if1 .taken)
 
-add-ascii-end : tie.Need-add-ascii-end Inv-loop μ-loop
-add-ascii-end c =
+add-past-ascii : tie.Need-add-past-ascii Inv-loop μ-loop
+add-past-ascii c =
     let l = c .before .before .before .before in
     omega (arith, char-room (l .before .before .before .args .s .now) (l .loop .i) (c .before .char-len .result) (c .before .char-len .ensures))
 
-ascii-end-requires-2 : tie.Need-ascii-end-requires-2 Inv-loop μ-loop
-ascii-end-requires-2 c κs = search needs
+past-ascii-requires : tie.Need-past-ascii-requires Inv-loop μ-loop
+past-ascii-requires c κs = search needs
 
 loop-less : tie.Need-loop-less Inv-loop μ-loop
 loop-less c = search needs
 
 loop-again : tie.Need-loop-again Inv-loop μ-loop
-loop-again c = past-then _ _ _ _ (past-then _ _ _ _ (c .before .before .before .before .before .loop .inv) (char-past _ _ _ (c .before .before .char-len .ensures))) (c .ascii-end2 .ensures)
+loop-again c = past-then _ _ _ _ (past-then _ _ _ _ (c .before .before .before .before .before .loop .inv) (char-past _ _ _ (c .before .before .char-len .ensures))) (c .past-ascii .ensures)
 
 returns-2 : tie.Need-returns-2 Inv-loop μ-loop
 returns-2 c = past-end _ _ (c .before .loop .inv) (c .loop-test .left)
@@ -66,8 +66,8 @@ well-formed-len-spec =
     part-char-len-end
     char-len-requires
     returns
-    add-ascii-end
-    ascii-end-requires-2
+    add-past-ascii
+    past-ascii-requires
     loop-less
     loop-again
     returns-2)

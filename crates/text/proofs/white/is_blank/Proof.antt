@@ -5,11 +5,11 @@ use Rattle.text.proofs.WhiteLaws.{blank-is}
 use Rattle.text.proofs.white.is_blank.Statement.{statement}
 use Rattle.text.proofs.white.is_blank.Tie as tie
 
-trim-requires : tie.Need-trim-requires
-trim-requires c κs = search needs
+trim-ends-requires : tie.Need-trim-ends-requires
+trim-ends-requires c κs = search needs
 
 returns : tie.Need-returns
-returns c = blank-is _ _ (c .trim .ensures)
+returns c = blank-is _ _ (c .trim-ends .ensures)
 
 pub is-blank-spec : {M : Type 1} → statement M
-is-blank-spec = tie.close (tie.spec trim-requires returns)
+is-blank-spec = tie.close (tie.spec trim-ends-requires returns)

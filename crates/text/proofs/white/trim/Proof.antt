@@ -1,41 +1,21 @@
--- `text::white::trim` meets its contract: the end is trimmed after the start. (01: Records)
+-- `text::white::trim` meets its contract: a text with plain ends stays. (01: Records)
 -- Assumes nothing.
 use mathlib.Core.Path.{sym}
-use lib.Seq.{length-take-le}
 use borrow.Author.Needs.{needs}
-use Rattle.text.proofs.WhiteLaws.{both-ends}
 use Rattle.text.proofs.white.trim.Statement.{statement}
 use Rattle.text.proofs.white.trim.Tie as tie
 
-trim-start-requires : tie.Need-trim-start-requires
-trim-start-requires c κs = search needs
-
-sub-t : tie.Need-sub-t
-sub-t c = search needs
-
-part-t-start : tie.Need-part-t-start
-part-t-start c = search needs
-
-part-t-end : tie.Need-part-t-end
-part-t-end c = search needs
-
-trim-end-requires : tie.Need-trim-end-requires
-trim-end-requires c κs = search needs
-
-slice-aggregate-result : tie.Need-slice-aggregate-result
-slice-aggregate-result c = sym (length-take-le _ _ (c .before .trim-end .ensures .1))
+plain-ends-requires : tie.Need-plain-ends-requires
+plain-ends-requires c κs = search needs
 
 returns : tie.Need-returns
-returns c = both-ends _ _ _ (c .before .before .before .trim-start .ensures) (c .before .trim-end .ensures .0)
+returns c = sym (c .before .plain-ends .ensures (c .if1 .taken))
+
+trim-ends-requires : tie.Need-trim-ends-requires
+trim-ends-requires c κs = search needs
+
+returns-2 : tie.Need-returns-2
+returns-2 c = search needs
 
 pub trim-spec : {M : Type 1} → statement M
-trim-spec =
-    tie.close
-    (tie.spec
-    trim-start-requires
-    sub-t
-    part-t-start
-    part-t-end
-    trim-end-requires
-    slice-aggregate-result
-    returns)
+trim-spec = tie.close (tie.spec plain-ends-requires returns trim-ends-requires returns-2)

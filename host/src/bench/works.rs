@@ -1,0 +1,280 @@
+//! What the benchmark times: an upstream call, and the exports that do the
+//! same. Their answers are compared in each run.
+
+use crate::clock::milliseconds;
+use lin_host_rust::{
+    boards::{self, ROW},
+    files::{self, Boards},
+    tokens::{self, Cursor, Span, Token},
+    upstream,
+    writer::Gathered,
+    LIMIT,
+};
+use oracle::lin::{parse_lin_file, write_lin, write_lin_file, LinData, LinDocument};
+use std::hint::black_box;
+
+/// Medians in milliseconds, of upstream and of the exports, over so many bytes
+/// read or written.
+pub struct Times {
+    pub bytes: usize,
+    pub rust: f64,
+    pub exports: f64,
+}
+
+/// A name in the table, and what times it over a file so many times.
+pub struct Work {
+    pub name: &'static str,
+    pub time: fn(&str, usize) -> Times,
+}
+
+pub const ALL: &[Work] = &[
+    Work {
+        name: "from_utf8 | open",
+        time: opening,
+    },
+    Work {
+        name: "parse | open, next",
+        time: tokenizing,
+    },
+    Work {
+        name: "to_lin | write_document",
+        time: document,
+    },
+    Work {
+        name: "parse_lin_file | boards, parse_lin",
+        time: reading,
+    },
+    Work {
+        name: "parse_lin_file | boards, heading",
+        time: headings,
+    },
+    Work {
+        name: "parse_lin_file | last file_heading",
+        time: last_heading,
+    },
+    Work {
+        name: "parse_lin_file, names | find_name",
+        time: finding,
+    },
+    Work {
+        name: "write_lin_file | append",
+        time: writing,
+    },
+    Work {
+        name: "== | same_board",
+        time: equality,
+    },
+];
+
+/// Both timed in turn, after their answers were held to be the same. What they
+/// give is dropped within the clock.
+fn in_turn<A, B>(
+    bytes: usize,
+    runs: usize,
+    mut rust: impl FnMut() -> A,
+    mut exports: impl FnMut() -> B,
+    same: impl Fn(&A, &B) -> bool,
+) -> Times {
+    assert!(same(&rust(), &exports()), "the answers differ");
+    let mut times = [Vec::new(), Vec::new()];
+    for _ in 0..runs {
+        timed(&mut times[0], || drop(black_box(rust())));
+        timed(&mut times[1], || drop(black_box(exports())));
+    }
+    let [rust, exports] = times.map(median);
+    Times {
+        bytes,
+        rust,
+        exports,
+    }
+}
+
+fn timed(times: &mut Vec<f64>, work: impl FnOnce()) {
+    let start = milliseconds();
+    work();
+    times.push(milliseconds() - start);
+}
+
+fn median(mut times: Vec<f64>) -> f64 {
+    times.sort_by(f64::total_cmp);
+    times[times.len() / 2]
+}
+
+/// The bytes found to be UTF-8.
+fn opening(text: &str, runs: usize) -> Times {
+    let bytes = text.as_bytes();
+    let open = || Cursor::open(black_box(bytes)).is_ok();
+    let check = || str::from_utf8(black_box(bytes)).is_ok();
+    in_turn(bytes.len(), runs, check, open, |a, b| a == b)
+}
+
+/// All tokens, one step at a time.
+fn tokenizing(text: &str, runs: usize) -> Times {
+    let bytes = text.as_bytes();
+    let steps = || {
+        let mut cursor = Cursor::open(black_box(bytes)).expect("a text within the limit");
+        let mut found = 0;
+        loop {
+            let step = cursor.step(bytes);
+            if black_box(&step).found == 0 {
+                return (found, cursor.trailing(bytes).len as usize);
+            }
+            found += 1;
+            cursor = Cursor::from_place(step.next);
+        }
+    };
+    let parse = || LinDocument::parse(black_box(text));
+    in_turn(bytes.len(), runs, parse, steps, |doc, found| {
+        (doc.tokens.len(), doc.trailing.len()) == *found
+    })
+}
+
+/// The document written back.
+fn document(text: &str, runs: usize) -> Times {
+    let bytes = text.as_bytes();
+    let doc = LinDocument::parse(text);
+    let (all, trailing): (Vec<Token>, _) = tokens::tokens(bytes).expect("a text");
+    let rows = tokens::rows(&all).expect("places within 32 bits");
+    let trailing = Span::try_from(trailing).expect("places within 32 bits");
+    let mut out = vec![0; bytes.len()];
+    let write = || tokens::write_document(black_box(bytes), &rows, trailing, &mut out);
+    let to_lin = || black_box(&doc).to_lin();
+    let times = in_turn(bytes.len(), runs, to_lin, write, |lin, len| {
+        *len == Ok(lin.len() as u64) && lin == text
+    });
+    assert_eq!(out, bytes);
+    times
+}
+
+/// How many calls and cards all boards have.
+fn rows_of(boards: &[LinData]) -> (usize, usize) {
+    let calls = boards.iter().map(|b| b.auction.len()).sum();
+    (calls, boards.iter().map(|b| b.play.len()).sum())
+}
+
+/// All boards with their rows.
+fn reading(text: &str, runs: usize) -> Times {
+    let bytes = text.as_bytes();
+    let (mut rows, mut cards) = (vec![0; ROW * LIMIT / 4], vec![0; LIMIT / 6]);
+    let read = || {
+        let mut seen = (0, (0, 0));
+        for board in Boards::open(black_box(bytes)).expect("a text within the limit") {
+            let h = boards::parse_lin_numbers(board.text, &mut rows, &mut cards);
+            black_box(&h);
+            seen.0 += 1;
+            seen.1 .0 += h.calls as usize;
+            seen.1 .1 += h.cards as usize;
+        }
+        seen
+    };
+    let parse = || parse_lin_file(black_box(text)).expect("no error");
+    in_turn(bytes.len(), runs, parse, read, |all, seen| {
+        (all.len(), rows_of(all)) == *seen
+    })
+}
+
+/// The headings of all boards.
+fn headings(text: &str, runs: usize) -> Times {
+    let bytes = text.as_bytes();
+    let read = || {
+        let mut seen = (0, (0, 0));
+        for board in Boards::open(black_box(bytes)).expect("a text within the limit") {
+            let h = boards::heading_numbers(board.text);
+            black_box(&h);
+            seen.0 += 1;
+            seen.1 .0 += h.calls as usize;
+            seen.1 .1 += h.cards as usize;
+        }
+        seen
+    };
+    let parse = || parse_lin_file(black_box(text)).expect("no error");
+    in_turn(bytes.len(), runs, parse, read, |all, seen| {
+        (all.len(), rows_of(all)) == *seen
+    })
+}
+
+/// One heading by its number, the last.
+fn last_heading(text: &str, runs: usize) -> Times {
+    let bytes = text.as_bytes();
+    let last = files::count_boards(bytes).expect("a text within the limit") - 1;
+    let read = || files::file_heading_numbers(black_box(bytes), last);
+    let parse = || parse_lin_file(black_box(text)).expect("no error").pop();
+    in_turn(bytes.len(), runs, parse, read, |board, heading| {
+        let calls = board.as_ref().map(|b| b.auction.len() as u64);
+        calls == Some(heading.calls)
+    })
+}
+
+/// The boards in which a name sits.
+fn finding(text: &str, runs: usize) -> Times {
+    let bytes = text.as_bytes();
+    let name = "Åsa Öberg";
+    let find = || files::find_name(black_box(bytes), name.as_bytes());
+    let search = || {
+        let all = parse_lin_file(black_box(text)).expect("no error");
+        let has = |b: &&LinData| b.player_names.iter().any(|n| n == name);
+        all.iter().filter(has).count() as u64
+    };
+    in_turn(bytes.len(), runs, search, find, |found, answer| {
+        *answer == Ok(*found)
+    })
+}
+
+/// The file's boards, as many as a file written of them has room for.
+fn fitting(text: &str) -> Vec<LinData> {
+    let mut room = text.len();
+    let mut boards = parse_lin_file(text).expect("no error");
+    let fits = |board: &LinData| {
+        let left = room.checked_sub(write_lin(board).len());
+        room = left.unwrap_or(0);
+        left.is_some()
+    };
+    let keep = boards.iter().map(fits).take_while(|f| *f).count();
+    boards.truncate(keep);
+    boards
+}
+
+/// Boards written one after another, each lent with its text.
+fn writing(text: &str, runs: usize) -> Times {
+    let boards = fitting(text);
+    let lent: Vec<Gathered> = boards
+        .iter()
+        .map(|b| Gathered::from(&upstream::board(b)))
+        .collect();
+    let file = write_lin_file(&boards);
+    let mut out = vec![0; LIMIT];
+    let append = || {
+        black_box(&lent).iter().fold(0, |used, board| {
+            let after = board.lent().append(&mut out, used);
+            after.expect("room for the board")
+        })
+    };
+    let write = || write_lin_file(black_box(&boards));
+    let times = in_turn(file.len(), runs, write, append, |written, used| {
+        written.len() as u64 == *used
+    });
+    assert_eq!(&out[..file.len()], file.as_bytes());
+    times
+}
+
+/// Each board against its copy.
+fn equality(text: &str, runs: usize) -> Times {
+    let boards = fitting(text);
+    let copies = boards.clone();
+    let gather = |b: &LinData| Gathered::from(&upstream::board(b));
+    let lent: Vec<Gathered> = boards.iter().map(gather).collect();
+    let others: Vec<Gathered> = boards.iter().map(gather).collect();
+    let same = || {
+        let pairs = black_box(&lent).iter().zip(&others);
+        pairs
+            .filter(|(a, b)| a.lent().same(b.lent()).expect("lawful boards"))
+            .count()
+    };
+    let equal = || {
+        let pairs = black_box(&boards).iter().zip(&copies);
+        pairs.filter(|(a, b)| a == b).count()
+    };
+    in_turn(write_lin_file(&boards).len(), runs, equal, same, |a, b| {
+        a == b
+    })
+}
