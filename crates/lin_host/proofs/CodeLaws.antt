@@ -23,7 +23,7 @@ use Rattle.lin_spec.specs.declared.Vulnerability.{Vulnerability}
 use Rattle.lin_spec.specs.declared.Vulnerability.the-variants.{None, NorthSouth, EastWest, Both}
 use Rattle.lin_spec.specs.declared.Board.{Board}
 use Rattle.lin_host.specs.Boards.{vulnerabilityNumber, placeNumbers, textNumbers, claimFlag, claimNumber, boardNumbers}
-use Rattle.lin_host.specs.Codes.{seatOf, vulnerabilityOf, spansOf, textOf, claimOf, boardOf, badClaim, badCodes}
+use Rattle.lin_host.specs.Codes.{seatOf, vulnerabilityOf, spansOf, textOf, claimOf, boardOf, badGiven, badCodes}
 
 -- the spans of eight words
 
@@ -89,7 +89,7 @@ text-good : (x : MaybeSpan) → ltb 1 (textNumbers x .present) ≡ false
 text-good Absent = refl
 text-good (Present x) = refl
 
-claim-good : (c : MaybeClaim) → Holds (λ (n : ℕ). n ≤ 255) (claimIn c) → badClaim (claimFlag c) (claimNumber c) ≡ false
+claim-good : (c : MaybeClaim) → Holds (λ (n : ℕ). n ≤ 255) (claimIn c) → badGiven (claimFlag c) (claimNumber c) 255 ≡ false
 claim-good NoClaim h = refl
 claim-good (Claimed n) h = simp (le-ltb 255 n h)
 

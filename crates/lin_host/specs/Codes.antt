@@ -55,11 +55,14 @@ boardOf b =
 
 -- 8: "number outside its range". Seats and vulnerability are 0 to 3, a flag is 0 or 1, and a claim that is made is "0 to 255".
 
-abbrev pub badTexts : LinBoard → Bool
-badTexts b = ltb 1 (b .title .present) || (ltb 1 (b .«room_board» .present) || ltb 1 (b .«board_header» .present))
+abbrev pub badThree : LinText → LinText → LinText → Bool
+badThree x y z = ltb 1 (x .present) || (ltb 1 (y .present) || ltb 1 (z .present))
 
-abbrev pub badClaim : (claimed claim : ℕ) → Bool
-badClaim t n = ltb 1 t || (eqb t 1 && ltb 255 n)
+-- a number that may be absent: its flag, or the number where it is given
+abbrev pub badGiven : (given number most : ℕ) → Bool
+badGiven t n most = ltb 1 t || (eqb t 1 && ltb most n)
 
 unfoldable pub badCodes : LinBoard → Bool
-badCodes b = ltb 3 (b .dealer) || (ltb 3 (b .vulnerability) || (badTexts b || badClaim (b .claimed) (b .claim)))
+badCodes b =
+    ltb 3 (b .dealer)
+    || (ltb 3 (b .vulnerability) || (badThree (b .title) (b .«room_board») (b .«board_header») || badGiven (b .claimed) (b .claim) 255))

@@ -1,6 +1,6 @@
 -- A PBN record that is lent as numbers: the record that they are, and whether a code is outside its range. (01: From PBN; Eight refusals, 8)
 use Prim.Native.Nat.{ℕ}
-use mathlib.Core.Bool.{Bool, _&&_, _||_}
+use mathlib.Core.Bool.{Bool, _||_}
 use lib.IntN.{ℤ}
 use lib.Dec.{eqb, ltb}
 use Rattle.lin_spec.specs.Base.{pick}
@@ -11,7 +11,7 @@ use Rattle.lin_spec.specs.declared.MaybeSeat.the-variants.{Absent as NoSeat, Gi
 use Rattle.lin_spec.specs.declared.MaybeResult.{MaybeResult}
 use Rattle.lin_spec.specs.declared.MaybeResult.the-variants.{Absent as NoResult, Tricks}
 use Rattle.lin_spec.specs.declared.PbnBoard.{PbnBoard}
-use Rattle.lin_host.specs.Codes.{seatOf, vulnerabilityOf, textOf}
+use Rattle.lin_host.specs.Codes.{seatOf, vulnerabilityOf, textOf, badThree, badGiven}
 use Rattle.lin_host.specs.declared.records.LinPbn.{LinPbn}
 
 -- The record. A code outside its range, with which the call is refused, counts as the last seat, as both sides, or as given.
@@ -45,15 +45,10 @@ recordOf b =
 -- 8: "number outside its range". A flag is 0 or 1, a dealer that is given and the vulnerability are 0 to 3. The entry looks at the board number that is given.
 
 abbrev pub badNames : LinPbn → Bool
-badNames b = ltb 1 (b .south .present) || (ltb 1 (b .west .present) || (ltb 1 (b .north .present) || ltb 1 (b .east .present)))
-
-abbrev pub badHead : LinPbn → Bool
-badHead b = ltb 1 (b .event .present) || (ltb 1 (b .date .present) || ltb 1 (b .id .present))
-
-abbrev pub badDealer : (given dealer : ℕ) → Bool
-badDealer t n = ltb 1 t || (eqb t 1 && ltb 3 n)
+badNames b = ltb 1 (b .south .present) || badThree (b .west) (b .north) (b .east)
 
 unfoldable pub badRecord : LinPbn → Bool
 badRecord b =
     badNames b
-    || (badHead b || (badDealer (b .«dealer_given») (b .dealer) || (ltb 3 (b .vulnerability) || (ltb 1 (b .«number_given») || ltb 1 (b .«result_given»)))))
+    || (badThree (b .event) (b .date) (b .id)
+    || (badGiven (b .«dealer_given») (b .dealer) 3 || (ltb 3 (b .vulnerability) || (ltb 1 (b .«number_given») || ltb 1 (b .«result_given»)))))

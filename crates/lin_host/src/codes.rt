@@ -9,7 +9,7 @@ use lin_spec::Seat;
 use lin_spec::Span;
 use lin_spec::Vulnerability;
 ghost use mathlib.Core.Path.{_≡_};
-ghost use Rattle.lin_host.specs.Codes.{seatOf, vulnerabilityOf, spansOf, textOf, claimOf, boardOf, badTexts, badClaim, badCodes};
+ghost use Rattle.lin_host.specs.Codes.{seatOf, vulnerabilityOf, spansOf, textOf, claimOf, boardOf, badThree, badGiven, badCodes};
 
 // The parts of a board, each for any number.
 
@@ -106,28 +106,28 @@ pub(crate) fn board_of(b: LinBoard) -> Board
     }
 }
 
-// Whether a text is neither there nor absent.
-fn bad_texts(b: LinBoard) -> bool
-    ensures { λ r. ⌜ r ≡ badTexts b ⌝ }
+// Whether one of three texts is neither there nor absent.
+pub(crate) fn bad_three(x: LinText, y: LinText, z: LinText) -> bool
+    ensures { λ r. ⌜ r ≡ badThree x y z ⌝ }
 {
-    let title = b.title;
-    let room_board = b.room_board;
-    let board_header = b.board_header;
-    (1 < title.present) | ((1 < room_board.present) | (1 < board_header.present))
+    (1 < x.present) | ((1 < y.present) | (1 < z.present))
 }
 
-// Whether a claim is neither made nor absent, or more than 255 tricks are claimed.
-fn bad_claim(claimed: u32, claim: u32) -> bool
-    ensures { λ r. ⌜ r ≡ badClaim claimed claim ⌝ }
+// Whether a number is neither given nor absent, or is given and more than it may be.
+pub(crate) fn bad_given(given: u32, number: u32, most: u32) -> bool
+    ensures { λ r. ⌜ r ≡ badGiven given number most ⌝ }
 {
-    (1 < claimed) | ((claimed == 1) & (255 < claim))
+    (1 < given) | ((given == 1) & (most < number))
 }
 
 // Whether a code is outside its range.
 pub(crate) fn bad_codes(b: LinBoard) -> bool
     ensures { λ r. ⌜ r ≡ badCodes b ⌝ }
 {
-    let texts = bad_texts(b);
-    let claim = bad_claim(b.claimed, b.claim);
+    let title = b.title;
+    let room_board = b.room_board;
+    let board_header = b.board_header;
+    let texts = bad_three(title, room_board, board_header);
+    let claim = bad_given(b.claimed, b.claim, 255);
     (3 < b.dealer) | ((3 < b.vulnerability) | (texts | claim))
 }

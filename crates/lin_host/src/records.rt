@@ -1,5 +1,7 @@
 // A PBN record that is lent as numbers: the record that they are, and whether a code is outside its range. (01: From PBN; Eight refusals, 8)
 use crate::boards::LinText;
+use crate::codes::bad_given;
+use crate::codes::bad_three;
 use crate::codes::seat_of;
 use crate::codes::text_of;
 use crate::codes::vulnerability_of;
@@ -9,7 +11,7 @@ use lin_spec::MaybeResult;
 use lin_spec::MaybeSeat;
 use lin_spec::PbnBoard;
 ghost use mathlib.Core.Path.{_≡_};
-ghost use Rattle.lin_host.specs.Records.{boardNumberOf, dealerOf, resultOf, recordOf, badNames, badHead, badDealer, badRecord};
+ghost use Rattle.lin_host.specs.Records.{boardNumberOf, dealerOf, resultOf, recordOf, badNames, badRecord};
 
 // A PBN record without its calls, its play and its notes. Each flag is 0 or 1, and what it says is not given is not looked at.
 #[repr(C)]
@@ -103,33 +105,19 @@ fn bad_names(b: LinPbn) -> bool
     let west = b.west;
     let north = b.north;
     let east = b.east;
-    (1 < south.present) | ((1 < west.present) | ((1 < north.present) | (1 < east.present)))
-}
-
-// Whether the event, the date or the id is neither.
-fn bad_head(b: LinPbn) -> bool
-    ensures { λ r. ⌜ r ≡ badHead b ⌝ }
-{
-    let event = b.event;
-    let date = b.date;
-    let id = b.id;
-    (1 < event.present) | ((1 < date.present) | (1 < id.present))
-}
-
-// Whether a dealer is neither given nor absent, or no seat.
-fn bad_dealer(given: u32, dealer: u32) -> bool
-    ensures { λ r. ⌜ r ≡ badDealer given dealer ⌝ }
-{
-    (1 < given) | ((given == 1) & (3 < dealer))
+    (1 < south.present) | bad_three(west, north, east)
 }
 
 // Whether a code is outside its range. The entry looks at the number itself.
 pub(crate) fn bad_record(b: LinPbn) -> bool
     ensures { λ r. ⌜ r ≡ badRecord b ⌝ }
 {
+    let event = b.event;
+    let date = b.date;
+    let id = b.id;
     let names = bad_names(b);
-    let head = bad_head(b);
-    let dealer = bad_dealer(b.dealer_given, b.dealer);
+    let head = bad_three(event, date, id);
+    let dealer = bad_given(b.dealer_given, b.dealer, 3);
     let flags = (1 < b.number_given) | (1 < b.result_given);
     names | (head | (dealer | ((3 < b.vulnerability) | flags)))
 }

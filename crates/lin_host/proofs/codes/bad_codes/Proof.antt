@@ -5,15 +5,15 @@ use borrow.Author.Needs.{needs}
 use Rattle.lin_host.proofs.codes.bad_codes.Statement.{statement}
 use Rattle.lin_host.proofs.codes.bad_codes.Tie as tie
 
-bad-texts-requires : tie.Need-bad-texts-requires
-bad-texts-requires c κs = search needs
+bad-three-requires : tie.Need-bad-three-requires
+bad-three-requires c κs = search needs
 
-bad-claim-requires : tie.Need-bad-claim-requires
-bad-claim-requires c κs = search needs
+bad-given-requires : tie.Need-bad-given-requires
+bad-given-requires c κs = search needs
 
 returns : tie.Need-returns
 unfolding badCodes
-returns c = rw (c .before .before .before .bad-texts .ensures, c .before .before .bad-claim .ensures)
+returns c = rw (c .before .before .before .bad-three .ensures, c .before .before .bad-given .ensures)
 
 pub bad-codes-spec : {M : Type 1} → statement M
-bad-codes-spec = tie.close (tie.spec bad-texts-requires bad-claim-requires returns)
+bad-codes-spec = tie.close (tie.spec bad-three-requires bad-given-requires returns)

@@ -8,16 +8,16 @@ use Rattle.lin_host.proofs.records.bad_record.Tie as tie
 bad-names-requires : tie.Need-bad-names-requires
 bad-names-requires c κs = search needs
 
-bad-head-requires : tie.Need-bad-head-requires
-bad-head-requires c κs = search needs
+bad-three-requires : tie.Need-bad-three-requires
+bad-three-requires c κs = search needs
 
-bad-dealer-requires : tie.Need-bad-dealer-requires
-bad-dealer-requires c κs = search needs
+bad-given-requires : tie.Need-bad-given-requires
+bad-given-requires c κs = search needs
 
 returns : tie.Need-returns
 unfolding badRecord
-returns c = rw (c .before .before .before .before .before .bad-names .ensures, c .before .before .before .before .bad-head .ensures, c .before .before .before .bad-dealer .ensures)
+returns c = rw (c .before .before .before .before .before .bad-names .ensures, c .before .before .before .before .bad-three .ensures, c .before .before .before .bad-given .ensures)
 
 pub bad-record-spec : {M : Type 1} → statement M
 bad-record-spec =
-    tie.close (tie.spec bad-names-requires bad-head-requires bad-dealer-requires returns)
+    tie.close (tie.spec bad-names-requires bad-three-requires bad-given-requires returns)
