@@ -1,6 +1,5 @@
-// LIN as its `command|value|` tokens: a cursor over a text, and a document written from spans. (01: Tokens; upstream's document.rs)
+// LIN as its `command|value|` tokens: a cursor over a text. (01: Tokens; upstream's document.rs)
 mod tokens;
-mod writer;
 
 pub use tokens::Cursor;
 pub use tokens::Opened;
@@ -13,4 +12,3 @@ pub use tokens::next_pipe;
 pub use tokens::open;
 pub use tokens::trailing;
 pub use tokens::value;
-pub use writer::write_document;

@@ -19,7 +19,7 @@ pub use document::command;
 pub use document::open;
 pub use document::trailing;
 pub use document::value;
-pub use document::write_document;
+pub use document_writer::write_document;
 
 // Boards. (01: Records, Board)
 pub use board::parse_lin;

@@ -7,7 +7,7 @@ use document::Opened;
 use document::Step;
 use document::open;
 use document::trailing;
-use document::write_document;
+use document_writer::write_document;
 use lin_spec::Span;
 ghost use mathlib.Core.Path.{_≡_};
 ghost use Rattle.lin_spec.specs.Records.{span};

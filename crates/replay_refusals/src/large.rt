@@ -8,7 +8,7 @@ use check::same;
 use document::Cursor;
 use document::Step;
 use document::trailing;
-use document::write_document;
+use document_writer::write_document;
 use lin_spec::LIMIT;
 use lin_spec::Span;
 use text::part;

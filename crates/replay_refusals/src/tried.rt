@@ -2,7 +2,7 @@
 use check::same;
 use document::Opened;
 use document::open;
-use document::write_document;
+use document_writer::write_document;
 use lin_spec::Refusal;
 use lin_spec::Span;
 use lin_spec::Written;

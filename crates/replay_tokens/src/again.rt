@@ -5,7 +5,7 @@ use document::Part;
 use document::Step;
 use document::Token;
 use document::trailing;
-use document::write_document;
+use document_writer::write_document;
 use lin_spec::Span;
 use lin_spec::Written;
 use text::part;

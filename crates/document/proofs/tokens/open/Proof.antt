@@ -4,23 +4,16 @@ use Rattle.document.proofs.Answers.{open-long, open-ill, open-good}
 use borrow.Author.Needs.{needs}
 use Rattle.document.proofs.tokens.open.Statement.{statement}
 use Rattle.document.proofs.tokens.open.Tie as tie
-use Rattle.document.proofs.tokens.open.Reads as reads
-use Rattle.document.proofs.tokens.open.Lts as lts
-use Rattle.text.proofs.well_formed_len.Reads as well-formed-len-reads
 
--- src/tokens.rt:52:9
 returns : tie.Need-returns
 returns c = open-long _ (c .if1 .taken)
 
--- src/tokens.rt:54:9
 well-formed-len-requires : tie.Need-well-formed-len-requires
 well-formed-len-requires c κs = search needs
 
--- src/tokens.rt:56:9
 returns-2 : tie.Need-returns-2
 returns-2 c = open-ill _ (c .before .before .if1 .left) _ (c .before .well-formed-len .ensures) (c .if2 .taken)
 
--- src/tokens.rt:48:1
 returns-3 : tie.Need-returns-3
 returns-3 c = open-good _ (c .before .before .if1 .left) _ (c .before .well-formed-len .ensures) (c .if2 .left)
 

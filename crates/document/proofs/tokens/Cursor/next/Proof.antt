@@ -5,43 +5,31 @@ use mathlib.Core.Path.{sym}
 use Rattle.lin_spec.proofs.Cursor.{step-none, step-one, step-two, step-after}
 use Rattle.document.proofs.tokens.Cursor.next.Statement.{statement}
 use Rattle.document.proofs.tokens.Cursor.next.Tie as tie
-use Rattle.document.proofs.tokens.Cursor.next.Reads as reads
-use Rattle.document.proofs.tokens.Cursor.next.Lts as lts
-use Rattle.document.proofs.tokens.next_pipe.Reads as next-pipe-reads
 
--- src/tokens.rt:57:13
 next-pipe-requires : tie.Need-next-pipe-requires
 next-pipe-requires c κs = search needs
 
--- src/tokens.rt:59:13
 returns : tie.Need-returns
 returns c = sym (step-none _ _ _ (c .before .next-pipe .ensures) (c .if1 .taken))
 
--- src/tokens.rt:61:17
 add-v : tie.Need-add-v
 add-v c = search needs
 
--- src/tokens.rt:62:13
 next-pipe-requires-2 : tie.Need-next-pipe-requires-2
 next-pipe-requires-2 c κs = search needs
 
--- src/tokens.rt:64:13
 returns-2 : tie.Need-returns-2
 returns-2 c = sym (step-one _ _ _ (c .before .before .before .next-pipe .ensures) (c .before .before .if1 .left) _ (c .before .next-pipe2 .ensures) (c .if2 .taken))
 
--- src/tokens.rt:68:18
 sub-t9 : tie.Need-sub-t9
 sub-t9 c = step-after _ _ _ (c .before .before .before .next-pipe .ensures) (c .before .before .if1 .left)
 
--- src/tokens.rt:72:18
 sub-t9-2 : tie.Need-sub-t9-2
 sub-t9-2 c = step-after _ _ _ (c .before .next-pipe2 .ensures) (c .if2 .left)
 
--- src/tokens.rt:74:60
 add-t9 : tie.Need-add-t9
 add-t9 c = search needs
 
--- src/tokens.rt:53:5
 returns-3 : tie.Need-returns-3
 returns-3 c = sym (step-two _ _ _ (c .before .before .before .next-pipe .ensures) (c .before .before .if1 .left) _ (c .before .next-pipe2 .ensures) (c .if2 .left))
 

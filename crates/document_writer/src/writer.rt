@@ -1,0 +1,310 @@
+// The document writer: rows of four words and a trailing span, into one output. (01: Tokens, "A document to write ..")
+use lin_spec::LIMIT;
+use lin_spec::Refusal;
+use lin_spec::Span;
+use lin_spec::Written;
+use lin_spec::room;
+use output::put_byte;
+use output::put_bytes;
+use output::sat_add;
+use text::Fault;
+use text::faulty;
+use text::is_utf8;
+use text::part;
+use text::shown;
+use text::torn;
+ghost use mathlib.Core.Path.{_≡_};
+ghost use mathlib.Core.Bool.{true, false, _||_};
+ghost use Prim.Native.Nat.{_+_, _-_, _≤_};
+ghost use lib.ListN.{length};
+ghost use Rattle.lin_spec.specs.Records.{limit, bytesAt};
+ghost use Rattle.lin_spec.specs.Refusals.{sat, passesEnd, illSpan};
+ghost use Rattle.lin_spec.specs.Utf8.{utf8};
+ghost use Rattle.lin_spec.specs.Base.{any};
+ghost use Rattle.lin_spec.specs.Output.{Outcome, answerOf};
+ghost use Rattle.lin_spec.specs.Document.{rowsIn, spansOf, documentText, writeDocument};
+ghost use Rattle.text.specs.Fault.{faultOf};
+ghost use Rattle.output.specs.Put.{Room, Put};
+ghost use Rattle.document_writer.specs.Rows.{rowAt, rowOf, rowText, Stands, runText, RunAt, Looked, Lawful};
+
+// A command and a value to write.
+struct Row {
+    command: Span,
+    value: Span,
+}
+
+// The row that the four words from i on give.
+fn row_at(rows: &[u32], i: usize) -> Row
+    requires { ⌜ 4 ≤ length (now rows) - i ⌝ }
+    ensures { λ r. ⌜ r ≡ rowOf (rowAt (now (rows .entry)) i) ⌝ }
+{
+    let command = Span {
+        start: rows[i],
+        len: rows[i + 1],
+    };
+    let value = Span {
+        start: rows[i + 2],
+        len: rows[i + 3],
+    };
+    Row { command, value }
+}
+
+// Puts the bytes of a span.
+fn put_span(out: &mut [u8], at: usize, text: &[u8], x: Span) -> usize
+    requires { ⌜ Room (now out) at (bytesAt (now text) x) ⌝ }
+    ensures { λ r. ⌜ Put (now (out .entry)) at (bytesAt (now (text .entry)) x) (now (out .exit)) r ⌝ }
+{
+    put_bytes(out, at, shown(text, x))
+}
+
+// Puts a command and a value, each with a pipe after it.
+fn put_row(out: &mut [u8], at: usize, text: &[u8], row: Row) -> usize
+    requires { ⌜ Room (now out) at (rowText (now text) row) ⌝ }
+    ensures { λ r. ⌜ Put (now (out .entry)) at (rowText (now (text .entry)) row) (now (out .exit)) r ⌝ }
+{
+    let a = put_span(out, at, text, row.command);
+    let b = put_byte(out, a, b'|');
+    let c = put_span(out, b, text, row.value);
+    put_byte(out, c, b'|')
+}
+
+// Rows that stand in the text one after the other with their pipes, by how many words and how many bytes they have; or one row that does not.
+struct Run {
+    words: usize,
+    len: usize,
+    stands: bool,
+}
+
+// Where a row ends that stands in the text from a place on, with its pipes; the place itself where it does not.
+fn row_end(text: &[u8], at: usize, row: Row) -> usize
+    ensures { λ r. ⌜ Stands (now (text .entry)) at row r ⌝ }
+{
+    let command = row.command;
+    let value = row.value;
+    let start = command.start as usize;
+    let p = start + command.len as usize;
+    let v = value.start as usize;
+    let q = v + value.len as usize;
+    if text.len() <= q {
+        return at;
+    }
+    if v != p + 1 {
+        return at;
+    }
+    if start != at {
+        return at;
+    }
+    if (text[p] == b'|') & (text[q] == b'|') {
+        return q + 1;
+    }
+    at
+}
+
+// A word as a place.
+fn wide(w: u32) -> usize
+    ensures { λ r. ⌜ r ≡ w ⌝ }
+{
+    w as usize
+}
+
+// The run of rows from the word i on.
+fn run_at(text: &[u8], rows: &[u32], i: usize) -> Run
+    requires { ⌜ 4 ≤ length (now rows) - i ⌝ }
+    ensures { λ r. ⌜ RunAt (now (text .entry)) (now (rows .entry)) i r ⌝ }
+{
+    let start = wide(rows[i]);
+    let first = row_end(text, start, row_at(rows, i));
+    if first == start {
+        return Run {
+            words: 4,
+            len: 0,
+            stands: false,
+        };
+    }
+    let mut j = i + 4;
+    let mut stop = first;
+    while 4 <= rows.len() - j {
+        let next = row_end(text, stop, row_at(rows, j));
+        if next == stop {
+            return Run {
+                words: j - i,
+                len: stop - start,
+                stands: true,
+            };
+        }
+        stop = next;
+        j += 4;
+    }
+    Run {
+        words: j - i,
+        len: stop - start,
+        stands: true,
+    }
+}
+
+// Puts the rows of a run.
+fn put_run(out: &mut [u8], at: usize, text: &[u8], rows: &[u32], i: usize, run: Run) -> usize
+    requires { ⌜ Room (now out) at (runText (now text) (now rows) i run) × (4 ≤ length (now rows) - i) ⌝ }
+    ensures { λ r. ⌜ Put (now (out .entry)) at (runText (now (text .entry)) (now (rows .entry)) i run) (now (out .exit)) r ⌝ }
+{
+    if run.stands {
+        return put_bytes(out, at, part(text, wide(rows[i]), run.len));
+    }
+    put_row(out, at, text, row_at(rows, i))
+}
+
+// Puts all rows and the trailing text.
+fn put_document(out: &mut [u8], text: &[u8], rows: &[u32], trailing: Span) -> usize
+    requires { ⌜ Room (now out) 0 (documentText (now text) (now rows) trailing) ⌝ }
+    ensures { λ r. ⌜ Put (now (out .entry)) 0 (documentText (now (text .entry)) (now (rows .entry)) trailing) (now (out .exit)) r ⌝ }
+{
+    let mut i = 0;
+    let mut o = 0;
+    while 4 <= rows.len() - i {
+        let run = run_at(text, rows, i);
+        o = put_run(out, o, text, rows, i, run);
+        i += run.words;
+    }
+    put_span(out, o, text, trailing)
+}
+
+// How many bytes a row has.
+fn row_len(text: &[u8], row: Row) -> u64
+    ensures { λ r. ⌜ r ≡ sat (length (rowText (now (text .entry)) row)) ⌝ }
+{
+    let a = shown(text, row.command).len() as u64;
+    let b = shown(text, row.value).len() as u64;
+    sat_add(sat_add(a, b), 2)
+}
+
+// How many bytes a document has.
+fn document_len(text: &[u8], rows: &[u32], trailing: Span) -> u64
+    ensures { λ r. ⌜ r ≡ sat (length (documentText (now (text .entry)) (now (rows .entry)) trailing)) ⌝ }
+{
+    let mut i = 0;
+    let mut n = 0;
+    while 4 <= rows.len() - i {
+        n = sat_add(n, row_len(text, row_at(rows, i)));
+        i += 4;
+    }
+    sat_add(n, shown(text, trailing).len() as u64)
+}
+
+// Whether a span of the document has this fault.
+fn any_faulty(text: &[u8], rows: &[u32], trailing: Span, fault: Fault) -> bool
+    ensures { λ r. ⌜ r ≡ any (faultOf fault (now (text .entry))) (spansOf (rowsIn (now (rows .entry))) trailing) ⌝ }
+{
+    let mut i = 0;
+    while 4 <= rows.len() - i {
+        let row = row_at(rows, i);
+        if faulty(text, row.command, fault) {
+            return true;
+        }
+        if faulty(text, row.value, fault) {
+            return true;
+        }
+        i += 4;
+    }
+    faulty(text, trailing, fault)
+}
+
+// What a document meets in a text that is UTF-8: 5, 6, or neither, with how many bytes it has.
+enum Look {
+    Past,
+    Torn,
+    Need(u64),
+}
+
+// Whether a span of a row passes the end of the text.
+fn row_past(text: &[u8], row: Row) -> bool
+    ensures { λ r. ⌜ r ≡ (passesEnd (now (text .entry)) (row .command) || passesEnd (now (text .entry)) (row .value)) ⌝ }
+{
+    faulty(text, row.command, Fault::PastEnd) | faulty(text, row.value, Fault::PastEnd)
+}
+
+// Whether a span of a row is not UTF-8.
+fn row_torn(text: &[u8], row: Row) -> bool
+    requires { ⌜ (utf8 (now text) ≡ true) × ((passesEnd (now text) (row .command) || passesEnd (now text) (row .value)) ≡ false) ⌝ }
+    ensures { λ r. ⌜ r ≡ (illSpan (now (text .entry)) (row .command) || illSpan (now (text .entry)) (row .value)) ⌝ }
+{
+    torn(text, row.command) | torn(text, row.value)
+}
+
+// How many bytes a row has whose spans are within the text.
+fn row_size(row: Row) -> u64
+    ensures { λ r. ⌜ r ≡ row .command .len + row .value .len + 2 ⌝ }
+{
+    let command = row.command;
+    let value = row.value;
+    command.len as u64 + value.len as u64 + 2
+}
+
+// Looks at every row once.
+fn look_at(text: &[u8], rows: &[u32], trailing: Span) -> Look
+    requires { ⌜ utf8 (now text) ≡ true ⌝ }
+    ensures { λ r. ⌜ Looked (now (text .entry)) (now (rows .entry)) trailing r ⌝ }
+{
+    let mut i = 0;
+    let mut n = 0;
+    let mut ill = false;
+    while 4 <= rows.len() - i {
+        let row = row_at(rows, i);
+        if row_past(text, row) {
+            return Look::Past;
+        }
+        ill = ill | row_torn(text, row);
+        n = sat_add(n, row_size(row));
+        i += 4;
+    }
+    if faulty(text, trailing, Fault::PastEnd) {
+        return Look::Past;
+    }
+    if ill | torn(text, trailing) {
+        return Look::Torn;
+    }
+    Look::Need(sat_add(n, trailing.len as u64))
+}
+
+// Writes a document that 5 and 6 do not meet, if there is room for it.
+fn write_fitting(text: &[u8], rows: &[u32], trailing: Span, out: &mut [u8], need: u64) -> Written
+    requires { ⌜ Lawful (now text) (now rows) trailing need ⌝ }
+    ensures { λ r. ⌜ _≡_ {A = Outcome} (record { answer = answerOf r; output = now (out .exit) }) (writeDocument (now (text .entry)) (now (rows .entry)) trailing (now (out .entry))) ⌝ }
+{
+    if (room(out.len()) as u64) < need {
+        return Written::Refused(Refusal::OutputTooSmall(need));
+    }
+    let n = put_document(out, text, rows, trailing);
+    Written::Length(n)
+}
+
+// Writes a document over a text that is within the limit, and not UTF-8 as a whole.
+fn write_apart(text: &[u8], rows: &[u32], trailing: Span, out: &mut [u8]) -> Written
+    requires { ⌜ length (now text) ≤ limit ⌝ }
+    ensures { λ r. ⌜ _≡_ {A = Outcome} (record { answer = answerOf r; output = now (out .exit) }) (writeDocument (now (text .entry)) (now (rows .entry)) trailing (now (out .entry))) ⌝ }
+{
+    if any_faulty(text, rows, trailing, Fault::PastEnd) {
+        return Written::Refused(Refusal::SpanPastEnd);
+    }
+    if any_faulty(text, rows, trailing, Fault::NotUtf8) {
+        return Written::Refused(Refusal::SpanNotUtf8);
+    }
+    let need = document_len(text, rows, trailing);
+    write_fitting(text, rows, trailing, out, need)
+}
+
+// Writes the document from the first byte of the output on, and gives its length; or refuses, and changes nothing.
+pub fn write_document(text: &[u8], rows: &[u32], trailing: Span, out: &mut [u8]) -> Written
+    ensures { λ r. ⌜ _≡_ {A = Outcome} (record { answer = answerOf r; output = now (out .exit) }) (writeDocument (now (text .entry)) (now (rows .entry)) trailing (now (out .entry))) ⌝ }
+{
+    if LIMIT < text.len() {
+        return Written::Refused(Refusal::TextTooLong);
+    }
+    if !is_utf8(text) {
+        return write_apart(text, rows, trailing, out);
+    }
+    match look_at(text, rows, trailing) {
+        Look::Past => Written::Refused(Refusal::SpanPastEnd),
+        Look::Torn => Written::Refused(Refusal::SpanNotUtf8),
+        Look::Need(need) => write_fitting(text, rows, trailing, out, need),
+    }
+}
