@@ -11,14 +11,13 @@ use mathlib.Core.Option.{Option, none, some}
 use lib.ListN.{length, take, drop, getD, replicate, length-replicate, length-map}
 use lib.Seq.{take-append-seam}
 use Rattle.lin_spec.specs.Base.{All}
-use Rattle.lin_spec.specs.Records.{optionOf}
 use Rattle.lin_spec.specs.Refusals.{Answer, unless, tooLong, notUtf8}
 use Rattle.lin_spec.specs.Refusals.Answer.{refused, accepted}
 use Rattle.lin_spec.specs.Output.{overlay}
 use Rattle.lin_spec.specs.Board.{CallOf, BoardOf}
-use Rattle.lin_spec.specs.Reading.{maybeOf, callWords, headingOf, tooFew, stored}
+use Rattle.lin_spec.specs.Reading.{callWords, headingOf, tooFew, stored}
 use Rattle.lin_spec.specs.File.{fileSpans, noBoard, numbered, fileBoard}
-use Rattle.lin_spec.specs.Lent.{Lent, lent, lentBoard, meaning, callIn, callRows}
+use Rattle.lin_spec.specs.Lent.{Lent, lentBoard, meaning, callIn, callRows}
 use Rattle.lin_spec.specs.Append.{plain}
 use Rattle.lin_spec.specs.ThirdDemand.{Typed, Gives, used, L}
 use Rattle.lin_spec.specs.declared.Span.{Span}
@@ -32,7 +31,7 @@ use Rattle.lin_spec.proofs.ThirdDemand.{third-demand}
 use Rattle.board.specs.Calls.{rowOf}
 use Rattle.rows.specs.declared.CallRow.{CallRow}
 use Rattle.rows.specs.Rows.{called, rowIn, laid}
-use Rattle.rows.specs.Reader.{RowReading, fileAnswer, storedRows, fileRows}
+use Rattle.rows.specs.Reader.{fileAnswer, storedRows, fileRows}
 use Rattle.rows.specs.Given.{lentRows, GivesRows}
 
 -- A call's row, as it is lent again
