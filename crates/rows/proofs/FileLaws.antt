@@ -2,11 +2,11 @@
 -- Assumes nothing.
 use Prim.Native.Nat.{ℕ, _≤_, _<_, _^_}
 use mathlib.Core.Path.{_≡_, ap, sym, subst, _∙_}
-use mathlib.Core.List.{List, [], _∷_}
+use mathlib.Core.List.{List}
 use lib.ListN.{length, take}
 use Rattle.lin_spec.specs.Refusals.{Answer, unless}
 use Rattle.lin_spec.specs.Board.{BoardOf}
-use Rattle.lin_spec.specs.File.{openBoards, sections, boardsOf, fileSpans, numbered, noBoard}
+use Rattle.lin_spec.specs.File.{openBoards, sections, boardsOf, numbered}
 use Rattle.lin_spec.specs.declared.Span.{Span}
 use Rattle.lin_spec.specs.declared.Refusal.{Refusal}
 use Rattle.lin_spec.specs.declared.Refusal.the-variants.{NoBoard}

@@ -1,5 +1,6 @@
 pub mod Again
 pub mod FileLaws
+pub mod Found
 pub mod Laws
 pub mod ReaderLaws
 pub mod Walking

@@ -1,25 +1,24 @@
 -- Laws of reading a board into rows of calls as structs: one call at a time, the heading, what the entries give. (01: Board; File)
 -- Assumes nothing.
-use Prim.Native.Nat.{ℕ, zero, suc, _+_, _≤_, _<_, _^_}
-use native.Mathlib.Nat.{not-suc-le-zero, le-of-suc-le-suc}
+use Prim.Native.Nat.{ℕ, _+_, _≤_, _<_, _^_}
+use native.Mathlib.Nat.{not-suc-le-zero}
 use native.Mathlib.Numerals.{add-one}
 use native.Mathlib.Omega.{arith}
 use mathlib.Core.Path.{_≡_, refl, ap, sym, subst, _∙_}
-use mathlib.Core.Bool.{Bool, true, false, not}
+use mathlib.Core.Bool.{Bool, true, false}
 use mathlib.Core.List.{List, [], _∷_, map}
 use mathlib.Core.Option.{Option, none, some}
 use lib.ListN.{length, take, drop, getD, set, length-take, drop-of-length-le}
 use lib.Seq.{drop-cons, take-all}
-use lib.Dec.{eqb, ltb}
+use lib.Dec.{ltb}
 use borrow.Author.Tests.{lt-ltb, le-ltb}
-use Rattle.lin_spec.specs.Base.{pick}
 use Rattle.lin_spec.specs.Board.{CallOf, BoardOf, boardFrom}
 use Rattle.lin_spec.specs.Refusals.{Answer, unless, tooLong, notUtf8}
 use Rattle.lin_spec.specs.Refusals.Answer.{refused, accepted}
 use Rattle.lin_spec.specs.Output.{overlay}
 use Rattle.lin_spec.specs.Fresh.{refusedHeading}
 use Rattle.lin_spec.specs.Document.{openText}
-use Rattle.lin_spec.specs.Reading.{stream, flag, parseSpans, headingOf, headed}
+use Rattle.lin_spec.specs.Reading.{stream, parseSpans, headingOf, headed}
 use Rattle.lin_spec.specs.Lent.{callIn}
 use Rattle.lin_spec.specs.declared.Span.{Span}
 use Rattle.lin_spec.specs.declared.Call.{Call}
@@ -35,7 +34,7 @@ use Rattle.document.specs.Steps.{openedOf}
 use Rattle.document.specs.declared.tokens.Opened.{Opened}
 use Rattle.document.specs.declared.tokens.Opened.the-variants.{At, Refused}
 use Rattle.document.specs.declared.tokens.Cursor.{Cursor}
-use Rattle.board.specs.Calls.{isPresent, placeOf, rowOf, callsFrom, CallAt, Gives}
+use Rattle.board.specs.Calls.{rowOf, callsFrom, CallAt, Gives}
 use Rattle.board.specs.Reader.{boardAt}
 use Rattle.board.specs.declared.calls.NextCall.{NextCall}
 use Rattle.board.specs.declared.calls.NextCall.the-variants.{Found, Ended}

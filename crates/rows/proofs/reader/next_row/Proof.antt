@@ -1,6 +1,4 @@
 -- `rows::next_row` meets its contract. Assumes nothing.
-use native.Mathlib.Omega.{arith}
-use lib.ListN.{length-take}
 use borrow.Author.Needs.{needs}
 use Rattle.rows.proofs.ReaderLaws.{cut-is, cut-short, step-found, step-none}
 use Rattle.rows.proofs.reader.next_row.Statement.{statement}

@@ -3,9 +3,6 @@ use borrow.Author.Needs.{needs}
 use Rattle.rows.proofs.Laws.{words-bare, words-annotated}
 use Rattle.rows.proofs.words.words_of.Statement.{statement}
 use Rattle.rows.proofs.words.words_of.Tie as tie
-use Rattle.rows.proofs.words.words_of.Reads as reads
-use Rattle.rows.proofs.words.words_of.Lts as lts
-use Rattle.rows.proofs.words.flag_of.Reads as flag-of-reads
 
 -- src/words.rt:80:9
 flag-of-requires : tie.Need-flag-of-requires

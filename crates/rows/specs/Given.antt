@@ -1,0 +1,24 @@
+-- What a reading into rows of calls as structs gives, for the third demand. (01: Writer, "For the third demand ..")
+use Prim.Native.Nat.{ℕ}
+use mathlib.Core.Path.{_≡_}
+use mathlib.Core.List.{List, map}
+use lib.ListN.{length, take}
+use Rattle.lin_spec.specs.Board.{BoardOf}
+use Rattle.lin_spec.specs.Lent.{Lent, meaning}
+use Rattle.lin_spec.specs.declared.Board.{Board}
+use Rattle.lin_spec.specs.declared.Verdict.the-variants.{Accepted}
+use Rattle.board.specs.Calls.{rowOf}
+use Rattle.rows.specs.declared.CallRow.{CallRow}
+use Rattle.rows.specs.Rows.{called}
+use Rattle.rows.specs.Reader.{RowReading}
+
+-- a board that is lent with its calls in rows: a call is the six numbers of its row
+abbrev pub lentRows : (text : List ℕ) → Board → List CallRow → (cards : List ℕ) → Lent
+lentRows s b rs cs = record { text = s; board = b; calls = map (λ r. rowOf (called r)) rs; cards = cs }
+
+-- a reader's answer over the bytes t is no refusal and gives the board b: lent again, with as many rows and cards as it says, it means b
+pub record GivesRows (t : List ℕ) (b : BoardOf (List ℕ)) (r : RowReading) : Type 0 where
+  pub verdict : r .heading .verdict ≡ Accepted
+  pub calls : r .heading .calls ≡ length (b .calls)
+  pub cards : r .heading .cards ≡ length (b .play)
+  pub board : meaning (lentRows t (r .heading .board) (take (r .heading .calls) (r .rows)) (take (r .heading .cards) (r .cards))) ≡ b
