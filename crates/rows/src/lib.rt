@@ -1,7 +1,6 @@
 // Lent slices of call structs: the rows of a board's calls, one struct each. (01: Language form, "The calls stand in a list of rows lent by
 // the caller")
 mod access;
-mod reader;
 mod words;
 
 pub use access::get_row;
@@ -9,9 +8,8 @@ pub use access::put_row;
 pub use access::row_count;
 use lin_spec::MaybeSpan;
 use lin_spec::Span;
-pub use reader::file_board_rows;
-pub use reader::parse_lin_rows;
 pub use words::fill_rows;
+pub use words::row_of;
 pub use words::spill_rows;
 
 // A call: "bid span, alerted or not, annotation span or absent".

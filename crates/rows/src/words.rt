@@ -24,7 +24,7 @@ fn rows_both(structs: usize, words: usize) -> usize
 }
 
 // The row of a call's six numbers.
-pub(crate) fn row_of(c: Call) -> CallRow
+pub fn row_of(c: Call) -> CallRow
     ensures { λ r. ⌜ r ≡ rowIn (callIn c) ⌝ }
 {
     let bid = c.bid;

@@ -1,6 +1,4 @@
 // A board's calls read into rows: the entries of `parse_lin` and of a file's board by its number. (01: Board; File; Language form)
-use crate::CallRow;
-use crate::words::row_of;
 use board::NextCall;
 use board::heading_at;
 use board::next_call;
@@ -15,6 +13,8 @@ use lin_spec::MaybeSpan;
 use lin_spec::Refusal;
 use lin_spec::RowKind;
 use lin_spec::Span;
+use rows::CallRow;
+use rows::row_of;
 use sections::OpenedBoards;
 use sections::open_boards;
 ghost use mathlib.Core.Path.{_≡_};
@@ -22,9 +22,9 @@ ghost use mathlib.Core.List.{map};
 ghost use Prim.Native.Nat.{_<_, _≤_, _^_};
 ghost use lib.ListN.{length, take};
 ghost use Rattle.board.specs.Reader.{boardAt};
 ghost use Rattle.rows.specs.Rows.{rowIn, laid};
 ghost use Rattle.lin_spec.specs.Refusals.{unless};
-ghost use Rattle.rows.specs.Reader.{fewStructs, RowReading, textAnswer, fileAnswer, readRows, fileRows, Steps, Heads, refusedHeaded};
+ghost use Rattle.rows_reader.specs.Reader.{fewStructs, RowReading, textAnswer, fileAnswer, readRows, fileRows, Steps, Heads, refusedHeaded};
 
 // A call as a row, and the place after it.
 struct RowStep {

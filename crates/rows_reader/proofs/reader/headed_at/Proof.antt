@@ -1,8 +1,8 @@
 -- `rows::headed_at` meets its contract. Assumes nothing.
-use Rattle.rows.proofs.ReaderLaws.{cut-is, cut-short, few-rows, few-places, places, heads-read}
+use Rattle.rows_reader.proofs.ReaderLaws.{cut-is, cut-short, few-rows, few-places, places, heads-read}
 use borrow.Author.Needs.{needs}
-use Rattle.rows.proofs.reader.headed_at.Statement.{statement}
-use Rattle.rows.proofs.reader.headed_at.Tie as tie
+use Rattle.rows_reader.proofs.reader.headed_at.Statement.{statement}
+use Rattle.rows_reader.proofs.reader.headed_at.Tie as tie
 
 -- src/reader.rt:94:30
 slice-aggregate-heading-at : tie.Need-slice-aggregate-heading-at

@@ -29,10 +29,10 @@ use Rattle.lin_spec.specs.declared.Verdict.the-variants.{Accepted, Refused}
 use Rattle.lin_spec.proofs.Accepted.{words-length, lent-back}
 use Rattle.lin_spec.proofs.ThirdDemand.{third-demand}
 use Rattle.board.specs.Calls.{rowOf}
 use Rattle.rows.specs.declared.CallRow.{CallRow}
 use Rattle.rows.specs.Rows.{called, rowIn, laid}
-use Rattle.rows.specs.Reader.{fileAnswer, storedRows, fileRows}
-use Rattle.rows.specs.Given.{lentRows, GivesRows}
+use Rattle.rows_reader.specs.Reader.{fileAnswer, storedRows, fileRows}
+use Rattle.rows_reader.specs.Given.{lentRows, GivesRows}
 
 -- A call's row, as it is lent again
 

@@ -8,9 +8,9 @@ use Rattle.lin_spec.specs.Lent.{Lent, meaning}
 use Rattle.lin_spec.specs.declared.Board.{Board}
 use Rattle.lin_spec.specs.declared.Verdict.the-variants.{Accepted}
 use Rattle.board.specs.Calls.{rowOf}
 use Rattle.rows.specs.declared.CallRow.{CallRow}
 use Rattle.rows.specs.Rows.{called}
-use Rattle.rows.specs.Reader.{RowReading}
+use Rattle.rows_reader.specs.Reader.{RowReading}
 
 -- a board that is lent with its calls in rows: a call is the six numbers of its row
 abbrev pub lentRows : (text : List ℕ) → Board → List CallRow → (cards : List ℕ) → Lent

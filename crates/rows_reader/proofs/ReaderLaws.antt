@@ -39,12 +39,12 @@ use Rattle.board.specs.Reader.{boardAt}
 use Rattle.board.specs.declared.calls.NextCall.{NextCall}
 use Rattle.board.specs.declared.calls.NextCall.the-variants.{Found, Ended}
 use Rattle.board.proofs.ReaderLaws.{calls-are}
 use Rattle.rows.specs.declared.CallRow.{CallRow}
-use Rattle.rows.specs.declared.reader.RowStep.{RowStep}
-use Rattle.rows.specs.declared.reader.Headed.{Headed}
+use Rattle.rows_reader.specs.declared.reader.RowStep.{RowStep}
+use Rattle.rows_reader.specs.declared.reader.Headed.{Headed}
 use Rattle.rows.specs.Rows.{called, rowIn, emptyRow, laid}
-use Rattle.rows.specs.Reader.{fewStructs, RowReading, storedRows, textAnswer, Steps, callsIn, playIn, refusedHeaded, Heads}
+use Rattle.rows_reader.specs.Reader.{fewStructs, RowReading, storedRows, textAnswer, Steps, callsIn, playIn, refusedHeaded, Heads}
 use Rattle.rows.proofs.Laws.{front, laidAt, laid-start, laid-more, laid-none}
 
 -- A text up to a place
 

@@ -2,8 +2,8 @@
 use mathlib.Core.Path.{ap}
 use Rattle.lin_spec.specs.declared.Heading.{Heading}
 use borrow.Author.Needs.{needs}
-use Rattle.rows.proofs.reader.headed_refused.Statement.{statement}
-use Rattle.rows.proofs.reader.headed_refused.Tie as tie
+use Rattle.rows_reader.proofs.reader.headed_refused.Statement.{statement}
+use Rattle.rows_reader.proofs.reader.headed_refused.Tie as tie
 
 -- src/reader.rt:80:9
 refused-requires : tie.Need-refused-requires

@@ -1,9 +1,9 @@
 -- `rows::file_headed` meets its contract. Assumes nothing.
 use borrow.Author.Needs.{needs}
 use Rattle.file.proofs.NumberLaws.{ready, given}
-use Rattle.rows.proofs.FileLaws.{section-within, file-refused, file-missing, file-read}
-use Rattle.rows.proofs.reader.file_headed.Statement.{statement}
-use Rattle.rows.proofs.reader.file_headed.Tie as tie
+use Rattle.rows_reader.proofs.FileLaws.{section-within, file-refused, file-missing, file-read}
+use Rattle.rows_reader.proofs.reader.file_headed.Statement.{statement}
+use Rattle.rows_reader.proofs.reader.file_headed.Tie as tie
 
 -- src/reader.rt:129:24
 open-boards-requires : tie.Need-open-boards-requires

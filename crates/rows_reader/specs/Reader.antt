@@ -17,10 +17,10 @@ use Rattle.lin_spec.specs.declared.RowKind.the-variants.{Calls, Cards}
 use Rattle.lin_spec.specs.declared.Refusal.{Refusal}
 use Rattle.board.specs.Calls.{callsFrom}
 use Rattle.board.specs.Reader.{boardAt}
 use Rattle.rows.specs.declared.CallRow.{CallRow}
-use Rattle.rows.specs.declared.reader.RowStep.{RowStep}
-use Rattle.rows.specs.declared.reader.Headed.{Headed}
+use Rattle.rows_reader.specs.declared.reader.RowStep.{RowStep}
+use Rattle.rows_reader.specs.declared.reader.Headed.{Headed}
 use Rattle.rows.specs.Rows.{rowIn, laid}
 
 -- 3: "too few rows, calls before cards"
 abbrev pub fewStructs : BoardOf Span → (rows : ℕ) (cards : List ℕ) → List (Option Refusal)

@@ -1,8 +1,8 @@
 -- `rows::next_row` meets its contract. Assumes nothing.
 use borrow.Author.Needs.{needs}
-use Rattle.rows.proofs.ReaderLaws.{cut-is, cut-short, step-found, step-none}
-use Rattle.rows.proofs.reader.next_row.Statement.{statement}
-use Rattle.rows.proofs.reader.next_row.Tie as tie
+use Rattle.rows_reader.proofs.ReaderLaws.{cut-is, cut-short, step-found, step-none}
+use Rattle.rows_reader.proofs.reader.next_row.Statement.{statement}
+use Rattle.rows_reader.proofs.reader.next_row.Tie as tie
 
 -- src/reader.rt:37:21
 slice-aggregate-next-call : tie.Need-slice-aggregate-next-call

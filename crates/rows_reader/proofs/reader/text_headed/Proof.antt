@@ -1,10 +1,10 @@
 -- `rows::text_headed` meets its contract. Assumes nothing.
 use Rattle.lin_spec.specs.declared.Refusal.the-variants.{TextTooLong}
-use Rattle.rows.specs.Reader.{refusedHeaded}
-use Rattle.rows.proofs.ReaderLaws.{text-short, text-read, text-refused}
+use Rattle.rows_reader.specs.Reader.{refusedHeaded}
+use Rattle.rows_reader.proofs.ReaderLaws.{text-short, text-read, text-refused}
 use borrow.Author.Needs.{needs}
-use Rattle.rows.proofs.reader.text_headed.Statement.{statement}
-use Rattle.rows.proofs.reader.text_headed.Tie as tie
+use Rattle.rows_reader.proofs.reader.text_headed.Statement.{statement}
+use Rattle.rows_reader.proofs.reader.text_headed.Tie as tie
 
 -- src/reader.rt:115:11
 open-requires : tie.Need-open-requires
