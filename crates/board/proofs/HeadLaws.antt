@@ -35,6 +35,18 @@ empty-is s v h = go (bytesAt s v) (part-length s (v .start) (v .len) h)
     go [] e = sym (eq-eqb (v .len) 0 (sym e))
     go (b ∷ x) e = sym (ne-eqb (v .len) 0 (λ k. omega arith))
 
+-- A token that changes one number of a heading, or nothing
+
+module _ (s : List ℕ) (h : Head) (k : ℕ) (v : Span) where
+  pub stepped-none : 9 < k → Stepped s h k v h
+  stepped-none l = record { names = rw (ne-eqb k 4 (λ e. omega arith)) refl; md = rw (ne-eqb k 3 (λ e. omega arith)) refl; vulnerability = rw (ne-eqb k 7 (λ e. omega arith)) refl; title = rw (ne-eqb k 6 (λ e. omega arith)) refl; room = rw (ne-eqb k 5 (λ e. omega arith)) refl; header = rw (ne-eqb k 8 (λ e. omega arith)) refl; claim = rw (ne-eqb k 9 (λ e. omega arith)) refl; calls = rw (ne-eqb k 1 (λ e. omega arith)) refl; cards = rw (ne-eqb k 0 (λ e. omega arith)) refl }
+
+  pub stepped-card : k ≡ 0 → (n : ℕ) → n ≡ more (readCard (trim (bytesAt s v))) (h .cards) → Stepped s h k v (record { names = h .names; md = h .md; vulnerability = h .vulnerability; title = h .title; room = h .room; header = h .header; claim = h .claim; calls = h .calls; cards = n })
+  stepped-card q n e = record { names = rw (ne-eqb k 4 (λ e. omega arith)) refl; md = rw (ne-eqb k 3 (λ e. omega arith)) refl; vulnerability = rw (ne-eqb k 7 (λ e. omega arith)) refl; title = rw (ne-eqb k 6 (λ e. omega arith)) refl; room = rw (ne-eqb k 5 (λ e. omega arith)) refl; header = rw (ne-eqb k 8 (λ e. omega arith)) refl; claim = rw (ne-eqb k 9 (λ e. omega arith)) refl; calls = rw (ne-eqb k 1 (λ e. omega arith)) refl; cards = rw (eq-eqb k 0 q) e }
+
+  pub stepped-call : k ≡ 1 → (n : ℕ) → n ≡ h .calls + 1 → Stepped s h k v (record { names = h .names; md = h .md; vulnerability = h .vulnerability; title = h .title; room = h .room; header = h .header; claim = h .claim; calls = n; cards = h .cards })
+  stepped-call q n e = record { names = rw (ne-eqb k 4 (λ e. omega arith)) refl; md = rw (ne-eqb k 3 (λ e. omega arith)) refl; vulnerability = rw (ne-eqb k 7 (λ e. omega arith)) refl; title = rw (ne-eqb k 6 (λ e. omega arith)) refl; room = rw (ne-eqb k 5 (λ e. omega arith)) refl; header = rw (ne-eqb k 8 (λ e. omega arith)) refl; claim = rw (ne-eqb k 9 (λ e. omega arith)) refl; calls = rw (eq-eqb k 1 q) e; cards = rw (ne-eqb k 0 (λ e. omega arith)) refl }
+
 -- one field: what the token leaves of it, with the test of the command's number in place of the command's own
 field : {A : Type 0} (f : List ℕ → Span → A → A) (ts us : List (TokenOf Span)) (c : List ℕ) (v : Span) (b b₀ b′ : A)
     → over f b (token c v ∷ us) ≡ over f b₀ ts → b′ ≡ f c v b → over f b′ us ≡ over f b₀ ts

@@ -16,7 +16,9 @@ use works::Work;
 fn main() {
     let runs = env::args().nth(1).and_then(|a| a.parse().ok());
     let runs = runs.unwrap_or(21usize).max(1);
-    println!("medians of {runs} interleaved runs, processor time; growth from 256 KiB to 512 KiB to 1 MiB");
+    println!(
+        "least of {runs} interleaved runs, processor time; growth from 256 KiB to 512 KiB to 1 MiB"
+    );
     line(
         "",
         ["bytes", "Rust ms", "exports ms", "ratio", "growth", ""].map(str::to_string),
