@@ -2,7 +2,7 @@
 // has, the board cursor, and the names found; then the refusals. (01: File; names; Eight refusals, 1 to 4)
 mod names;
 mod refusals;
-mod sections;
+mod stepped;
 mod texts;
 
 use crate::texts::Text;
@@ -40,7 +40,7 @@ fn scored(score: Score, file: &[u8], t: Text, entry: Entry) -> Score {
         Entry::Count => counted(score, count_is(count_boards(text), t.count)),
         Entry::Number(call) => boards(score, file, all.start, t.count, text, call),
         Entry::Missing => counted(score, missing(text, t.count)),
-        Entry::Cursor => counted(score, sections::agrees(file, t)),
+        Entry::Cursor => counted(score, stepped::agrees(file, t)),
         Entry::Finder => names::agree(score, file, t),
     }
 }

@@ -1,8 +1,8 @@
 -- `replay_files::sections::rows_moved` is safe and ends. The invariant says nothing, and the measure is the number of rows left.
 -- Assumes nothing.
 use borrow.Author.Needs.{needs}
-use Rattle.replay_files.proofs.sections.rows_moved.Statement.{statement}
-use Rattle.replay_files.proofs.sections.rows_moved.Tie as tie
+use Rattle.replay_files.proofs.stepped.rows_moved.Statement.{statement}
+use Rattle.replay_files.proofs.stepped.rows_moved.Tie as tie
 
 abbrev Inv-loop : tie.InvT-loop
 Inv-loop whole own calls start row₀ left₀ row left = Unit {0}

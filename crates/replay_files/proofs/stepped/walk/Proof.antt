@@ -1,8 +1,8 @@
 -- `replay_files::sections::walk` is safe and ends. The invariant says nothing, and the measure is the number of steps left.
 -- Assumes nothing.
 use borrow.Author.Needs.{needs}
-use Rattle.replay_files.proofs.sections.walk.Statement.{statement}
-use Rattle.replay_files.proofs.sections.walk.Tie as tie
+use Rattle.replay_files.proofs.stepped.walk.Statement.{statement}
+use Rattle.replay_files.proofs.stepped.walk.Tie as tie
 
 abbrev Inv-loop : tie.InvT-loop
 Inv-loop file f first text cursor₀ at₀ found₀ left₀ cursor at found left = Unit {0}
