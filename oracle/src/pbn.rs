@@ -88,7 +88,7 @@ pub const STRAINS: [Strain; 5] = [
 
 /// Upstream's form of the record. The entries of the play fill the tricks in
 /// order, and the last trick is filled up with gaps.
-fn board(record: &Record) -> Board {
+pub fn board(record: &Record) -> Board {
     let [south, west, north, east] = record.names.clone();
     let names = PlayerNames {
         north,

@@ -5,12 +5,17 @@ use crate::clock::milliseconds;
 use lin_host_rust::{
     boards::{self, ROW},
     files::{self, Boards},
+    pbn,
     tokens::{self, Cursor, Span, Token},
     upstream,
     writer::Gathered,
     LIMIT,
 };
-use oracle::lin::{parse_lin_file, write_lin, write_lin_file, LinData, LinDocument};
+use oracle::{
+    lin::{parse_lin_file, write_lin, write_lin_file, LinData, LinDocument},
+    pbn::{board as pbn_board, mixed::some_record, Record},
+    random::Rng,
+};
 use std::hint::black_box;
 
 /// The least times in milliseconds, of upstream and of the exports, over so
@@ -64,7 +69,10 @@ pub const ALL: &[Work] = &[
         name: "== | same_board",
         time: equality,
     },
-    // from_board joins here with its export.
+    Work {
+        name: "from_board | from_board",
+        time: converting,
+    },
 ];
 
 /// Both timed in turn, after their answers were held to be the same. What they
@@ -276,5 +284,51 @@ fn equality(text: &str, runs: usize) -> Times {
     };
     in_turn(write_lin_file(&boards).len(), runs, equal, same, |a, b| {
         a == b
+    })
+}
+
+/// How many bytes the texts of a board have.
+fn text_bytes(board: &LinData) -> usize {
+    let some = |text: &Option<String>| text.as_ref().map_or(0, String::len);
+    let names: usize = board.player_names.iter().map(String::len).sum();
+    let calls = board
+        .auction
+        .iter()
+        .map(|c| c.bid.len() + some(&c.annotation));
+    names
+        + some(&board.title)
+        + some(&board.room_board)
+        + some(&board.board_header)
+        + calls.sum::<usize>()
+}
+
+/// Boards made of PBN records, one for each 512 bytes of the file, whatever
+/// these are.
+fn converting(text: &str, runs: usize) -> Times {
+    let rng = &mut Rng::new(7);
+    let records: Vec<Record> = (0..text.len() / 512)
+        .map(|_| some_record(rng, 20, 52))
+        .collect();
+    let boards: Vec<_> = records.iter().map(pbn_board).collect();
+    let lent: Vec<pbn::Gathered> = records
+        .iter()
+        .map(|r| pbn::Gathered::from(&upstream::pbn_record(r)))
+        .collect();
+    let (mut out, mut rows, mut cards) = (vec![0; LIMIT], vec![0; ROW * 64], vec![0; 64]);
+    let convert = || {
+        black_box(&lent)
+            .iter()
+            .fold((0, 0), |(calls, bytes), record| {
+                let made = record
+                    .lent()
+                    .convert_numbers(&mut out, &mut rows, &mut cards);
+                (calls + made.heading.calls, bytes + made.len)
+            })
+    };
+    let make = || -> Vec<LinData> { black_box(&boards).iter().map(LinData::from_board).collect() };
+    let bytes = make().iter().map(text_bytes).sum();
+    in_turn(bytes, runs, make, convert, |made, answer| {
+        let calls: usize = made.iter().map(|b| b.auction.len()).sum();
+        *answer == (calls as u64, bytes as u64)
     })
 }
