@@ -37,12 +37,12 @@
 //! ```
 
 pub mod boards;
-pub mod book;
 pub mod compare;
 pub mod differential;
 mod ffi;
 pub mod files;
 mod gathered;
+pub mod log;
 pub mod model;
 pub mod pbn;
 pub mod samples;

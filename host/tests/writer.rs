@@ -3,7 +3,7 @@
 
 use lin_host_rust::{
     boards::{self, Board, Call, Card, Heading, LinText, Seat, Vulnerability, ROW},
-    book, compare, files, model,
+    compare, files, log, model,
     samples::{self, built, lent},
     upstream,
     writer::{self, Appender, Gathered, Lent},
@@ -600,19 +600,19 @@ fn a_long_list_of_appends() {
     let list: Vec<Gathered> = (1..=2_500)
         .map(|n| gathered(&records::board(rng, n)))
         .collect();
-    let mut book = book::Book::new(LIMIT + 1_000);
+    let mut log = log::Log::new(LIMIT + 1_000);
     let mut file = Appender::new(LIMIT + 1_000);
     for call in &list {
-        assert_eq!(file.append_lent(call.lent()), book.enter(call.lent()));
+        assert_eq!(file.append_lent(call.lent()), log.enter(call.lent()));
     }
-    assert_eq!(file.bytes(), book.bytes);
+    assert_eq!(file.bytes(), log.bytes);
     assert!(file.bytes().len() > LIMIT - 2_000);
-    let count = book.boards.len();
+    let count = log.boards.len();
     assert!(count < list.len());
     assert_eq!(files::count_boards(file.bytes()), Ok(count as u64));
     for number in [0, 1, count - 1] {
         let board = files::file_board(file.bytes(), number as u64).unwrap();
-        assert_eq!(board, upstream::board(&book.boards[number]));
+        assert_eq!(board, upstream::board(&log.boards[number]));
     }
 }
 
@@ -622,13 +622,13 @@ fn settled_boards() {
     let rng = &mut Rng::new(48);
     for _ in 0..5_000 {
         let board = built::board(rng, 4, 6);
-        let settled = book::settled(&board);
+        let settled = log::settled(&board);
         let want = upstream::board(&settled);
         for board in [&board, &settled] {
             let text = writer::write_lin(&upstream::board(board)).unwrap();
             assert_eq!(boards::board(&text), Ok(want.clone()));
         }
-        assert_eq!(upstream::board(&book::settled(&settled)), want);
+        assert_eq!(upstream::board(&log::settled(&settled)), want);
     }
 }
 

@@ -9,17 +9,17 @@
 //! - the number n of boards of L, and one field that holds n times the fields of
 //!   a board.
 //!
-//! The book is document 01's; `parse_lin_file` over T must give L.
+//! The log is document 01's plain book; `parse_lin_file` over T must give L.
 
-pub mod book;
 pub mod lists;
+pub mod log;
 
 use crate::{
     boards, built,
     lin::{parse_lin_file, LinData},
     vectors::Vectors,
 };
-use book::{Answer, Book};
+use log::{Answer, Log};
 use std::collections::HashSet;
 
 /// The room of an output, and the boards of the calls.
@@ -40,33 +40,33 @@ pub const GROUPS: &[Group] = &[
 ];
 
 fn put(out: &mut Vectors, (room, calls): &List) {
-    let mut book = Book::default();
+    let mut log = Log::default();
     out.number(*room);
     out.number(calls.len());
     for board in calls {
         boards::put(out, board);
-        let (accepted, n) = match book.append(*room, board) {
+        let (accepted, n) = match log.append(*room, board) {
             Answer::Used(n) => (1, n),
             Answer::TooSmall(n) => (0, n),
         };
         out.number(accepted);
         out.number(n);
     }
-    out.field(book.text.as_bytes());
-    out.number(book.boards.len());
+    out.field(log.text.as_bytes());
+    out.number(log.boards.len());
     let mut inner = Vectors::new();
-    book.boards.iter().for_each(|b| boards::put(&mut inner, b));
+    log.boards.iter().for_each(|b| boards::put(&mut inner, b));
     out.field(inner.bytes());
-    check(&book);
+    check(&log);
 }
 
-/// The upstream's reader finds the book's boards in its text: fields by bytes,
+/// The upstream's reader finds the log's boards in its text: fields by bytes,
 /// hands by counts.
-fn check(book: &Book) {
-    let Ok(read) = parse_lin_file(&book.text);
+fn check(log: &Log) {
+    let Ok(read) = parse_lin_file(&log.text);
     let read: Vec<_> = read.iter().map(built::bytes).collect();
-    let kept: Vec<_> = book.boards.iter().map(built::bytes).collect();
-    assert!(read == kept, "{}", book.text);
+    let kept: Vec<_> = log.boards.iter().map(built::bytes).collect();
+    assert!(read == kept, "{}", log.text);
 }
 
 fn alone(list: &List) -> Vec<u8> {
@@ -142,11 +142,11 @@ mod tests {
         let (mut filled, mut lacking, mut between) = (0, 0, 0);
         for (room, calls) in all() {
             lengths[calls.len()] += 1;
-            let mut book = Book::default();
+            let mut log = Log::default();
             let mut verdicts = String::new();
             for board in &calls {
-                let used = book.text.len();
-                match book.append(room, board) {
+                let used = log.text.len();
+                match log.append(room, board) {
                     Answer::Used(n) => {
                         verdicts.push('a');
                         filled += usize::from(n == room);

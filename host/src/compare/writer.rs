@@ -9,7 +9,7 @@ use super::{
 };
 use crate::{
     boards::Card,
-    book::{self, Book},
+    log::{self, Log},
     upstream,
     writer::{self, Appender, Gathered, Lent},
     LinAnswer, Refusal, LIMIT,
@@ -37,7 +37,7 @@ fn same_outputs(what: &str, got: &[u8], want: &[u8]) -> Same {
 /// output are the model's. Without used bytes it is `write_lin`.
 pub fn append(lent: Lent, len: usize, used: u64) -> Same {
     let (mut got, mut want) = (held(len), held(len));
-    let wanted = book::append(lent, &mut want, used);
+    let wanted = log::append(lent, &mut want, used);
     let what = format!("{used} used of {len}");
     let answer = guarded(&mut got, |out| lent.append_numbers(out, used))?;
     same(&what, answer.read(), wanted)?;
@@ -54,7 +54,7 @@ pub fn append(lent: Lent, len: usize, used: u64) -> Same {
 /// A board written in outputs that just fit, are longer and are a byte
 /// smaller, or refused in any; and as the safe wrapper writes it.
 pub fn written(lent: Lent) -> Same {
-    if book::refusal(&[lent], false).is_some() {
+    if log::refusal(&[lent], false).is_some() {
         append(lent, 0, 0)?;
         append(lent, 3, 4)?;
         return append(lent, 2_000, 5);
@@ -77,32 +77,32 @@ pub fn written(lent: Lent) -> Same {
 
 /// Appends one after another to an output that holds these bytes at first:
 /// each as the plain book answers it, which has all that the output then holds
-/// but its last bytes; and both readers find the book's boards in it.
+/// but its last bytes; and both readers find the log's boards in it.
 pub fn appends(first: Vec<u8>, calls: &[Gathered]) -> Same {
-    let mut book = Book::new(first.len());
+    let mut log = Log::new(first.len());
     let mut file = Appender::over(first.clone());
     let mut out = guards::bytes("output", &first);
     let mut used = 0;
     for (k, call) in calls.iter().enumerate() {
         let at = |d: String| format!("call {k}: {d}");
         let got = call.lent().append(out.lent(), used);
-        same("answer", got, book.enter(call.lent())).map_err(at)?;
+        same("answer", got, log.enter(call.lent())).map_err(at)?;
         used = got.unwrap_or(used);
-        let rest = &first[book.bytes.len()..];
-        out.holds(&[&book.bytes, rest].concat()).map_err(at)?;
+        let rest = &first[log.bytes.len()..];
+        out.holds(&[&log.bytes, rest].concat()).map_err(at)?;
         same("appender", file.append_lent(call.lent()), got).map_err(at)?;
-        same_outputs("appender", file.bytes(), &book.bytes).map_err(at)?;
+        same_outputs("appender", file.bytes(), &log.bytes).map_err(at)?;
         same_outputs("appender", file.output(), out.lent()).map_err(at)?;
     }
-    found(file.bytes(), &book)
+    found(file.bytes(), &log)
 }
 
-/// Both readers find the book's boards in the used bytes.
-fn found(bytes: &[u8], book: &Book) -> Same {
+/// Both readers find the log's boards in the used bytes.
+fn found(bytes: &[u8], log: &Log) -> Same {
     let text = std::str::from_utf8(bytes).map_err(|e| e.to_string())?;
     let Ok(read) = parse_lin_file(text);
-    same("boards", read.len(), book.boards.len())?;
-    for (k, (got, want)) in read.iter().zip(&book.boards).enumerate() {
+    same("boards", read.len(), log.boards.len())?;
+    for (k, (got, want)) in read.iter().zip(&log.boards).enumerate() {
         let (got, want) = (upstream::board(got), upstream::board(want));
         fields(&got, &want).map_err(|d| format!("board {k}: {d}"))?;
     }
@@ -161,7 +161,7 @@ pub fn equality(one: Lent, two: Lent) -> Same {
         ("first, first", one, one),
         ("second, second", two, two),
     ] {
-        let want = match book::refusal(&[a, b], false) {
+        let want = match log::refusal(&[a, b], false) {
             Some(refusal) => Err(refusal),
             None => Ok(upstream::data(a) == upstream::data(b)),
         };

@@ -127,16 +127,16 @@ fn implied_east(board: &LinData) -> Option<Hand> {
 
 /// The bytes and the boards of the accepted calls.
 #[derive(Debug, Clone)]
-pub struct Book {
+pub struct Log {
     room: usize,
     pub bytes: Vec<u8>,
     pub boards: Vec<LinData>,
 }
 
-impl Book {
+impl Log {
     /// For an output of so many bytes.
-    pub fn new(len: usize) -> Book {
-        Book {
+    pub fn new(len: usize) -> Log {
+        Log {
             room: len.min(LIMIT),
             bytes: Vec::new(),
             boards: Vec::new(),

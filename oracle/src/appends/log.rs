@@ -73,7 +73,7 @@ pub fn settled(board: &LinData) -> LinData {
 
 /// T and L.
 #[derive(Default)]
-pub struct Book {
+pub struct Log {
     pub text: String,
     pub boards: Vec<LinData>,
 }
@@ -84,7 +84,7 @@ pub enum Answer {
     TooSmall(usize),
 }
 
-impl Book {
+impl Log {
     /// "7 does .. exactly when T and the board's written form together pass the
     /// room. T and L then stay. Any other call is accepted: its written form goes
     /// to the end of T, its settled form to the end of L."
