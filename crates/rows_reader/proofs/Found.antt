@@ -31,7 +31,8 @@ use Rattle.lin_spec.proofs.ThirdDemand.{third-demand}
 use Rattle.board.specs.Calls.{rowOf}
 use Rattle.rows.specs.declared.CallRow.{CallRow}
 use Rattle.rows.specs.Rows.{called, rowIn, laid}
-use Rattle.rows_reader.specs.Reader.{fileAnswer, storedRows, fileRows}
+use Rattle.row_steps.specs.Steps.{fileAnswer}
+use Rattle.rows_reader.specs.Reader.{storedRows, fileRows}
 use Rattle.rows_reader.specs.Given.{lentRows, GivesRows}
 
 -- A call's row, as it is lent again

@@ -1,66 +1,17 @@
 // A board's calls read into rows: the entries of `parse_lin` and of a file's board by its number. (01: Board; File; Language form)
-use board::NextCall;
-use board::heading_at;
-use board::next_call;
-use board::put_cards;
-use document::Cursor;
-use document::Opened;
-use document::open;
-use file::Numbered;
-use file::find_board;
 use lin_spec::Heading;
-use lin_spec::MaybeSpan;
-use lin_spec::Refusal;
-use lin_spec::RowKind;
-use lin_spec::Span;
+use row_steps::file_headed;
+use row_steps::heading_of;
+use row_steps::next_row;
+use row_steps::text_headed;
 use rows::CallRow;
-use rows::row_of;
-use sections::OpenedBoards;
-use sections::open_boards;
 ghost use mathlib.Core.Path.{_≡_};
 ghost use mathlib.Core.List.{map};
 ghost use Prim.Native.Nat.{_<_, _≤_, _^_};
 ghost use lib.ListN.{length, take};
 ghost use Rattle.board.specs.Reader.{boardAt};
 ghost use Rattle.rows.specs.Rows.{rowIn, laid};
-ghost use Rattle.lin_spec.specs.Refusals.{unless};
-ghost use Rattle.rows_reader.specs.Reader.{fewStructs, RowReading, textAnswer, fileAnswer, readRows, fileRows, Steps, Heads, refusedHeaded};
-
-// A call as a row, and the place after it.
-struct RowStep {
-    row: CallRow,
-    at: usize,
-}
-
-// A board's heading, and where its calls stand: how many there are, and the places where its tokens begin and stop. A refusal has none.
-struct Headed {
-    calls: usize,
-    start: usize,
-    stop: usize,
-    heading: Heading,
-}
-
-// The next call of the text up to `stop`, from a place on. Where there is none, a row of no text, and the place stays.
-fn next_row(text: &[u8], stop: usize, at: usize) -> RowStep
-    requires { ⌜ (stop ≤ length (now text)) × (length (now text) < 2 ^ 32) ⌝ }
-    ensures { λ r. ⌜ Steps (take stop (now (text .entry))) at r ⌝ }
-{
-    match next_call(&text[..stop], Cursor { at }) {
-        NextCall::Found(c, next) => {
-            let row = row_of(c);
-            RowStep { row, at: next.at }
-        }
-        NextCall::Ended => {
-            let bid = Span { start: 0, len: 0 };
-            let row = CallRow {
-                bid,
-                alerted: false,
-                annotation: MaybeSpan::Absent,
-            };
-            RowStep { row, at }
-        }
-    }
-}
+ghost use Rattle.rows_reader.specs.Reader.{RowReading, readRows, fileRows};
 
 // Stores the first n calls of the text up to `stop`, from a place on.
 fn store_rows(rows: &mut [CallRow], text: &[u8], n: usize, start: usize, stop: usize)
@@ -75,74 +26,6 @@ fn store_rows(rows: &mut [CallRow], text: &[u8], n: usize, start: usize, stop: u
         at = step.at;
         i += 1;
     }
-}
-
-// What a refusal gives.
-fn headed_refused(r: Refusal) -> Headed
-    ensures { λ h. ⌜ h ≡ refusedHeaded r ⌝ }
-{
-    let heading = Heading::refused(r);
-    Headed {
-        calls: 0,
-        start: 0,
-        stop: 0,
-        heading,
-    }
-}
-
-// The heading that the tokens of the text up to `stop` from a place on give, its cards stored, where there are enough rows and places.
-fn headed_at(text: &[u8], start: usize, stop: usize, rows: usize, cards: &mut [u8]) -> Headed
-    requires { ⌜ (start ≤ stop) × (stop ≤ length (now text)) × (length (now text) < 2 ^ 32) ⌝ }
-    ensures { λ r. ⌜ Heads (now (text .entry)) (unless (fewStructs (boardAt (take stop (now (text .entry))) start) rows (now (cards .entry))) (boardAt (take stop (now (text .entry))) start)) rows (now (cards .entry)) r (now (cards .exit)) ⌝ }
-{
-    let heading = heading_at(&text[..stop], start);
-    if rows < heading.calls {
-        return headed_refused(Refusal::TooFewRows(RowKind::Calls, heading.calls as u64));
-    }
-    if cards.len() < heading.cards {
-        return headed_refused(Refusal::TooFewRows(RowKind::Cards, heading.cards as u64));
-    }
-    put_cards(cards, &text[..stop], start);
-    let calls = heading.calls;
-    Headed {
-        calls,
-        start,
-        stop,
-        heading,
-    }
-}
-
-// The heading of a text that is one board.
-fn text_headed(text: &[u8], rows: usize, cards: &mut [u8]) -> Headed
-    ensures { λ r. ⌜ Heads (now (text .entry)) (textAnswer (now (text .entry)) rows (now (cards .entry))) rows (now (cards .entry)) r (now (cards .exit)) ⌝ }
-{
-    match open(text) {
-        Opened::At(_) => headed_at(text, 0, text.len(), rows, cards),
-        Opened::Refused(r) => headed_refused(r),
-    }
-}
-
-// The heading of the board of a number.
-fn file_headed(text: &[u8], number: usize, rows: usize, cards: &mut [u8]) -> Headed
-    ensures { λ r. ⌜ Heads (now (text .entry)) (fileAnswer (now (text .entry)) number rows (now (cards .entry))) rows (now (cards .entry)) r (now (cards .exit)) ⌝ }
-{
-    let cursor = match open_boards(text) {
-        OpenedBoards::At(c) => c,
-        OpenedBoards::Refused(r) => {
-            return headed_refused(r);
-        }
-    };
-    match find_board(text, cursor, number) {
-        Numbered::At(p) => headed_at(text, p.start, p.stop, rows, cards),
-        Numbered::Missing(n) => headed_refused(Refusal::NoBoard(n as u64)),
-    }
-}
-
-// The heading alone.
-fn heading_of(h: Headed) -> Heading
-    ensures { λ r. ⌜ r ≡ h .heading ⌝ }
-{
-    h.heading
 }
 
 // The board that a text is: its calls go into the rows, and its play into the cards.

@@ -24,6 +24,21 @@ pub struct Times {
     pub bytes: usize,
     pub rust: f64,
     pub exports: f64,
+    /// Of the standard library's check of UTF-8, where upstream's call is given a
+    /// text that was checked before and the exports are given bytes.
+    pub check: Option<f64>,
+}
+
+impl Times {
+    /// How many times as fast the exports are.
+    pub fn ratio(&self) -> f64 {
+        self.rust / self.exports
+    }
+
+    /// The same where both begin with bytes.
+    pub fn from_bytes(&self) -> Option<f64> {
+        self.check.map(|check| (self.rust + check) / self.exports)
+    }
 }
 
 /// A name in the table, and what times it over a file so many times.
@@ -95,6 +110,27 @@ fn in_turn<A, B>(
         bytes,
         rust,
         exports,
+        check: None,
+    }
+}
+
+/// The same of a text that is read, with the time of its check.
+fn in_turn_reading<A, B>(
+    text: &str,
+    runs: usize,
+    rust: impl FnMut() -> A,
+    exports: impl FnMut() -> B,
+    same: impl Fn(&A, &B) -> bool,
+) -> Times {
+    let mut checks = Vec::new();
+    for _ in 0..runs {
+        timed(&mut checks, || {
+            black_box(str::from_utf8(black_box(text.as_bytes())).is_ok());
+        });
+    }
+    Times {
+        check: Some(least(checks)),
+        ..in_turn(text.len(), runs, rust, exports, same)
     }
 }
 
@@ -132,7 +168,7 @@ fn tokenizing(text: &str, runs: usize) -> Times {
         }
     };
     let parse = || LinDocument::parse(black_box(text));
-    in_turn(bytes.len(), runs, parse, steps, |doc, found| {
+    in_turn_reading(text, runs, parse, steps, |doc, found| {
         (doc.tokens.len(), doc.trailing.len()) == *found
     })
 }
@@ -176,7 +212,7 @@ fn reading(text: &str, runs: usize) -> Times {
         seen
     };
     let parse = || parse_lin_file(black_box(text)).expect("no error");
-    in_turn(bytes.len(), runs, parse, read, |all, seen| {
+    in_turn_reading(text, runs, parse, read, |all, seen| {
         (all.len(), rows_of(all)) == *seen
     })
 }
@@ -196,7 +232,7 @@ fn headings(text: &str, runs: usize) -> Times {
         seen
     };
     let parse = || parse_lin_file(black_box(text)).expect("no error");
-    in_turn(bytes.len(), runs, parse, read, |all, seen| {
+    in_turn_reading(text, runs, parse, read, |all, seen| {
         (all.len(), rows_of(all)) == *seen
     })
 }
@@ -207,7 +243,7 @@ fn last_heading(text: &str, runs: usize) -> Times {
     let last = files::count_boards(bytes).expect("a text within the limit") - 1;
     let read = || files::file_heading_numbers(black_box(bytes), last);
     let parse = || parse_lin_file(black_box(text)).expect("no error").pop();
-    in_turn(bytes.len(), runs, parse, read, |board, heading| {
+    in_turn_reading(text, runs, parse, read, |board, heading| {
         let calls = board.as_ref().map(|b| b.auction.len() as u64);
         calls == Some(heading.calls)
     })
@@ -223,7 +259,7 @@ fn finding(text: &str, runs: usize) -> Times {
         let has = |b: &&LinData| b.player_names.iter().any(|n| n == name);
         all.iter().filter(has).count() as u64
     };
-    in_turn(bytes.len(), runs, search, find, |found, answer| {
+    in_turn_reading(text, runs, search, find, |found, answer| {
         *answer == Ok(*found)
     })
 }

@@ -21,7 +21,16 @@ fn main() {
     );
     line(
         "",
-        ["bytes", "Rust ms", "exports ms", "ratio", "growth", ""].map(str::to_string),
+        [
+            "bytes",
+            "Rust ms",
+            "exports ms",
+            "ratio",
+            "from bytes",
+            "growth",
+            "",
+        ]
+        .map(str::to_string),
     );
     let word = env::args().nth(2).unwrap_or_default();
     for input in inputs::ALL.iter().filter(|i| i.name.contains(&word)) {
@@ -41,14 +50,19 @@ fn report(work: &Work, texts: &[String; 3], runs: usize) {
         format!("{}", whole.bytes),
         format!("{:.3}", whole.rust),
         format!("{:.3}", whole.exports),
-        format!("{:.1}", whole.rust / whole.exports),
+        format!("{:.1}", whole.ratio()),
+        whole
+            .from_bytes()
+            .map_or(String::new(), |r| format!("{r:.1}")),
         format!("{:.2}", half.exports / quarter.exports),
         format!("{:.2}", whole.exports / half.exports),
     ];
     line(work.name, cells);
 }
 
-fn line(what: &str, cells: [String; 6]) {
-    let [bytes, rust, exports, ratio, first, second] = cells;
-    println!("  {what:38}{bytes:>9}{rust:>9}{exports:>12}{ratio:>7}{first:>8}{second:>6}");
+fn line(what: &str, cells: [String; 7]) {
+    let [bytes, rust, exports, ratio, from_bytes, first, second] = cells;
+    println!(
+        "  {what:38}{bytes:>9}{rust:>9}{exports:>12}{ratio:>7}{from_bytes:>12}{first:>8}{second:>6}"
+    );
 }

@@ -1,4 +1,4 @@
--- `rows::file_board_rows` meets its contract: a walk of its MIR, by hand. The cards are lent again for the first call and the rows for the second, and both come back.
+-- `rows_reader::file_board_rows` meets its contract: a walk of its MIR, by hand. The cards are lent again for the first call and the rows for the second, and both come back.
 -- Assumes nothing.
 use mathlib.Core.Path.{_≡_, refl, subst}
 use Prim.Native.Nat.{ℕ, _<_, _≤_, _^_}
@@ -42,29 +42,30 @@ use denote.Exit.{yes}
 use Rattle.lin_spec.specs.declared.Heading.{Heading}
 use Rattle.board.specs.Reader.{boardAt}
 use Rattle.rows.specs.declared.CallRow.{CallRow}
-use Rattle.rows_reader.specs.declared.reader.Headed.{Headed}
+use Rattle.row_steps.specs.declared.steps.Headed.{Headed}
 use Rattle.rows.specs.Rows.{rowIn, laid}
-use Rattle.rows_reader.specs.Reader.{RowReading, fileAnswer, fileRows, Heads}
+use Rattle.row_steps.specs.Steps.{fileAnswer, Heads}
+use Rattle.rows_reader.specs.Reader.{RowReading, fileRows}
 use Rattle.rows.proofs.Again.{LentAgain, lends-again, comes-back}
 use Rattle.rows_reader.proofs.ReaderLaws.{rows-read}
 use Rattle.rows.proofs.Walking.{sole}
 use Rattle.rows.proofs.CallRow as T
-use Rattle.rows_reader.proofs.reader.Headed as G
-use Rattle.rows_reader.proofs.reader.Headed.Laws as G′
+use Rattle.row_steps.proofs.steps.Headed as G
+use Rattle.row_steps.proofs.steps.Headed.Laws as G′
 use Rattle.lin_spec.proofs.Heading as B
 use Rattle.lin_spec.proofs.Heading.Laws as B′
-use Rattle.rows_reader.proofs.reader.file_headed as headed
-use Rattle.rows_reader.proofs.reader.file_headed.Symbol as headed-def
-use Rattle.rows_reader.proofs.reader.file_headed.Symbol.{name as #rows·file-headed}
-use Rattle.rows_reader.proofs.reader.file_headed.Met as headed-thm
+use Rattle.row_steps.proofs.file_headed as headed
+use Rattle.row_steps.proofs.file_headed.Symbol as headed-def
+use Rattle.row_steps.proofs.file_headed.Symbol.{name as #rows·file-headed}
+use Rattle.row_steps.proofs.file_headed.Met as headed-thm
 use Rattle.rows_reader.proofs.reader.store_rows as store-rows
 use Rattle.rows_reader.proofs.reader.store_rows.Symbol as store-rows-def
 use Rattle.rows_reader.proofs.reader.store_rows.Symbol.{name as #rows·store-rows}
 use Rattle.rows_reader.proofs.reader.store_rows.Met as store-rows-thm
-use Rattle.rows_reader.proofs.reader.heading_of as heading-of
-use Rattle.rows_reader.proofs.reader.heading_of.Symbol as heading-of-def
-use Rattle.rows_reader.proofs.reader.heading_of.Symbol.{name as #rows·heading-of}
-use Rattle.rows_reader.proofs.reader.heading_of.Met as heading-of-thm
+use Rattle.row_steps.proofs.heading_of as heading-of
+use Rattle.row_steps.proofs.heading_of.Symbol as heading-of-def
+use Rattle.row_steps.proofs.heading_of.Symbol.{name as #rows·heading-of}
+use Rattle.row_steps.proofs.heading_of.Met as heading-of-thm
 use Rattle.rows_reader.proofs.reader.file_board_rows.Key.{name as #rows·file-board-rows}
 use Rattle.rows_reader.proofs.reader.file_board_rows as f
 use Rattle.rows_reader.proofs.reader.file_board_rows.Statement as stated
@@ -272,6 +273,6 @@ file-board-rows-spec 𝓤 H 𝓜 𝓖 𝓡 =
     entered 𝓤 H (tripleOf 𝓤 H (𝓖 .A) f.signature (f.spec 𝓤 H (𝓖 .A) (𝓜 .mem) (𝓡 .run)))
     (tables 𝓤 H 𝓜 𝓡 code.env .C) (tables 𝓤 H 𝓜 𝓡 code.env .Λ) #rows·file-board-rows code.function (code.unfolded 𝓤 H 𝓜 𝓡)
     (file-board-rows-meets 𝓤 H (𝓖 .A) (givenOf 𝓤 H 𝓜 𝓖) (𝓜 .mem) (𝓡 .run) (tablesOf 𝓤 H 𝓜 (tables 𝓤 H 𝓜 𝓡 code.env))
-    (cited 𝓤 H (Headings 𝓤 H (𝓖 .A) (𝓜 .mem) (𝓡 .run)) 𝓜 𝓡 code.env #rows·file-headed headed-def.routine code.calls-rows-reader·reader·file-headed (headed-thm.met 𝓤 H 𝓜 𝓖 𝓡))
+    (cited 𝓤 H (Headings 𝓤 H (𝓖 .A) (𝓜 .mem) (𝓡 .run)) 𝓜 𝓡 code.env #rows·file-headed headed-def.routine code.calls-row-steps·file-headed (headed-thm.met 𝓤 H 𝓜 𝓖 𝓡))
     (cited 𝓤 H (StoreRows 𝓤 H (𝓖 .A) (𝓜 .mem) (𝓡 .run)) 𝓜 𝓡 code.env #rows·store-rows store-rows-def.routine code.calls-rows-reader·reader·store-rows (store-rows-thm.met 𝓤 H 𝓜 𝓖 𝓡))
-    (cited 𝓤 H (HeadingOf 𝓤 H (𝓖 .A) (𝓜 .mem) (𝓡 .run)) 𝓜 𝓡 code.env #rows·heading-of heading-of-def.routine code.calls-rows-reader·reader·heading-of (heading-of-thm.met 𝓤 H 𝓜 𝓖 𝓡)))
+    (cited 𝓤 H (HeadingOf 𝓤 H (𝓖 .A) (𝓜 .mem) (𝓡 .run)) 𝓜 𝓡 code.env #rows·heading-of heading-of-def.routine code.calls-row-steps·heading-of (heading-of-thm.met 𝓤 H 𝓜 𝓖 𝓡)))

@@ -1,4 +1,4 @@
--- `rows::store_rows` meets its contract: a walk of its MIR, by hand, with a loop and a call in its turn. The borrow is opened once, before the loop, and closed once, after it.
+-- `rows_reader::store_rows` meets its contract: a walk of its MIR, by hand, with a loop and a call in its turn. The borrow is opened once, before the loop, and closed once, after it.
 -- Assumes nothing.
 use mathlib.Core.Path.{_≡_, refl, sym, _∙_, ap, subst}
 use mathlib.Core.Bool.{Bool}
@@ -53,19 +53,19 @@ use Rattle.lin_spec.specs.declared.Span.{Span}
 use Rattle.lin_spec.specs.Board.{CallOf}
 use Rattle.board.specs.Reader.{boardAt}
 use Rattle.rows.specs.declared.CallRow.{CallRow}
-use Rattle.rows_reader.specs.declared.reader.RowStep.{RowStep}
+use Rattle.row_steps.specs.declared.steps.RowStep.{RowStep}
 use Rattle.rows.specs.Rows.{emptyRow, rowIn, laid}
-use Rattle.rows_reader.specs.Reader.{Steps}
+use Rattle.row_steps.specs.Steps.{Steps}
 use Rattle.rows_reader.proofs.ReaderLaws.{Storing, store-start, store-more, store-end}
 use Rattle.rows.proofs.Walking.{vals, mach, sole, fits-place, fits-next, before, step-on}
 use Rattle.rows.proofs.CallRow as T
 use Rattle.rows.proofs.CallRow.Laws as T′
-use Rattle.rows_reader.proofs.reader.RowStep as S
-use Rattle.rows_reader.proofs.reader.RowStep.Laws as S′
-use Rattle.rows_reader.proofs.reader.next_row as next-row
-use Rattle.rows_reader.proofs.reader.next_row.Symbol as next-row-def
-use Rattle.rows_reader.proofs.reader.next_row.Symbol.{name as #rows·next-row}
-use Rattle.rows_reader.proofs.reader.next_row.Met as next-row-thm
+use Rattle.row_steps.proofs.steps.RowStep as S
+use Rattle.row_steps.proofs.steps.RowStep.Laws as S′
+use Rattle.row_steps.proofs.next_row as next-row
+use Rattle.row_steps.proofs.next_row.Symbol as next-row-def
+use Rattle.row_steps.proofs.next_row.Symbol.{name as #rows·next-row}
+use Rattle.row_steps.proofs.next_row.Met as next-row-thm
 use Rattle.rows_reader.proofs.reader.store_rows.Key.{name as #rows·store-rows}
 use Rattle.rows_reader.proofs.reader.store_rows as f
 use Rattle.rows_reader.proofs.reader.store_rows.Statement as stated
@@ -306,4 +306,4 @@ store-rows-spec 𝓤 H 𝓜 𝓖 𝓡 =
     entered 𝓤 H (tripleOf 𝓤 H (𝓖 .A) f.signature (f.spec 𝓤 H (𝓖 .A) (𝓜 .mem) (𝓡 .run)))
     (tables 𝓤 H 𝓜 𝓡 code.env .C) (tables 𝓤 H 𝓜 𝓡 code.env .Λ) #rows·store-rows code.function (code.unfolded 𝓤 H 𝓜 𝓡)
     (store-rows-meets 𝓤 H (𝓖 .A) (givenOf 𝓤 H 𝓜 𝓖) (𝓜 .mem) (𝓡 .run) (tablesOf 𝓤 H 𝓜 (tables 𝓤 H 𝓜 𝓡 code.env))
-    (cited 𝓤 H (NextRow 𝓤 H (𝓖 .A) (𝓜 .mem) (𝓡 .run)) 𝓜 𝓡 code.env #rows·next-row next-row-def.routine code.calls-rows-reader·reader·next-row (next-row-thm.met 𝓤 H 𝓜 𝓖 𝓡)))
+    (cited 𝓤 H (NextRow 𝓤 H (𝓖 .A) (𝓜 .mem) (𝓡 .run)) 𝓜 𝓡 code.env #rows·next-row next-row-def.routine code.calls-row-steps·next-row (next-row-thm.met 𝓤 H 𝓜 𝓖 𝓡)))

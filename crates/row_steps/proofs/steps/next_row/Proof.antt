@@ -1,34 +1,34 @@
--- `rows::next_row` meets its contract. Assumes nothing.
+-- `row_steps::next_row` meets its contract. Assumes nothing.
 use borrow.Author.Needs.{needs}
-use Rattle.rows_reader.proofs.ReaderLaws.{cut-is, cut-short, step-found, step-none}
-use Rattle.rows_reader.proofs.reader.next_row.Statement.{statement}
-use Rattle.rows_reader.proofs.reader.next_row.Tie as tie
+use Rattle.row_steps.proofs.StepLaws.{cut-is, cut-short, step-found, step-none}
+use Rattle.row_steps.proofs.steps.next_row.Statement.{statement}
+use Rattle.row_steps.proofs.steps.next_row.Tie as tie
 
--- src/reader.rt:37:21
+-- src/steps.rt:37:21
 slice-aggregate-next-call : tie.Need-slice-aggregate-next-call
 slice-aggregate-next-call c = cut-is _ _ (c .before .before .pre .0)
 
--- src/reader.rt:37:11
+-- src/steps.rt:37:11
 next-call-requires : tie.Need-next-call-requires
 next-call-requires c κs = cut-short (c .before .before .args .text .now) (c .before .before .args .stop) (c .before .before .pre .1)
 
--- src/reader.rt:38:25
+-- src/steps.rt:38:25
 enum-known-c : tie.Need-enum-known-c
 enum-known-c c = search needs
 
--- src/reader.rt:39:17
+-- src/steps.rt:39:17
 row-of-requires : tie.Need-row-of-requires
 row-of-requires c κs = search needs
 
--- src/reader.rt:43:17
+-- src/steps.rt:43:17
 enum-told : tie.Need-enum-told
 enum-told c = search needs
 
--- src/reader.rt:33:1
+-- src/steps.rt:33:1
 returns : tie.Need-returns
 returns c = step-found _ _ _ (c .before .before .before .before .next-call .ensures) _ _ (c .before .before .c .given .1) _ (c .row-of .ensures)
 
--- src/reader.rt:33:1
+-- src/steps.rt:33:1
 returns-2 : tie.Need-returns-2
 returns-2 c = step-none _ _ _ (c .before .before .next-call .ensures) (c .enum-told .given .1) _
 

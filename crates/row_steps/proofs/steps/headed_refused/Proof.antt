@@ -1,15 +1,15 @@
--- `rows::headed_refused` meets its contract. Assumes nothing.
+-- `row_steps::headed_refused` meets its contract. Assumes nothing.
 use mathlib.Core.Path.{ap}
 use Rattle.lin_spec.specs.declared.Heading.{Heading}
 use borrow.Author.Needs.{needs}
-use Rattle.rows_reader.proofs.reader.headed_refused.Statement.{statement}
-use Rattle.rows_reader.proofs.reader.headed_refused.Tie as tie
+use Rattle.row_steps.proofs.steps.headed_refused.Statement.{statement}
+use Rattle.row_steps.proofs.steps.headed_refused.Tie as tie
 
--- src/reader.rt:80:9
+-- src/steps.rt:80:9
 refused-requires : tie.Need-refused-requires
 refused-requires c κs = search needs
 
--- src/reader.rt:77:1
+-- src/steps.rt:77:1
 returns : tie.Need-returns
 returns c = ap (λ (x : Heading). record { calls = 0; start = 0; stop = 0; heading = x }) (c .refused .ensures)
 

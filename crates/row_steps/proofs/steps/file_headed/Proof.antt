@@ -1,59 +1,59 @@
--- `rows::file_headed` meets its contract. Assumes nothing.
+-- `row_steps::file_headed` meets its contract. Assumes nothing.
 use borrow.Author.Needs.{needs}
 use Rattle.file.proofs.NumberLaws.{ready, given}
-use Rattle.rows_reader.proofs.FileLaws.{section-within, file-refused, file-missing, file-read}
-use Rattle.rows_reader.proofs.reader.file_headed.Statement.{statement}
-use Rattle.rows_reader.proofs.reader.file_headed.Tie as tie
+use Rattle.row_steps.proofs.FileLaws.{section-within, file-refused, file-missing, file-read}
+use Rattle.row_steps.proofs.steps.file_headed.Statement.{statement}
+use Rattle.row_steps.proofs.steps.file_headed.Tie as tie
 
--- src/reader.rt:129:24
+-- src/steps.rt:129:24
 open-boards-requires : tie.Need-open-boards-requires
 open-boards-requires c κs = search needs
 
--- src/reader.rt:130:26
+-- src/steps.rt:130:26
 enum-known-c : tie.Need-enum-known-c
 enum-known-c c = search needs
 
--- src/reader.rt:131:31
+-- src/steps.rt:131:31
 enum-known-r : tie.Need-enum-known-r
 enum-known-r c = search needs
 
--- src/reader.rt:132:13
+-- src/steps.rt:132:13
 headed-refused-requires : tie.Need-headed-refused-requires
 headed-refused-requires c κs = search needs
 
--- src/reader.rt:132:13
+-- src/steps.rt:132:13
 returns : tie.Need-returns
 returns c = file-refused _ _ (c .before .before .before .before .open-boards .ensures) _ _ _ _ _ (c .before .before .r .given .1) (c .headed-refused .ensures)
 
--- src/reader.rt:135:11
+-- src/steps.rt:135:11
 find-board-requires : tie.Need-find-board-requires
 find-board-requires c κs = ready _ _ (c .before .before .before .open-boards .ensures) _ (c .before .c .given .1)
 
--- src/reader.rt:136:22
+-- src/steps.rt:136:22
 enum-known-p : tie.Need-enum-known-p
 enum-known-p c = search needs
 
--- src/reader.rt:136:28
+-- src/steps.rt:136:28
 headed-at-requires : tie.Need-headed-at-requires
 headed-at-requires c κs = section-within _ _ ((given _ _ _ _ (c .before .before .before .before .find-board .ensures) (c .before .before .p .given .1)) .holds)
 
--- src/reader.rt:137:27
+-- src/steps.rt:137:27
 enum-known-n : tie.Need-enum-known-n
 enum-known-n c = search needs
 
--- src/reader.rt:137:33
+-- src/steps.rt:137:33
 headed-refused-requires-2 : tie.Need-headed-refused-requires-2
 headed-refused-requires-2 c κs = search needs
 
--- src/reader.rt:126:1
+-- src/steps.rt:126:1
 same-length : tie.Need-same-length
 same-length c = search needs
 
--- src/reader.rt:126:1
+-- src/steps.rt:126:1
 returns-2 : tie.Need-returns-2
 returns-2 c = file-read _ _ (c .before .before .before .before .before .before .before .before .before .before .before .open-boards .ensures) _ _ _ _ _ (c .before .before .before .before .before .before .before .before .before .c .given .1) _ (given _ _ _ _ (c .before .before .before .before .before .before .before .find-board .ensures) (c .before .before .before .before .before .p .given .1)) _ (c .before .before .headed-at .ensures)
 
--- src/reader.rt:126:1
+-- src/steps.rt:126:1
 returns-3 : tie.Need-returns-3
 returns-3 c = let m = given _ _ _ _ (c .before .before .before .before .find-board .ensures) (c .before .before .n .given .1) in file-missing _ _ (c .before .before .before .before .before .before .before .before .open-boards .ensures) _ _ _ _ _ (c .before .before .before .before .before .before .c .given .1) _ (m .0) (m .1) (c .headed-refused2 .ensures)
 

@@ -1,40 +1,40 @@
--- `rows::text_headed` meets its contract. Assumes nothing.
+-- `row_steps::text_headed` meets its contract. Assumes nothing.
 use Rattle.lin_spec.specs.declared.Refusal.the-variants.{TextTooLong}
-use Rattle.rows_reader.specs.Reader.{refusedHeaded}
-use Rattle.rows_reader.proofs.ReaderLaws.{text-short, text-read, text-refused}
+use Rattle.row_steps.specs.Steps.{refusedHeaded}
+use Rattle.row_steps.proofs.StepLaws.{text-short, text-read, text-refused}
 use borrow.Author.Needs.{needs}
-use Rattle.rows_reader.proofs.reader.text_headed.Statement.{statement}
-use Rattle.rows_reader.proofs.reader.text_headed.Tie as tie
+use Rattle.row_steps.proofs.steps.text_headed.Statement.{statement}
+use Rattle.row_steps.proofs.steps.text_headed.Tie as tie
 
--- src/reader.rt:115:11
+-- src/steps.rt:115:11
 open-requires : tie.Need-open-requires
 open-requires c κs = search needs
 
--- src/reader.rt:116:45
+-- src/steps.rt:116:45
 enum-told : tie.Need-enum-told
 enum-told c = search needs
 
--- src/reader.rt:116:26
+-- src/steps.rt:116:26
 headed-at-requires : tie.Need-headed-at-requires
 headed-at-requires c κs = text-short _ _ (c .before .before .before .«open» .ensures) (c .before .before .before .before .before .before .args .rows) (c .before .before .before .before .before .before .args .cards .now) (refusedHeaded TextTooLong) _ (c .before .enum-told .given .1)
 
--- src/reader.rt:117:25
+-- src/steps.rt:117:25
 enum-known-r : tie.Need-enum-known-r
 enum-known-r c = search needs
 
--- src/reader.rt:117:31
+-- src/steps.rt:117:31
 headed-refused-requires : tie.Need-headed-refused-requires
 headed-refused-requires c κs = search needs
 
--- src/reader.rt:112:1
+-- src/steps.rt:112:1
 same-length : tie.Need-same-length
 same-length c = search needs
 
--- src/reader.rt:112:1
+-- src/steps.rt:112:1
 returns : tie.Need-returns
 returns c = text-read _ _ (c .before .before .before .before .before .before .«open» .ensures) _ _ _ _ (c .before .before .before .before .enum-told .given .1) _ (c .before .before .headed-at .ensures)
 
--- src/reader.rt:112:1
+-- src/steps.rt:112:1
 returns-2 : tie.Need-returns-2
 returns-2 c = text-refused _ _ (c .before .before .before .before .«open» .ensures) _ _ _ _ (c .before .before .r .given .1) (c .headed-refused .ensures)
 

@@ -18,9 +18,9 @@ use Rattle.sections.specs.declared.sections.Section.{Section}
 use Rattle.sections.specs.declared.sections.OpenedBoards.{OpenedBoards}
 use Rattle.sections.specs.declared.sections.OpenedBoards.the-variants.{At, Refused}
 use Rattle.file.proofs.NumberLaws.{passed, missing, there, stopped, numbered-is}
-use Rattle.rows_reader.specs.declared.reader.Headed.{Headed}
-use Rattle.rows_reader.specs.Reader.{fewStructs, fileAnswer, refusedHeaded, Heads}
-use Rattle.rows_reader.proofs.ReaderLaws.{heads-refused}
+use Rattle.row_steps.specs.declared.steps.Headed.{Headed}
+use Rattle.row_steps.specs.Steps.{fewStructs, fileAnswer, refusedHeaded, Heads}
+use Rattle.row_steps.proofs.StepLaws.{heads-refused}
 
 -- a board's section within the text
 pub section-within : (s : List ℕ) (p : Section) → Holds s p → (p .start ≤ p .stop) × (p .stop ≤ length s) × (length s < 2 ^ 32)
