@@ -4,18 +4,18 @@
 use Prim.Native.Nat.{ℕ, zero, suc, _+_, _-_, _^_, _≤_, _<_, min}
 use native.Mathlib.Omega.{arith}
 use mathlib.Core.Path.{_≡_, refl, ap, sym, _∙_, subst}
-use mathlib.Core.Bool.{Bool, true, false, _||_, not, or-false}
-use mathlib.Core.List.{List, [], _∷_, _++_, append-nil}
+use mathlib.Core.Bool.{Bool, true, false, _||_, not, or-false, false≢true}
+use mathlib.Core.List.{List, [], _∷_, _++_, map, append-nil}
 use mathlib.Core.Option.{Option, none, some}
 use lib.ListN.{length, take, drop, length-append, length-take, length-drop, drop-of-length-le}
 use lib.Seq.{drop-drop, take-all}
 use lib.Dec.{ltb}
 use borrow.Author.Tests.{lt-ltb, le-ltb}
-use Rattle.lin_spec.specs.Base.{pick, All, null, joinBy, ascii}
+use Rattle.lin_spec.specs.Base.{pick, All, keep, null, joinBy, ascii}
 use Rattle.lin_spec.specs.Refusals.{sat}
 use Rattle.lin_spec.specs.Writer.{orEmpty}
 use Rattle.lin_spec.specs.Annotation.{partLength, partsUpTo, annotationParts, partWord, wordsOf, joinedWords, annotationText}
-use Rattle.lin_spec.proofs.Base.{split}
+use Rattle.lin_spec.proofs.Base.{split, all-kept}
 use Rattle.lin_spec.proofs.Annotation.{part-some}
 use Rattle.output.specs.Put.{Room, Put}
 use Rattle.output.proofs.Laws.{Left, start, step}
@@ -67,21 +67,21 @@ join-spaces w (x ∷ ws) = ap (λ (r : List ℕ). w ++ (0x20 ∷ r)) (join-space
 
 module _ (s ws : List ℕ) where
   text-later : (ps : List (List ℕ)) → textFrom s ws true ps ≡ spaces (wordsOf s ws ps)
-  unfolding textFrom wordsOf spaces
+  unfolding textFrom keep spaces
   text-later [] = refl
   text-later (p ∷ ps) = go (partWord s ws p) (text-later ps)
     where
-      go : (w : List ℕ) → textFrom s ws true ps ≡ spaces (wordsOf s ws ps) → spacedWord true w ++ textFrom s ws true ps ≡ spaces (pick (null w) (wordsOf s ws ps) (w ∷ wordsOf s ws ps))
+      go : (w : List ℕ) → textFrom s ws true ps ≡ spaces (wordsOf s ws ps) → spacedWord true w ++ textFrom s ws true ps ≡ spaces (pick (not (null w)) (w ∷ wordsOf s ws ps) (wordsOf s ws ps))
       go [] ih = ih
       go (b ∷ w) ih = ap (λ (r : List ℕ). 0x20 ∷ ((b ∷ w) ++ r)) ih
 
   text-first : (ps : List (List ℕ)) → textFrom s ws false ps ≡ orEmpty (joinedWords (wordsOf s ws ps))
-  unfolding textFrom wordsOf
+  unfolding textFrom keep
   text-first [] = refl
   text-first (p ∷ ps) = go (partWord s ws p) (text-first ps)
     where
       go : (w : List ℕ) → textFrom s ws false ps ≡ orEmpty (joinedWords (wordsOf s ws ps))
-          → spacedWord false w ++ textFrom s ws (not (null w)) ps ≡ orEmpty (joinedWords (pick (null w) (wordsOf s ws ps) (w ∷ wordsOf s ws ps)))
+          → spacedWord false w ++ textFrom s ws (not (null w)) ps ≡ orEmpty (joinedWords (pick (not (null w)) (w ∷ wordsOf s ws ps) (wordsOf s ws ps)))
       go [] ih = ih
       go (b ∷ w) ih = ap (λ (r : List ℕ). (b ∷ w) ++ r) (text-later ps) ∙ sym (join-spaces (b ∷ w) (wordsOf s ws ps))
 
@@ -92,13 +92,11 @@ module _ (s ws : List ℕ) where
 
   -- no word is empty
   words-filled : (ps : List (List ℕ)) → All (λ (w : List ℕ). 0 < length w) (wordsOf s ws ps)
-  unfolding wordsOf
-  words-filled [] = tt
-  words-filled (p ∷ ps) = go (partWord s ws p) (words-filled ps)
+  words-filled ps = all-kept (λ (w : List ℕ). 0 < length w) (λ (w : List ℕ). not (null w)) filled (map (partWord s ws) ps)
     where
-      go : (w : List ℕ) → All (λ (x : List ℕ). 0 < length x) (wordsOf s ws ps) → All (λ (x : List ℕ). 0 < length x) (pick (null w) (wordsOf s ws ps) (w ∷ wordsOf s ws ps))
-      go [] ih = ih
-      go (b ∷ w) ih = (omega arith, ih)
+      filled : (w : List ℕ) → not (null w) ≡ true → 0 < length w
+      filled [] e = absurd (false≢true e)
+      filled (b ∷ w) e = omega arith
 
   -- so that a text of no byte is absent
   pub absent-is : (raw : List ℕ) → length (orEmpty (annotationText s ws raw)) ≡ 0 → annotationText s ws raw ≡ none

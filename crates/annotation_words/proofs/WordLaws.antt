@@ -10,7 +10,7 @@ use mathlib.Core.Option.{Option, none, some}
 use lib.ListN.{length, getD, take, drop}
 use lib.Dec.{eqb, ltb}
 use borrow.Author.Tests.{eq-eqb, ne-eqb, eqb-true, lt-ltb, le-ltb}
-use Rattle.lin_spec.specs.Base.{pick, eqList, starts}
+use Rattle.lin_spec.specs.Base.{pick, starts, eqAll}
 use Rattle.lin_spec.specs.Records.{span}
 use Rattle.lin_spec.specs.Refusals.{sat}
 use Rattle.lin_spec.specs.Board.{isDigit, endsIn, numberIn}
@@ -137,7 +137,7 @@ module _ (s ws : List ℕ) where
   number-same p (some n) = note-same p (noteOf ws n)
 
   word-equals : (q : List ℕ) → wordText s (0x3D ∷ q) (equalsWord ws (0x3D ∷ q)) ≡ partWord s ws (0x3D ∷ q)
-  unfolding equalsWord partWord starts run nagWord eqList
+  unfolding equalsWord partWord starts run nagWord eqAll
   word-equals q = go (endsIn 0x3D q) ∙ simp (zero-suc (length q))
     where
       p : List ℕ
@@ -148,7 +148,7 @@ module _ (s ws : List ℕ) where
       go false = refl
 
   word-dollar : (q : List ℕ) → wordText s (0x24 ∷ q) (nagOf (0x24 ∷ q)) ≡ partWord s ws (0x24 ∷ q)
-  unfolding nagOf partWord starts run nagWord eqList
+  unfolding nagOf partWord starts run nagWord eqAll
   word-dollar [] = refl
   word-dollar (d ∷ []) = refl
   word-dollar (d ∷ e ∷ q) = simp (zero-suc (suc (suc (length q))), and-false)
@@ -159,7 +159,7 @@ module _ (s ws : List ℕ) where
     word-mark h k = simp (x, h, k, eq-eqb (suc (length q)) (suc (length q)) refl)
 
     word-other : eqb b 0x24 ≡ false → isMark b ≡ false → [] ≡ partWord s ws (b ∷ q)
-    unfolding partWord starts run nagWord eqList
+    unfolding partWord starts run nagWord eqAll
     word-other y h = simp (x, y, h, zero-suc (length q))
 
   abbrev Same : List ℕ → Type 0
@@ -206,12 +206,12 @@ abbrev longBy : ℕ → ℕ
 longBy d = pick (ltb d 0x31) 0 (pick (ltb d 0x33) 1 (pick (ltb d 0x37) 2 0))
 
 pub mark-long : (d n : ℕ) → d < 256 → longBy d ≡ n → n ≡ length (nagText d)
-unfolding nagWord eqList allBelow
+unfolding nagWord eqAll allBelow
 mark-long d n h e = sym (same-below (λ (b : ℕ). length (nagText b)) longBy 256 refl d h ∙ e)
 
 -- a byte that is none of the six digits
 pub mark-none : (d : ℕ) → (d ≡ 0x31 → ⊥) → (d ≡ 0x32 → ⊥) → (d ≡ 0x33 → ⊥) → (d ≡ 0x34 → ⊥) → (d ≡ 0x35 → ⊥) → (d ≡ 0x36 → ⊥) → nagText d ≡ []
-unfolding nagWord eqList
+unfolding nagWord eqAll
 mark-none d h i j k l m = simp (ne-eqb _ _ h, ne-eqb _ _ i, ne-eqb _ _ j, ne-eqb _ _ k, ne-eqb _ _ l, ne-eqb _ _ m)
 
 -- A word with the space before it

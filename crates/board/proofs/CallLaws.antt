@@ -11,7 +11,7 @@ use lib.ListN.{length, getD, take, length-take}
 use lib.Seq.{take-all, take-suc}
 use lib.Dec.{eqb, ltb, leb·zero, leb·suc-suc}
 use borrow.Author.Tests.{eq-eqb, ne-eqb}
-use Rattle.lin_spec.specs.Base.{pick, ascii}
+use Rattle.lin_spec.specs.Base.{pick, ascii, all}
 use Rattle.lin_spec.specs.White.{isCommand}
 use Rattle.lin_spec.specs.Tokens.{TokenOf}
 use Rattle.lin_spec.specs.Tokens.TokenOf.{token}
@@ -71,12 +71,12 @@ module _ (s : List ℕ) (at k : ℕ) (v : Span) (n : ℕ) (t : TokenAt s at k v 
 -- A bid without the exclamation marks at its end
 
 only-snoc : (c : ℕ) (x : List ℕ) (b : ℕ) → only c (x ++ (b ∷ [])) ≡ (only c x && eqb b c)
-unfolding only
+unfolding all
 only-snoc c [] b = and-true (eqb b c)
 only-snoc c (a ∷ x) b = ap (λ (t : Bool). eqb a c && t) (only-snoc c x b) ∙ sym (and-assoc (eqb a c) (only c x) (eqb b c))
 
 without-snoc : (c : ℕ) (x : List ℕ) (b : ℕ) → withoutEnd c (x ++ (b ∷ [])) ≡ pick (eqb b c) (withoutEnd c x) (x ++ (b ∷ []))
-unfolding withoutEnd only
+unfolding withoutEnd all
 without-snoc c [] b = go (eqb b c)
   where
     go : (t : Bool) → pick (t && true) [] (b ∷ []) ≡ pick t [] (b ∷ [])
@@ -112,7 +112,7 @@ marks-only s n h e = let z : n ≡ 0 = omega arith in z ∙ ap length (sym (ap (
 
 -- what is left is shorter exactly where the value ends in the mark
 pub ends-shorter : (c : ℕ) (s : List ℕ) → endsIn c s ≡ ltb (length (withoutEnd c s)) (length s)
-unfolding endsIn withoutEnd only
+unfolding endsIn withoutEnd all
 ends-shorter c [] = refl
 ends-shorter c (b ∷ []) = go (eqb b c)
   where

@@ -42,7 +42,8 @@ use Rattle.document.specs.Steps.{openedOf}
 use Rattle.document.specs.declared.tokens.Cursor.{Cursor}
 use Rattle.document.specs.declared.tokens.Opened.{Opened}
 use Rattle.document.specs.declared.tokens.Opened.the-variants.{At, Refused}
-use Rattle.commands.specs.Fields.{claimOf, more}
+use Rattle.lin_spec.specs.Lent.{claimOf}
+use Rattle.commands.specs.Fields.{more}
 use Rattle.board.specs.Head.{freshHead, onLast, onCount, onCard, Leaves}
 use Rattle.board.specs.Dealing.{held, dealtFrom}
 use Rattle.board.specs.Calls.{isPresent, placeOf, rowOf, rowWords, with, callsAfter, callsFrom, CallAt, Gives as Call·Gives}

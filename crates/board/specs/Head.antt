@@ -16,7 +16,8 @@ use Rattle.lin_spec.specs.declared.Span.{Span}
 use Rattle.lin_spec.specs.declared.MaybeSpan.the-variants.{Absent}
 use Rattle.lin_spec.specs.declared.MaybeClaim.the-variants.{Absent as NoClaim}
 use Rattle.lin_spec.specs.declared.Vulnerability.the-variants.{None}
-use Rattle.commands.specs.Fields.{claimOf, lastMd, more}
+use Rattle.lin_spec.specs.Lent.{claimOf}
+use Rattle.commands.specs.Fields.{lastMd, more}
 use Rattle.board.specs.declared.heading.Head.{Head}
 
 -- before the first token

@@ -6,10 +6,10 @@ use mathlib.Core.Path.{_≡_, ap, _∙_}
 use mathlib.Core.List.{List, [], _++_, append-nil}
 use lib.ListN.{length, drop, length-append}
 use borrow.Author.Tests.{eq-eqb, ne-eqb}
-use Rattle.lin_spec.specs.Base.{ascii}
+use Rattle.lin_spec.specs.Base.{ascii, concat}
 use Rattle.lin_spec.specs.Records.{bytesAt}
 use Rattle.lin_spec.specs.Refusals.{sat}
-use Rattle.lin_spec.specs.Writer.{callText, callsText}
+use Rattle.lin_spec.specs.Writer.{callText}
 use Rattle.lin_spec.specs.declared.Call.{Call}
 use Rattle.output.specs.Put.{joined}
 use Rattle.output.proofs.Laws.{Left}
@@ -44,11 +44,11 @@ module _ (p q : ℕ) (s : List ℕ) (c : Call) where
 
 module _ (p q : ℕ) (s ws : List ℕ) (i : ℕ) where
   calls-cons : 6 ≤ length ws - i → (c : Call) → c ≡ callAt ws i → callsBytes p q s (drop i ws) ≡ callBytes p q s c ++ callsBytes p q s (drop (i + 6) ws)
-  unfolding callsBytes callsText callBytes
+  unfolding callsBytes concat callBytes
   calls-cons h c e = rw e (simp (rows-cons ws i h))
 
   calls-none : length ws - i < 6 → callsBytes p q s (drop i ws) ≡ []
-  unfolding callsBytes callsText
+  unfolding callsBytes concat
   calls-none h = simp (rows-end ws i h)
 
   -- what is left to write

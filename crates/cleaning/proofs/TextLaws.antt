@@ -4,19 +4,20 @@ use Prim.Native.Nat.{ℕ, suc, _+_, _≤_, _<_}
 use native.Mathlib.Numerals.{add-one}
 use native.Mathlib.Omega.{arith}
 use mathlib.Core.Path.{_≡_, refl, ap, _∙_}
-use mathlib.Core.Bool.{Bool, true, false, _||_}
+use mathlib.Core.Bool.{Bool, true, false, _||_, not}
 use mathlib.Core.List.{List, [], _∷_, _++_, append-nil}
 use lib.ListN.{length, getD, drop, set, length-append, drop-of-length-le}
 use lib.Seq.{drop-cons}
 use lib.Dec.{eqb}
 use borrow.Author.Tests.{eq-eqb, ne-eqb}
-use Rattle.lin_spec.specs.Base.{pick, ascii, joinBy}
+use Rattle.lin_spec.specs.Base.{pick, keep, ascii, joinBy}
 use Rattle.lin_spec.specs.Records.{bytesAt}
 use Rattle.lin_spec.specs.Tokens.{pipe}
-use Rattle.lin_spec.specs.Writer.{clean, without, cleanName}
+use Rattle.lin_spec.specs.Writer.{clean, cleanName}
 use Rattle.lin_spec.specs.declared.Span.{Span}
 use Rattle.lin_spec.specs.declared.MaybeSpan.{MaybeSpan}
 use Rattle.lin_spec.specs.declared.MaybeSpan.the-variants.{Present}
+use Rattle.lin_spec.proofs.Base.{picked, keep-cons}
 use Rattle.output.specs.Put.{joined}
 use Rattle.output.proofs.Laws.{Left, store}
 use Rattle.cleaning.specs.Texts.{cleanByte, kept, afterText, headerText, nameAt, namesPieces, namesText}
@@ -52,16 +53,12 @@ module _ (p q : ℕ) where
 
   -- names
   name-nil : cleanName p q [] ≡ []
-  unfolding clean without
+  unfolding clean keep
   name-nil = refl
 
   name-cons : (b : ℕ) (s : List ℕ) → cleanName p q (b ∷ s) ≡ kept (cleanByte p q b) ++ cleanName p q s
-  unfolding clean without
-  name-cons b s = go (eqb (cleanByte p q b) 0x2C)
-    where
-      go : (t : Bool) → pick t (without 0x2C (clean p q s)) (cleanByte p q b ∷ without 0x2C (clean p q s)) ≡ pick t [] (cleanByte p q b ∷ []) ++ without 0x2C (clean p q s)
-      go true = refl
-      go false = refl
+  unfolding clean
+  name-cons b s = keep-cons (λ (c : ℕ). not (eqb c 0x2C)) (cleanByte p q b) (clean p q s)
 
   name-from : (s : List ℕ) (j : ℕ) → j < length s → (b : ℕ) → b ≡ cleanByte p q (getD s j 0) → cleanName p q (drop j s) ≡ kept b ++ cleanName p q (drop (j + 1) s)
   name-from s j h b e = rw (e, add-one j, drop-cons s j 0 h) (name-cons (getD s j 0) (drop (suc j) s))
@@ -78,11 +75,7 @@ module _ (p q : ℕ) where
   name-count s j h b e = ap length (name-from s j h b e) ∙ length-append (kept b) (cleanName p q (drop (j + 1) s))
 
 pub kept-most : (b : ℕ) → length (kept b) ≤ 1
-kept-most b = go (eqb b 0x2C)
-  where
-    go : (t : Bool) → length (pick t [] (b ∷ [])) ≤ 1
-    go true = omega arith
-    go false = omega arith
+kept-most b = picked (λ (s : List ℕ). length s ≤ 1) (not (eqb b 0x2C)) (λ _. omega arith) (λ _. omega arith)
 
 -- the cases of a byte
 pub byte-pipe : (p q b : ℕ) → b ≡ pipe → p ≡ cleanByte p q b

@@ -1,6 +1,6 @@
 -- A byte cleaned, and the texts that are put, as pieces. (01: Writer, clean)
 use Prim.Native.Nat.{ℕ}
-use mathlib.Core.Bool.{_||_}
+use mathlib.Core.Bool.{_||_, not}
 use mathlib.Core.List.{List, [], _∷_, map}
 use lib.ListN.{getD}
 use lib.Dec.{eqb}
@@ -33,7 +33,7 @@ headerText p q s x = optional (ascii "ah|") (mapOption (clean p q) (mapOption (b
 
 -- "names then lose commas": a byte of a name
 abbrev pub kept : ℕ → List ℕ
-kept b = pick (eqb b 0x2C) [] (b ∷ [])
+kept b = pick (not (eqb b 0x2C)) (b ∷ []) []
 
 abbrev pub nameAt : (p q : ℕ) (text : List ℕ) → List Span → (seat : ℕ) → List ℕ
 nameAt p q s xs i = cleanName p q (bytesAt s (getD xs i (span 0 0)))

@@ -9,7 +9,7 @@ use mathlib.Core.List.{List, [], _∷_, map}
 use lib.ListN.{length, getD}
 use lib.Dec.{eqb}
 use borrow.Author.Tests.{eq-eqb, ne-eqb, eqb-true, eqb-false}
-use Rattle.lin_spec.specs.Base.{pick, eqList}
+use Rattle.lin_spec.specs.Base.{pick, eqList, eqAll}
 use Rattle.lin_spec.specs.White.{lower, trim, sameWord, isCommand}
 use Rattle.lin_spec.proofs.Base.{picked, allBelow, below, eq-list}
 use Rattle.commands.specs.Commands.{words, firstWord, commandOf}
@@ -65,7 +65,7 @@ first-eq n (w ∷ ws) s = simp (first-eq (suc n) ws s)
 
 -- each word has its own number
 own : (i : ℕ) → i < 10 → eqb (firstEq 0 words (getD words i [])) i ≡ true
-unfolding firstEq eqList allBelow
+unfolding firstEq eqAll allBelow
 own i h = below (λ (k : ℕ). eqb (firstEq 0 words (getD words k [])) k) 10 refl i h
 
 pub code-is : (c : List ℕ) (i : ℕ) → i < 10 → isCommand c (getD words i []) ≡ eqb (commandOf c) i

@@ -11,12 +11,6 @@ use Rattle.lin_spec.specs.White.{trim}
 use Rattle.lin_spec.specs.Tokens.{Pieces}
 use Rattle.lin_spec.specs.Tokens.Pieces.{end, piece}
 use Rattle.lin_spec.specs.declared.Span.{Span}
-use Rattle.lin_spec.specs.declared.MaybeClaim.{MaybeClaim}
-use Rattle.lin_spec.specs.declared.MaybeClaim.the-variants.{Absent, Claimed}
-
-abbrev pub claimOf : MaybeClaim → Option ℕ
-claimOf Absent = none
-claimOf (Claimed n) = some n
 
 -- the value of an md begins with the digit of a dealer
 unfoldable pub isDealer : List ℕ → Bool

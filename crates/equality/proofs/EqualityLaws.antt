@@ -11,14 +11,14 @@ use lib.ListN.{length, getD, drop, drop-of-length-le, length-map}
 use lib.Seq.{drop-cons, drop-nil}
 use lib.Dec.{eqb}
 use borrow.Author.Tests.{eq-eqb, ne-eqb, lt-ltb, le-ltb}
-use Rattle.lin_spec.specs.Base.{pick, any, eqList}
+use Rattle.lin_spec.specs.Base.{pick, any, eqAll, eqList}
 use Rattle.lin_spec.specs.Records.{span, limit, bytesAt}
 use Rattle.lin_spec.specs.Refusals.{unless, passesEnd, illSpan}
 use Rattle.lin_spec.specs.Refusals.Answer.{refused, accepted}
 use Rattle.lin_spec.specs.Board.{mapOption, mapCall, mapBoard}
 use Rattle.lin_spec.specs.Writer.{heldIn}
 use Rattle.lin_spec.specs.Lent.{callRows, callIn, Lent, lent, lentBoard, meaning, lentSpans, badFlag, badCards, badNumber}
-use Rattle.lin_spec.specs.Equality.{eqAll, eqOption, eqFlag, eqCall, equal, sameBoards}
+use Rattle.lin_spec.specs.Equality.{eqOption, eqFlag, eqCall, equal, sameBoards}
 use Rattle.lin_spec.specs.declared.Span.{Span}
 use Rattle.lin_spec.specs.declared.Call.{Call}
 use Rattle.lin_spec.specs.declared.Board.{Board}

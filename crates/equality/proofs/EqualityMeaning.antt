@@ -7,7 +7,7 @@ use mathlib.Core.List.{List, [], _∷_}
 use mathlib.Core.Option.{Option, none, some}
 use lib.Dec.{eqb}
 use borrow.Author.Tests.{eq-eqb}
-use Rattle.lin_spec.specs.Base.{ascii, any, eqList, starts}
+use Rattle.lin_spec.specs.Base.{ascii, any, eqAll, eqList, starts}
 use Rattle.lin_spec.specs.Records.{part}
 use Rattle.lin_spec.specs.Refusals.Answer.{accepted}
 use Rattle.lin_spec.specs.Utf8.{encode}
@@ -18,7 +18,7 @@ use Rattle.lin_spec.specs.Board.{CallOf, BoardOf, dealerOf, readMd, over, undea
 use Rattle.lin_spec.specs.Reading.{parseLin}
 use Rattle.lin_spec.specs.Writer.{heldIn}
 use Rattle.lin_spec.specs.Lent.{Lent, meaning}
-use Rattle.lin_spec.specs.Equality.{eqAll, eqOption, eqFlag, eqCall, sameDeal, equal, sameBoards}
+use Rattle.lin_spec.specs.Equality.{eqOption, eqFlag, eqCall, sameDeal, equal, sameBoards}
 use Rattle.lin_spec.proofs.Base.{list-eq}
 use Rattle.lin_spec.proofs.Checks.{unless-same}
 use Rattle.equality.specs.Parts.{bothChecks}
@@ -80,5 +80,5 @@ same-self other x t h = sym (unless-same (bothChecks other x x) (equal (meaning 
 
 -- "lopsided for repeated cards": South's `SAA` equals `SAK`, which holds each of its cards, and not the other way round
 pub lopsided : (equal (parseLin (ascii "md|1SAA|")) (parseLin (ascii "md|1SAK|")) ≡ true) × (equal (parseLin (ascii "md|1SAK|")) (parseLin (ascii "md|1SAA|")) ≡ false)
-unfolding equal eqAll eqCall sameDeal heldIn part tokens cut paired parseLin boardFrom over undealt isCommand sameWord lower trim trimEnd trimStart skipWhite blank whiteAt front whiteSpace encode starts eqList any readMd dealerOf dealOf eastOf field readHand handFrom suitOf rankOf indexOf sum remainder
+unfolding equal eqAll eqCall sameDeal heldIn part tokens cut paired parseLin boardFrom over undealt isCommand sameWord lower trim trimEnd trimStart skipWhite blank whiteAt front whiteSpace encode starts any readMd dealerOf dealOf eastOf field readHand handFrom suitOf rankOf indexOf sum remainder
 lopsided = (refl, refl)

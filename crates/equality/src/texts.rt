@@ -9,10 +9,10 @@ ghost use mathlib.Core.Path.{_≡_};
 ghost use mathlib.Core.Bool.{not};
 ghost use mathlib.Core.List.{map};
 ghost use lib.Dec.{eqb};
-ghost use Rattle.lin_spec.specs.Base.{eqList};
+ghost use Rattle.lin_spec.specs.Base.{eqAll, eqList};
 ghost use Rattle.lin_spec.specs.Records.{bytesAt, optionOf};
 ghost use Rattle.lin_spec.specs.Board.{mapOption};
-ghost use Rattle.lin_spec.specs.Equality.{eqAll, eqOption, eqFlag, eqCall};
+ghost use Rattle.lin_spec.specs.Equality.{eqOption, eqFlag, eqCall};
 ghost use Rattle.equality.specs.Parts.{callBytes, callsBytes};
 
 // Whether two spans name the same bytes.

@@ -7,13 +7,14 @@ use mathlib.Core.Bool.{Bool, true, false, _&&_, not, false≢true}
 use mathlib.Core.List.{List, [], map}
 use lib.ListN.{length, take}
 use borrow.Author.Tests.{lt-ltb, le-ltb}
-use Rattle.lin_spec.specs.Base.{pick, any, ascii}
+use Rattle.lin_spec.specs.Base.{pick, any, keep, countIf, ascii}
 use Rattle.lin_spec.specs.Records.{limit, bytesAt}
 use Rattle.lin_spec.specs.Utf8.{longest}
 use Rattle.lin_spec.specs.Refusals.{unless}
 use Rattle.lin_spec.specs.Refusals.Answer.{refused, accepted}
 use Rattle.lin_spec.specs.Reading.{stream}
-use Rattle.lin_spec.specs.File.{Section as Part, holds, Standing, sections, boardsOf, boardIn, fileSpans, sameName, hasName, countIf, findName}
+use Rattle.lin_spec.specs.Board.{BoardOf}
+use Rattle.lin_spec.specs.File.{Section as Part, holds, Standing, sections, boardsOf, boardIn, fileSpans, sameName, hasName, findName}
 use Rattle.lin_spec.specs.declared.Span.{Span}
 use Rattle.lin_spec.specs.declared.Refusal.the-variants.{TextTooLong, NotUtf8}
 use Rattle.lin_spec.proofs.Base.{picked}
@@ -69,7 +70,7 @@ tally-begin s name c r =
     record { way = way-begin s c r; all = omega arith; most = omega arith }
 
 pub tally-end : (s name : List ℕ) (n : ℕ) (c : Standing) → Tally s name n c → remaining s c ≡ [] → n ≡ countIf (hasName s name) (fileSpans s)
-unfolding boardsOf countIf
+unfolding keep
 tally-end s name n c t e = (let a : n ≡ n + left s name c = rw e (omega arith) in a) ∙ t .all
 
 -- a section's part of the count
@@ -81,12 +82,12 @@ module _ (s name : List ℕ) (n : ℕ) (c : Standing) (t : Tally s name n c) (m 
   at-other q = e ∙ ap (λ (x : Bool). pick (x && hasName s name (boardIn s (sectionOf p))) 1 0) q
 
   left-is : left s name c ≡ r + left s name d
-  unfolding boardsOf countIf
+  unfolding keep
   left-is =
       ap (λ (l : List Part). countIf (hasName s name) (map (boardIn s) (boardsOf l))) (f .front)
       ∙ picked (λ (l : List Part). countIf (hasName s name) (map (boardIn s) l) ≡ r + left s name d) (p .board)
       (λ q.
-      picked (λ (x : ℕ). x ≡ r + left s name d) (hasName s name (boardIn s (sectionOf p)))
+      picked (λ (l : List (BoardOf Span)). length l ≡ r + left s name d) (hasName s name (boardIn s (sectionOf p)))
       (λ h. let y : r ≡ 1 = at-board q ∙ simp h in omega arith)
       (λ h. let y : r ≡ 0 = at-board q ∙ simp h in omega arith))
       (λ q. let y = at-other q in omega arith)

@@ -9,7 +9,7 @@ use mathlib.Core.Option.{Option}
 use lib.ListN.{length, getD, take, length-map, length-take}
 use lib.Dec.{eqb, ltb, leb}
 use borrow.Author.Tests.{eqb-true, eqb-false, le-leb, lt-leb, le-ltb, lt-ltb}
-use Rattle.lin_spec.specs.Base.{pick, ascii}
+use Rattle.lin_spec.specs.Base.{pick, ascii, keep}
 use Rattle.lin_spec.specs.Records.{limit}
 use Rattle.lin_spec.specs.Refusals.{Answer, unless, tooLong, notUtf8, sat}
 use Rattle.lin_spec.specs.Refusals.Answer.{refused, accepted}
@@ -56,12 +56,12 @@ way-begin s c r =
     subst (Way s) (sym (r .first)) w
 
 pub way-end : (s : List ℕ) (c : Standing) → Way s c → remaining s c ≡ [] → c .number ≡ length (boardsOf (sections s))
-unfolding boardsOf
+unfolding keep
 way-end s c w e = (let z : c .number ≡ c .number + length (boardsOf (remaining s c)) = rw e (omega arith) in z) ∙ w .all
 
 module _ (s : List ℕ) (c : Standing) (w : Way s c) (n : ℕ) (p : Part) (d : Standing) (f : Found s c n p d) where
   front-boards : boardsOf (remaining s c) ≡ pick (p .board) (p ∷ boardsOf (remaining s d)) (boardsOf (remaining s d))
-  unfolding boardsOf
+  unfolding keep
   front-boards = ap boardsOf (f .front)
 
   -- the number goes up by one at a board

@@ -13,9 +13,9 @@ use text::same_bytes;
 use text::well_formed_len;
 ghost use mathlib.Core.Path.{_≡_};
 ghost use lib.ListN.{length};
-ghost use Rattle.lin_spec.specs.Base.{any};
+ghost use Rattle.lin_spec.specs.Base.{any, countIf};
 ghost use Rattle.lin_spec.specs.Records.{bytesAt};
-ghost use Rattle.lin_spec.specs.File.{sameName, hasName, countIf, fileSpans, findName};
+ghost use Rattle.lin_spec.specs.File.{sameName, hasName, fileSpans, findName};
 ghost use Rattle.file.specs.Numbers.{countedOf, Finds, Holds, Ready};
 
 // Names are the same when their bytes are.

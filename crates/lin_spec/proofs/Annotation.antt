@@ -18,7 +18,7 @@ use Rattle.lin_spec.specs.Records.{span, bytesAt}
 use Rattle.lin_spec.specs.Board.{isDigit, numberIn, Present}
 use Rattle.lin_spec.specs.Annotation.{noteOf, noteSpans, run, isMark, charBytes, partLength, partsUpTo, annotationParts, nagWord, noteText, noteWord, isClosed, between, partWord, wordsOf, joinedWords, annotationText}
 use Rattle.lin_spec.specs.declared.Span.{Span}
-use Rattle.lin_spec.proofs.Base.{picked, and-left, and-right, split}
+use Rattle.lin_spec.proofs.Base.{picked, and-left, and-right, split, all-map, all-keep}
 use Rattle.lin_spec.proofs.Utf8.{utf-ill, utf8-whole, whole-utf8, utf8-after, utf8-append, Ascii, utf8-ascii, utf8-cut}
 
 char-some : (u : Utf) → 0 < charBytes u
@@ -234,10 +234,7 @@ module _ (s ws : List ℕ) (k : ℕ) (l : length ws ≡ k * 3) (notes : All (λ 
       picked Utf8 (eqb (run isMark p) (length p)) (λ _. h) (λ _. nag-utf8 p)
 
   words-utf8 : (ps : List (List ℕ)) → All Utf8 ps → All Utf8 (wordsOf s ws ps)
-  unfolding wordsOf
-  words-utf8 [] h = tt
-  words-utf8 (p ∷ ps) h =
-      picked (All Utf8) (null (partWord s ws p)) (λ _. words-utf8 ps (h .1)) (λ _. (word-utf8 p (h .0), words-utf8 ps (h .1)))
+  words-utf8 ps h = all-keep Utf8 Utf8 _ (λ _ k _. k) _ (all-map Utf8 Utf8 (partWord s ws) word-utf8 ps h)
 
   join-utf8 : (xs : List (List ℕ)) → All Utf8 xs → Utf8 (joinBy (ascii " ") xs)
   unfolding joinBy

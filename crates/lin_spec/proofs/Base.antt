@@ -1,16 +1,16 @@
 -- Laws of the small tools that the definitions share: tests that are joined, a choice, a test of all small numbers by computation, lists
--- that are the same, a list that begins with another, what holds of every element.
+-- that are the same, a list that begins with another, what holds of every element, the elements that are kept.
 -- Assumes nothing.
-use Prim.Native.Nat.{ℕ, zero, suc, _<_, _≤_}
+use Prim.Native.Nat.{ℕ, zero, suc, _+_, _<_, _≤_}
 use native.Mathlib.Nat.{not-suc-le-zero}
 use native.Mathlib.Omega.{arith}
 use mathlib.Core.Path.{_≡_, refl, ap, sym, _∙_}
 use mathlib.Core.Bool.{Bool, true, false, _&&_, _||_, false≢true, and-false}
-use mathlib.Core.List.{List, [], _∷_, _++_}
+use mathlib.Core.List.{List, [], _∷_, _++_, map}
 use lib.ListN.{length, drop, length-append}
 use lib.Dec.{eqb, ltb}
 use borrow.Author.Tests.{eq-eqb, eqb-true, eqb-false, ltb-true, ltb-false}
-use Rattle.lin_spec.specs.Base.{pick, All, eqList, starts}
+use Rattle.lin_spec.specs.Base.{pick, All, keep, countIf, eqAll, eqList, starts}
 
 -- of two tests that both hold, the first does
 pub and-left : (a b : Bool) → (a && b) ≡ true → a ≡ true
@@ -61,12 +61,12 @@ same-below f g n h i k = eqb-true (f i) (g i) (below (λ (j : ℕ). eqb (f j) (g
 
 -- lists that are the same, by the test
 pub list-eq : (x : List ℕ) → eqList x x ≡ true
-unfolding eqList
+unfolding eqAll
 list-eq [] = refl
 list-eq (a ∷ x) = simp (eq-eqb a a refl, list-eq x)
 
 pub eq-list : (x y : List ℕ) → eqList x y ≡ true → x ≡ y
-unfolding eqList
+unfolding eqAll
 eq-list [] [] h = refl
 eq-list [] (b ∷ y) h = absurd (false≢true h)
 eq-list (a ∷ x) [] h = absurd (false≢true h)
@@ -77,7 +77,7 @@ eq-list (a ∷ x) (b ∷ y) h = go (eqb a b) refl h (eq-list x y)
     go false e h ih = absurd (false≢true h)
 
 pub eq-length : (x y : List ℕ) → (length x ≡ length y → ⊥) → eqList x y ≡ false
-unfolding eqList
+unfolding eqAll
 eq-length [] [] h = absurd (h refl)
 eq-length [] (b ∷ y) h = refl
 eq-length (a ∷ x) [] h = refl
@@ -106,3 +106,47 @@ starts-most w s h = omega (arith, ap length (starts-split w s h) ∙ length-appe
 pub all-append : {A : Type 0} (P : A → Type 0) (x y : List A) → All P x → All P y → All P (x ++ y)
 all-append P [] y h k = k
 all-append P (a ∷ x) y h k = (h .0, all-append P x y (h .1) k)
+
+pub every : {A : Type 0} (P : A → Type 0) → ((a : A) → P a) → (x : List A) → All P x
+every P h [] = tt
+every P h (a ∷ x) = (h a, every P h x)
+
+pub all-map : {A B : Type 0} (P : A → Type 0) (Q : B → Type 0) (g : A → B) → ((a : A) → P a → Q (g a)) → (x : List A) → All P x → All Q (map g x)
+all-map P Q g k [] h = tt
+all-map P Q g k (a ∷ x) h = (k a (h .0), all-map P Q g k x (h .1))
+
+-- of the elements that are kept the test holds
+pub all-keep : {A : Type 0} (P Q : A → Type 0) (f : A → Bool) → ((a : A) → P a → f a ≡ true → Q a) → (x : List A) → All P x → All Q (keep f x)
+unfolding keep
+all-keep P Q f k [] h = tt
+all-keep P Q f k (a ∷ x) h = picked (All Q) (f a) (λ e. (k a (h .0) e, all-keep P Q f k x (h .1))) (λ _. all-keep P Q f k x (h .1))
+
+pub all-kept : {A : Type 0} (P : A → Type 0) (f : A → Bool) → ((a : A) → f a ≡ true → P a) → (x : List A) → All P (keep f x)
+all-kept P f k x = all-keep (λ _. Unit) P f (λ a _ e. k a e) x (every (λ _. Unit) (λ _. tt) x)
+
+-- one element at a time
+pub keep-cons : {A : Type 0} (f : A → Bool) (a : A) (x : List A) → keep f (a ∷ x) ≡ pick (f a) (a ∷ []) [] ++ keep f x
+unfolding keep
+keep-cons f a x = go (f a)
+  where
+    go : (t : Bool) → pick t (a ∷ keep f x) (keep f x) ≡ pick t (a ∷ []) [] ++ keep f x
+    go true = refl
+    go false = refl
+
+-- how many they are
+pub keep-most : {A : Type 0} (f : A → Bool) (x : List A) → length (keep f x) ≤ length x
+unfolding keep
+keep-most f [] = omega arith
+keep-most f (a ∷ x) = go (f a) (keep-most f x)
+  where
+    go : (t : Bool) → length (keep f x) ≤ length x → length (pick t (a ∷ keep f x) (keep f x)) ≤ suc (length x)
+    go true h = omega arith
+    go false h = omega arith
+
+pub count-cons : {A : Type 0} (f : A → Bool) (a : A) (x : List A) → countIf f (a ∷ x) ≡ pick (f a) (countIf f x + 1) (countIf f x)
+unfolding keep
+count-cons f a x = go (f a)
+  where
+    go : (t : Bool) → length (pick t (a ∷ keep f x) (keep f x)) ≡ pick t (countIf f x + 1) (countIf f x)
+    go true = omega arith
+    go false = refl

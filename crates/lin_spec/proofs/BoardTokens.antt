@@ -97,7 +97,7 @@ module _ (p q : ℕ) (t : List ℕ) where
   note-text (some s) t = simp append-assoc
 
   calls-text : (cs : List (CallOf (List ℕ))) → write (callTokens p q cs) t ≡ callsText p q cs ++ t
-  unfolding write callTokens callsText callText
+  unfolding write callTokens concat callText
   calls-text [] = refl
   calls-text (c ∷ cs) = simp (write-append, note-text, calls-text cs, append-assoc)
 

@@ -6,19 +6,19 @@ use mathlib.Core.Bool.{true}
 use mathlib.Core.List.{[], _∷_, _++_}
 use mathlib.Core.Option.{none, some}
 use lib.ListN.{replicate, set}
-use Rattle.lin_spec.specs.Base.{ascii, any, starts, eqList, joinBy}
+use Rattle.lin_spec.specs.Base.{ascii, any, starts, joinBy, eqAll, keep, all}
 use Rattle.lin_spec.specs.Records.{part}
 use Rattle.lin_spec.specs.Utf8.{first, utfStep, utf, utf8, encode}
 use Rattle.lin_spec.specs.White.{whiteSpace, front, whiteAt, skipWhite, trimStart, blank, trimEnd, trim, lower, sameWord, isCommand}
 use Rattle.lin_spec.specs.Tokens.{cut, paired, left, tokens, trailing}
 use Rattle.lin_spec.specs.Tokens.TokenOf.{token}
 use Rattle.lin_spec.specs.Cards.{indexOf, suitOf, rankOf, readCard, sum, handFrom, readHand, field, remainder, eastOf, dealOf}
-use Rattle.lin_spec.specs.Board.{dealerOf, readMd, readSv, endsIn, only, withoutEnd, allDigits, valueFrom, numberIn, over, undealt, boardFrom}
+use Rattle.lin_spec.specs.Board.{dealerOf, readMd, readSv, endsIn, withoutEnd, valueFrom, numberIn, over, undealt, boardFrom}
 use Rattle.lin_spec.specs.Reading.{parseLin, stream, placed}
 use Rattle.lin_spec.specs.Refusals.{unless}
 use Rattle.lin_spec.specs.Refusals.Answer.{accepted}
-use Rattle.lin_spec.specs.File.{holds, partsFrom, linesFrom, sections, boardsOf, fileSpans, countBoards}
-use Rattle.lin_spec.specs.Annotation.{noteOf, run, partLength, partsUpTo, annotationParts, nagWord, partWord, wordsOf, annotationText}
+use Rattle.lin_spec.specs.File.{partsFrom, linesFrom, sections, fileSpans, countBoards}
+use Rattle.lin_spec.specs.Annotation.{noteOf, run, partLength, partsUpTo, annotationParts, nagWord, partWord, annotationText}
 use Rattle.lin_spec.specs.declared.Seat.the-variants.{South, North}
 use Rattle.lin_spec.specs.declared.Vulnerability.the-variants.{None}
 use Rattle.lin_spec.proofs.Tokens.{ReadsBack}
@@ -43,7 +43,7 @@ pub record Cases : Type 0 where
   pub C14 : (countBoards (ascii "qx|a|") ≡ accepted 0) × (countBoards (ascii "hello") ≡ accepted 1)
 
 pub cases : Cases
-unfolding countBoards unless utf8 utf utfStep first fileSpans sections boardsOf holds partsFrom linesFrom stream placed tokens trailing cut paired left parseLin boardFrom over undealt isCommand sameWord lower trim trimEnd trimStart skipWhite blank whiteAt front whiteSpace encode starts eqList any readMd dealerOf dealOf eastOf field readHand handFrom suitOf rankOf indexOf sum remainder readSv numberIn allDigits valueFrom readCard withoutEnd only endsIn part annotationText annotationParts partsUpTo partLength run wordsOf partWord nagWord noteOf joinBy
+unfolding countBoards unless utf8 utf utfStep first fileSpans sections keep any partsFrom linesFrom stream placed tokens trailing cut paired left parseLin boardFrom over undealt isCommand sameWord lower trim trimEnd trimStart skipWhite blank whiteAt front whiteSpace encode starts eqAll readMd dealerOf dealOf eastOf field readHand handFrom suitOf rankOf indexOf sum remainder readSv numberIn all valueFrom readCard withoutEnd endsIn part annotationText annotationParts partsUpTo partLength run partWord nagWord noteOf joinBy
 cases =
     record {
       C1 = record { toks = refl; rest = refl };

@@ -4,16 +4,16 @@
 use Prim.Native.Nat.{ℕ, _+_, _≤_}
 use native.Mathlib.Omega.{arith}
 use mathlib.Core.Path.{_≡_, refl, ap, subst, _∙_}
-use mathlib.Core.Bool.{Bool, true, false, _||_, and-true, and-false}
+use mathlib.Core.Bool.{Bool, true, false, _||_, not, and-true, and-false}
 use mathlib.Core.List.{List, [], _∷_, _++_, append-nil}
 use lib.ListN.{length, take}
 use lib.Dec.{eqb}
-use borrow.Author.Tests.{ne-eqb, eqb-false, eqb-true, eq-eqb}
-use Rattle.lin_spec.specs.Base.{pick, All}
+use borrow.Author.Tests.{ne-eqb, eqb-false, eqb-true, eq-eqb, not-true}
+use Rattle.lin_spec.specs.Base.{pick, All, all, keep}
 use Rattle.lin_spec.specs.Tokens.{pipe, count}
 use Rattle.lin_spec.specs.Board.{endsIn, only, withoutEnd}
 use Rattle.lin_spec.specs.Writer.{clean, without, cleanName}
-use Rattle.lin_spec.proofs.Base.{picked, or-none}
+use Rattle.lin_spec.proofs.Base.{picked, or-none, all-keep, all-kept}
 
 -- the bytes that clean may put: "one byte from 20 to 7E hex other than 7C", which `/` and space are
 pub record Fit (p q : ℕ) : Type 0 where
@@ -26,9 +26,9 @@ pub record Fit (p q : ℕ) : Type 0 where
 
 -- what holds of each byte keeps a byte out
 pub lack : (P : ℕ → Type 0) (c : ℕ) → (P c → ⊥) → (s : List ℕ) → All P s → count c s ≡ 0
-unfolding count
+unfolding keep
 lack P c n [] h = refl
-lack P c n (b ∷ s) h = picked (λ (k : ℕ). k ≡ 0) (eqb b c) (λ e. absurd (n (subst P (eqb-true b c e) (h .0)))) (λ _. lack P c n s (h .1))
+lack P c n (b ∷ s) h = picked (λ (k : List ℕ). length k ≡ 0) (eqb b c) (λ e. absurd (n (subst P (eqb-true b c e) (h .0)))) (λ _. lack P c n s (h .1))
 
 -- neither a pipe nor a line break
 abbrev pub Free : ℕ → Type 0
@@ -60,18 +60,13 @@ free-pipe s h = lack Free pipe (λ k. k .0 refl) s h
 -- Names
 
 pub all-without : (P : ℕ → Type 0) (c : ℕ) (s : List ℕ) → All P s → All P (without c s)
-unfolding without
-all-without P c [] h = tt
-all-without P c (b ∷ s) h = picked (All P) (eqb b c) (λ _. all-without P c s (h .1)) (λ _. (h .0, all-without P c s (h .1)))
+all-without P c s h = all-keep P P _ (λ _ k _. k) s h
 
 pub without-none : (c : ℕ) (s : List ℕ) → All (λ (b : ℕ). b ≡ c → ⊥) (without c s)
-unfolding without
-without-none c [] = tt
-without-none c (b ∷ s) =
-    picked (All (λ (x : ℕ). x ≡ c → ⊥)) (eqb b c) (λ _. without-none c s) (λ e. (eqb-false b c e, without-none c s))
+without-none c s = all-kept (λ (b : ℕ). b ≡ c → ⊥) (λ (b : ℕ). not (eqb b c)) (λ b e. eqb-false b c (not-true _ e)) s
 
 without-same : (c : ℕ) (s : List ℕ) → All (λ (b : ℕ). b ≡ c → ⊥) s → without c s ≡ s
-unfolding without
+unfolding keep
 without-same c [] h = refl
 without-same c (b ∷ s) h = simp (ne-eqb b c (h .0), without-same c s (h .1))
 
@@ -89,12 +84,12 @@ name-name p q f s =
 
 module _ (c : ℕ) where
   only-last : (s : List ℕ) → only c (s ++ c ∷ []) ≡ only c s
-  unfolding only
+  unfolding all
   only-last [] = simp (eq-eqb c c refl)
   only-last (b ∷ s) = simp (only-last s)
 
   without-last : (s : List ℕ) → withoutEnd c (s ++ c ∷ []) ≡ withoutEnd c s
-  unfolding withoutEnd only
+  unfolding withoutEnd all
   without-last [] = simp (eq-eqb c c refl)
   without-last (b ∷ s) = simp (only-last s, without-last s)
 
@@ -130,7 +125,7 @@ module _ (c : ℕ) where
   all-withoutEnd P (b ∷ s) h = picked (All P) (only c (b ∷ s)) (λ _. tt) (λ _. (h .0, all-withoutEnd P s (h .1)))
 
   only-ends : (b : ℕ) (s : List ℕ) → endsIn c (b ∷ s) ≡ false → only c (b ∷ s) ≡ false
-  unfolding only endsIn
+  unfolding all endsIn
   only-ends b [] h = simp h
   only-ends b (d ∷ s) h = simp (only-ends d s h, and-false)
 
@@ -142,7 +137,7 @@ module _ (c : ℕ) where
   without-same-end (b ∷ d ∷ s) h = simp (only-ends b (d ∷ s) h, without-same-end (d ∷ s) h)
 
   pub without-ends : (s : List ℕ) → endsIn c (withoutEnd c s) ≡ false
-  unfolding withoutEnd only endsIn
+  unfolding withoutEnd all endsIn
   without-ends [] = refl
   without-ends (b ∷ s) = go (only c (b ∷ s)) refl (withoutEnd c s) refl (without-ends s)
     where

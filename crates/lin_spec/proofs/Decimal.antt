@@ -9,7 +9,7 @@ use mathlib.Core.List.{List, [], _∷_, _++_}
 use mathlib.Core.Option.{some}
 use lib.ListN.{length, getD, length-append}
 use borrow.Author.Tests.{lt-ltb, le-ltb, le-leb}
-use Rattle.lin_spec.specs.Base.{null}
+use Rattle.lin_spec.specs.Base.{null, all}
 use Rattle.lin_spec.specs.Board.{isDigit, allDigits, valueFrom, numberIn}
 use Rattle.lin_spec.specs.Decimal.{digit, digitsOf, decimal}
 use Rattle.lin_spec.proofs.Base.{split}
@@ -79,7 +79,7 @@ digit-is : (n : ℕ) → n < 10 → isDigit (digit n) ≡ true
 digit-is n h = let a = le-leb 0x30 (digit n) (omega arith) in let b = le-leb (digit n) 0x39 (omega arith) in simp (a, b)
 
 all-last : (s : List ℕ) (b : ℕ) → allDigits s ≡ true → isDigit b ≡ true → allDigits (s ++ (b ∷ [])) ≡ true
-unfolding allDigits
+unfolding all
 all-last [] b h k = simp k
 all-last (a ∷ s) b h k = go (isDigit a) refl h (all-last s b)
   where
@@ -88,7 +88,7 @@ all-last (a ∷ s) b h k = go (isDigit a) refl h (all-last s b)
     go false e h ih = simp e h
 
 pub decimal-digits : (n : ℕ) → allDigits (decimal n) ≡ true
-unfolding allDigits
+unfolding all
 decimal-digits =
     by-digits (λ _ s. allDigits s ≡ true) (λ n h. let z = digit-is n h in simp z)
     (λ n h s e. all-last s (digit (n % 10)) e (digit-is (n % 10) (omega arith)))

@@ -8,7 +8,7 @@ use mathlib.Core.List.{List, [], _∷_, _++_, map, append-assoc, append-nil}
 use mathlib.Core.Option.{Option, none, some}
 use lib.ListN.{length, take, drop, replicate}
 use lib.Seq.{take-append-seam, take-length}
-use Rattle.lin_spec.specs.Base.{pick, All, eqList, starts, concat, joinBy, ascii}
+use Rattle.lin_spec.specs.Base.{pick, All, starts, concat, joinBy, ascii, eqAll}
 use Rattle.lin_spec.specs.Records.{part}
 use Rattle.lin_spec.specs.Utf8.{encode}
 use Rattle.lin_spec.specs.White.{isCommand, sameWord, lower, trim, trimEnd, trimStart, skipWhite, blank, whiteAt, front, whiteSpace}
@@ -59,7 +59,7 @@ past w g ts us h x = over-append (λ c v y. on c w (g v y) y) x ts us ∙ ap (λ
 -- Values as the reader takes them
 
 sv-letter : (v : Vulnerability) → readSv (svLetter v ∷ []) ≡ v
-unfolding readSv sameWord lower eqList
+unfolding readSv sameWord lower eqAll
 sv-letter None = refl
 sv-letter NorthSouth = refl
 sv-letter EastWest = refl
@@ -131,15 +131,15 @@ module _ (p q : ℕ) where
       simp (without-mark 0x21 (clean p q (c .bid)) (c .alerted), without-front 0x21 (clean p q (c .bid)) (pick (c .alerted) (ascii "!") []), ends-mark 0x21 (clean p q (c .bid)) (c .alerted))
 
   mb-is : isCommand (ascii "mb") (ascii "mb") ≡ true
-  unfolding isCommand sameWord lower trim trimEnd trimStart skipWhite blank whiteAt front whiteSpace encode starts eqList
+  unfolding isCommand sameWord lower trim trimEnd trimStart skipWhite blank whiteAt front whiteSpace encode starts eqAll
   mb-is = refl
 
   an-is : isCommand (ascii "an") (ascii "an") ≡ true
-  unfolding isCommand sameWord lower trim trimEnd trimStart skipWhite blank whiteAt front whiteSpace encode starts eqList
+  unfolding isCommand sameWord lower trim trimEnd trimStart skipWhite blank whiteAt front whiteSpace encode starts eqAll
   an-is = refl
 
   an-not : isCommand (ascii "an") (ascii "mb") ≡ false
-  unfolding isCommand sameWord lower trim trimEnd trimStart skipWhite blank whiteAt front whiteSpace encode starts eqList
+  unfolding isCommand sameWord lower trim trimEnd trimStart skipWhite blank whiteAt front whiteSpace encode starts eqAll
   an-not = refl
 
   abbrev call : List ℕ → Bool → Option (List ℕ) → CallOf (List ℕ)
@@ -163,15 +163,15 @@ module _ (p q : ℕ) where
 -- Play
 
 pc-is : isCommand (ascii "pc") (ascii "pc") ≡ true
-unfolding isCommand sameWord lower trim trimEnd trimStart skipWhite blank whiteAt front whiteSpace encode starts eqList
+unfolding isCommand sameWord lower trim trimEnd trimStart skipWhite blank whiteAt front whiteSpace encode starts eqAll
 pc-is = refl
 
 lf-is : isCommand (ascii "\npc") (ascii "pc") ≡ true
-unfolding isCommand sameWord lower trim trimEnd trimStart skipWhite blank whiteAt front whiteSpace encode starts eqList
+unfolding isCommand sameWord lower trim trimEnd trimStart skipWhite blank whiteAt front whiteSpace encode starts eqAll
 lf-is = refl
 
 pg-not : isCommand (ascii "pg") (ascii "pc") ≡ false
-unfolding isCommand sameWord lower trim trimEnd trimStart skipWhite blank whiteAt front whiteSpace encode starts eqList
+unfolding isCommand sameWord lower trim trimEnd trimStart skipWhite blank whiteAt front whiteSpace encode starts eqAll
 pg-not = refl
 
 module _ (w : List ℕ) (e : isCommand w (ascii "pc") ≡ true) where
@@ -213,11 +213,11 @@ tricks-all (a ∷ b ∷ c ∷ d ∷ r) = ap (λ (s : List ℕ). a ∷ b ∷ c �
 -- Claim
 
 mc-is : isCommand (ascii "\nmc") (ascii "mc") ≡ true
-unfolding isCommand sameWord lower trim trimEnd trimStart skipWhite blank whiteAt front whiteSpace encode starts eqList
+unfolding isCommand sameWord lower trim trimEnd trimStart skipWhite blank whiteAt front whiteSpace encode starts eqAll
 mc-is = refl
 
 pg-other : isCommand (ascii "pg") (ascii "mc") ≡ false
-unfolding isCommand sameWord lower trim trimEnd trimStart skipWhite blank whiteAt front whiteSpace encode starts eqList
+unfolding isCommand sameWord lower trim trimEnd trimStart skipWhite blank whiteAt front whiteSpace encode starts eqAll
 pg-other = refl
 
 claim-option : (o : Option ℕ) → Present (λ (n : ℕ). n ≤ 255) o → over (onClaim bytesText) none (claimTokens o) ≡ o
@@ -241,43 +241,43 @@ module _ (p q : ℕ) (b : BoardOf (List ℕ)) where
 
 module _ (p q : ℕ) (b : BoardOf (List ℕ)) (v : Valid b) where
   names-field : over (onNames bytesText) (replicate 4 []) (boardTokens p q [] b) ≡ map (cleanName p q) (b .names)
-  unfolding boardTokens over isCommand sameWord lower trim trimEnd trimStart skipWhite blank whiteAt front whiteSpace encode starts eqList
+  unfolding boardTokens over isCommand sameWord lower trim trimEnd trimStart skipWhite blank whiteAt front whiteSpace encode starts eqAll
   names-field =
       pass (ascii "pn") (λ v y. named bytesText v 0 (cut 0x2C v) y) (bodyTokens p q b) (body-commands p q (Unlike (ascii "pn")) (record { rh = refl; ah = refl; md = refl; sv = refl; sa = refl; mb = refl; an = refl; g = refl; lf = refl; pc = refl; mc = refl }) b) _
       ∙ names-read p q b (v .names)
 
   title-field : over (onTitle bytesText) none (boardTokens p q [] b) ≡ present (mapOption (clean p q) (b .title))
-  unfolding boardTokens over isCommand sameWord lower trim trimEnd trimStart skipWhite blank whiteAt front whiteSpace encode starts eqList
+  unfolding boardTokens over isCommand sameWord lower trim trimEnd trimStart skipWhite blank whiteAt front whiteSpace encode starts eqAll
   title-field =
       pass (ascii "mn") (λ v y. nonEmpty bytesText v) (bodyTokens p q b) (body-commands p q (Unlike (ascii "mn")) (record { rh = refl; ah = refl; md = refl; sv = refl; sa = refl; mb = refl; an = refl; g = refl; lf = refl; pc = refl; mc = refl }) b) _
       ∙ text-read p q (b .title)
 
   room-field : over (onRoom bytesText) none (boardTokens p q [] b) ≡ present (mapOption (clean p q) (b .room))
-  unfolding boardTokens over isCommand sameWord lower trim trimEnd trimStart skipWhite blank whiteAt front whiteSpace encode starts eqList
+  unfolding boardTokens over isCommand sameWord lower trim trimEnd trimStart skipWhite blank whiteAt front whiteSpace encode starts eqAll
   room-field =
       pass (ascii "qx") (λ v y. nonEmpty bytesText v) (bodyTokens p q b) (body-commands p q (Unlike (ascii "qx")) (record { rh = refl; ah = refl; md = refl; sv = refl; sa = refl; mb = refl; an = refl; g = refl; lf = refl; pc = refl; mc = refl }) b) _
       ∙ text-read p q (b .room)
 
   header-option : (o : Option (List ℕ)) → over (onHeader bytesText) none (headerTokens p q o) ≡ mapOption (clean p q) o
-  unfolding over isCommand sameWord lower trim trimEnd trimStart skipWhite blank whiteAt front whiteSpace encode starts eqList
+  unfolding over isCommand sameWord lower trim trimEnd trimStart skipWhite blank whiteAt front whiteSpace encode starts eqAll
   header-option none = refl
   header-option (some s) = refl
 
   header-field : over (onHeader bytesText) none (boardTokens p q [] b) ≡ mapOption (clean p q) (b .header)
-  unfolding boardTokens bodyTokens over isCommand sameWord lower trim trimEnd trimStart skipWhite blank whiteAt front whiteSpace encode starts eqList
+  unfolding boardTokens bodyTokens over isCommand sameWord lower trim trimEnd trimStart skipWhite blank whiteAt front whiteSpace encode starts eqAll
   header-field =
       over-append (onHeader bytesText) none (headerTokens p q (b .header)) _
       ∙ pass (ascii "ah") (λ v y. some v) (after p q b) (after-commands p q b (Unlike (ascii "ah")) refl refl refl refl refl refl) _
       ∙ header-option (b .header)
 
   dealt-value : over (onDealt bytesText) undealt (boardTokens p q [] b) ≡ readMd (trim (mdText (b .dealt))) undealt
-  unfolding boardTokens bodyTokens over isCommand sameWord lower trim trimEnd trimStart skipWhite blank whiteAt front whiteSpace encode starts eqList
+  unfolding boardTokens bodyTokens over isCommand sameWord lower trim trimEnd trimStart skipWhite blank whiteAt front whiteSpace encode starts eqAll
   dealt-value =
       past (ascii "md") (λ v y. readMd (trim v) y) (headerTokens p q (b .header)) _ (header-commands p q (Unlike (ascii "md")) refl (b .header)) undealt
       ∙ pass (ascii "md") (λ v y. readMd (trim v) y) (after p q b) (after-commands p q b (Unlike (ascii "md")) refl refl refl refl refl refl) _
 
   sv-value : over (onVulnerability bytesText) None (boardTokens p q [] b) ≡ readSv (trim (svLetter (b .vulnerability) ∷ []))
-  unfolding boardTokens bodyTokens over isCommand sameWord lower trim trimEnd trimStart skipWhite blank whiteAt front whiteSpace encode starts eqList
+  unfolding boardTokens bodyTokens over isCommand sameWord lower trim trimEnd trimStart skipWhite blank whiteAt front whiteSpace encode starts eqAll
   sv-value =
       past (ascii "sv") (λ v y. readSv (trim v)) (headerTokens p q (b .header)) _ (header-commands p q (Unlike (ascii "sv")) refl (b .header)) None
       ∙ pass (ascii "sv") (λ v y. readSv (trim v)) (after p q b) (after-commands p q b (Unlike (ascii "sv")) refl refl refl refl refl refl) _
@@ -289,7 +289,7 @@ module _ (p q : ℕ) (b : BoardOf (List ℕ)) (v : Valid b) where
   uncalled ts h x = skip (onCalls bytesText) Uncalled (λ c v y e. simp (e .0, e .1)) ts h x
 
   calls-field : over (onCalls bytesText) [] (boardTokens p q [] b) ≡ map settledCall (map (mapCall (clean p q)) (b .calls))
-  unfolding boardTokens bodyTokens over isCommand sameWord lower trim trimEnd trimStart skipWhite blank whiteAt front whiteSpace encode starts eqList
+  unfolding boardTokens bodyTokens over isCommand sameWord lower trim trimEnd trimStart skipWhite blank whiteAt front whiteSpace encode starts eqAll
   calls-field =
       over-append (onCalls bytesText) [] (headerTokens p q (b .header)) _
       ∙ ap (λ (x : List (CallOf (List ℕ))). over (onCalls bytesText) x (after p q b)) (uncalled (headerTokens p q (b .header)) (header-commands p q Uncalled (refl, refl) (b .header)) [])
@@ -303,7 +303,7 @@ module _ (p q : ℕ) (b : BoardOf (List ℕ)) (v : Valid b) where
       twice (c ∷ cs) = ap (λ (r : List (CallOf (List ℕ))). settledOne p q c ∷ r) (twice cs)
 
   play-field : over (onPlay bytesText) [] (boardTokens p q [] b) ≡ b .play
-  unfolding boardTokens bodyTokens over isCommand sameWord lower trim trimEnd trimStart skipWhite blank whiteAt front whiteSpace encode starts eqList
+  unfolding boardTokens bodyTokens over isCommand sameWord lower trim trimEnd trimStart skipWhite blank whiteAt front whiteSpace encode starts eqAll
   play-field =
       past (ascii "pc") (λ v y. played (readCard (trim v)) y) (headerTokens p q (b .header)) _ (header-commands p q (Unlike (ascii "pc")) refl (b .header)) []
       ∙ past (ascii "pc") (λ v y. played (readCard (trim v)) y) (callTokens p q (b .calls)) _ (call-commands p q (Unlike (ascii "pc")) refl refl (b .calls)) []
@@ -313,7 +313,7 @@ module _ (p q : ℕ) (b : BoardOf (List ℕ)) (v : Valid b) where
       ∙ tricks-all (b .play)
 
   claim-field : over (onClaim bytesText) none (boardTokens p q [] b) ≡ over (onClaim bytesText) none (claimTokens (b .claim))
-  unfolding boardTokens bodyTokens over isCommand sameWord lower trim trimEnd trimStart skipWhite blank whiteAt front whiteSpace encode starts eqList
+  unfolding boardTokens bodyTokens over isCommand sameWord lower trim trimEnd trimStart skipWhite blank whiteAt front whiteSpace encode starts eqAll
   claim-field =
       past (ascii "mc") (λ v y. numberIn 255 (trim v)) (headerTokens p q (b .header)) _ (header-commands p q (Unlike (ascii "mc")) refl (b .header)) none
       ∙ past (ascii "mc") (λ v y. numberIn 255 (trim v)) (callTokens p q (b .calls)) _ (call-commands p q (Unlike (ascii "mc")) refl refl (b .calls)) none

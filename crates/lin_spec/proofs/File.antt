@@ -9,7 +9,7 @@ use lib.ListN.{length, take, drop, length-append, length-drop}
 use lib.Seq.{take-append-le, take-append-add, take-nil}
 use lib.Dec.{eqb, ltb, leb}
 use borrow.Author.Tests.{lt-ltb, le-ltb, le-leb, lt-leb, ltb-true, ltb-false}
-use Rattle.lin_spec.specs.Base.{pick, null, ascii}
+use Rattle.lin_spec.specs.Base.{pick, any, keep, null, ascii}
 use Rattle.lin_spec.specs.Records.{span, endOf}
 use Rattle.lin_spec.specs.White.{blank, isCommand}
 use Rattle.lin_spec.specs.Tokens.{Pieces, cut, count, pipe, TokenOf}
@@ -168,18 +168,18 @@ few-cut : (at : ℕ) (x : List ℕ) → count pipe x ≤ 1 → placed at (cut pi
 few-cut at x h = few-placed at (cut pipe x) (rw (cuts-cut pipe x) h)
 
 count-take : (c m : ℕ) (x : List ℕ) → count c (take m x) ≤ count c x
-unfolding count
+unfolding keep
 count-take c zero [] = omega arith
 count-take c zero (b ∷ x) = omega arith
 count-take c (suc m) [] = omega arith
 count-take c (suc m) (b ∷ x) = go (eqb b c) (count-take c m x)
   where
-    go : (t : Bool) → count c (take m x) ≤ count c x → pick t (suc (count c (take m x))) (count c (take m x)) ≤ pick t (suc (count c x)) (count c x)
+    go : (t : Bool) → count c (take m x) ≤ count c x → length (pick t (b ∷ keep (λ d. eqb d c) (take m x)) (keep (λ d. eqb d c) (take m x))) ≤ length (pick t (b ∷ keep (λ d. eqb d c) x) (keep (λ d. eqb d c) x))
     go true h = omega arith
     go false h = h
 
 one-pipe : (x y : List ℕ) → count pipe x ≡ 0 → count pipe y ≡ 0 → count pipe (x ++ pipe ∷ y) ≡ 1
-unfolding count
+unfolding keep
 one-pipe x y h k = count-append pipe x (pipe ∷ y) ∙ simp (h, k)
 
 -- a text cut short within its first two pieces, and after them
@@ -347,7 +347,7 @@ all-remain s = go (holds (ascii "qx") (stream s 0)) refl
     go true e = unfold partsAt in simp (some-token (stream s 0) e)
       where
         some-token : (ts : List (TokenOf Span)) → holds (ascii "qx") ts ≡ true → null ts ≡ false
-        some-token [] h = absurd (false≢true (unfold holds in h))
+        some-token [] h = absurd (false≢true (unfold any in h))
         some-token (t ∷ ts) h = refl
     go false e = unfold linesAt in simp (le-ltb (length s) 0 (omega arith))
 

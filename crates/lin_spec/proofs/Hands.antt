@@ -11,7 +11,7 @@ use lib.ListN.{length, getD, set, take, drop, replicate, length-append, length-t
 use lib.Seq.{set-at, getD-at, append-snoc, take-all, take-suc, drop-drop, getD-drop}
 use lib.Dec.{eqb, leb}
 use borrow.Author.Tests.{ne-eqb, eqb-true, leb-true}
-use Rattle.lin_spec.specs.Base.{pick, All, ascii}
+use Rattle.lin_spec.specs.Base.{pick, All, ascii, keep}
 use Rattle.lin_spec.specs.White.{lower}
 use Rattle.lin_spec.specs.Tokens.{count}
 use Rattle.lin_spec.specs.Cards.{indexOf, suitOf, rankOf, noCards, sum, handFrom, readHand}
@@ -175,6 +175,6 @@ letters-hand h =
 
 -- so none of them is a byte outside
 pub letters-lack : (c : ℕ) → (Letter c → ⊥) → (s : List ℕ) → All Letter s → count c s ≡ 0
-unfolding count
+unfolding keep
 letters-lack c n [] h = refl
 letters-lack c n (b ∷ s) h = simp (ne-eqb b c (λ e. n (rw e at (h .0))), letters-lack c n s (h .1))

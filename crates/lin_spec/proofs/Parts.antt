@@ -9,7 +9,7 @@ use mathlib.Core.List.{List, [], _∷_, map}
 use lib.ListN.{length}
 use lib.Dec.{ltb}
 use borrow.Author.Tests.{lt-ltb}
-use Rattle.lin_spec.specs.Base.{pick, eqList, ascii}
+use Rattle.lin_spec.specs.Base.{pick, ascii, eqAll}
 use Rattle.lin_spec.specs.Records.{endOf}
 use Rattle.lin_spec.specs.White.{trim, lower, sameWord, isCommand}
 use Rattle.lin_spec.specs.Tokens.{TokenOf}
@@ -45,7 +45,7 @@ bounded s a [] e = partAt s a e ∷ []
 bounded s a (b ∷ bs) e = partAt s a b ∷ bounded s b bs e
 
 qx-leads : (c : List ℕ) → isCommand c (ascii "qx") ≡ true → leads c ≡ false
-unfolding isCommand sameWord eqList
+unfolding isCommand sameWord eqAll
 qx-leads c h = rw (eq-list (map lower (trim c)) (ascii "qx") h) refl
 
 -- the state of the definition against the numbers: Q gives the place of each token

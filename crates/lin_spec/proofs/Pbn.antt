@@ -33,7 +33,7 @@ use Rattle.lin_spec.specs.declared.MaybeResult.{MaybeResult}
 use Rattle.lin_spec.specs.declared.MaybeResult.the-variants.{Absent as NoResult, Tricks}
 use Rattle.lin_spec.specs.declared.Span.{Span}
 use Rattle.lin_spec.specs.declared.Verdict.the-variants.{Accepted}
-use Rattle.lin_spec.proofs.Base.{picked, or-none, and-left, and-right, allBelow, below}
+use Rattle.lin_spec.proofs.Base.{picked, or-none, and-left, and-right, allBelow, below, every, all-keep}
 use Rattle.lin_spec.proofs.White.{Visible}
 use Rattle.lin_spec.proofs.Reading.{board-eq}
 use Rattle.lin_spec.proofs.Clean.{Fit, Free, free-clean, free-name}
@@ -122,16 +122,13 @@ module _ (x : Pbn) (sound : badPbn x ≡ false) where
       none-any badEntry (x .plays) (or-none (any badCall (x .calls)) _ (or-none (badBoardNumber (x .board .number)) _ sound .1) .1)
 
   kept-cards : (cs : List ℕ) → All (λ (c : ℕ). badEntry c ≡ false) cs → All (λ (c : ℕ). c < 52) (keptCards cs)
-  unfolding keptCards
-  kept-cards [] h = tt
-  kept-cards (c ∷ cs) h =
-      picked (All (λ (d : ℕ). d < 52)) (eqb c gap) (λ _. kept-cards cs (h .1)) (λ e. (card e, kept-cards cs (h .1)))
+  kept-cards cs h = all-keep (λ (c : ℕ). badEntry c ≡ false) (λ (c : ℕ). c < 52) _ card cs h
     where
-      card : eqb c gap ≡ false → c < 52
-      card e = let l = ltb-false 51 c (go (ltb 51 c) (h .0)) in omega arith
+      card : (c : ℕ) → badEntry c ≡ false → not (eqb c gap) ≡ true → c < 52
+      card c h e = let l = ltb-false 51 c (go (ltb 51 c) h) in omega arith
         where
           go : (t : Bool) → (t && not (eqb c gap)) ≡ false → t ≡ false
-          go true k = absurd (false≢true (sym (sym (ap not e) ∙ k)))
+          go true k = absurd (false≢true (sym k ∙ e))
           go false k = refl
 
   claim-most : (r : MaybeResult) → Present (λ (n : ℕ). n ≤ 255) (claimFrom r)
@@ -208,10 +205,6 @@ option-each : {A : Type 0} (P : List ℕ → Type 0) (g : A → List ℕ) → ((
 option-each P g h none = tt
 option-each P g h (some a) = h a
 
-every : {A : Type 0} (P : A → Type 0) → ((a : A) → P a) → (xs : List A) → All P xs
-every P h [] = tt
-every P h (x ∷ xs) = (h x, every P h xs)
-
 map-each : {A : Type 0} (P : List ℕ → Type 0) (g : A → List ℕ) → ((a : A) → P (g a)) → (xs : List A) → All P (map g xs)
 map-each P g h [] = tt
 map-each P g h (x ∷ xs) = (h x, map-each P g h xs)
@@ -284,7 +277,7 @@ module _ (p q : ℕ) (f : Fit p q) (x : Pbn) (typed : PbnTyped x) (well : All (�
       go (some t) k = picked (Present Utf8) (null t) (λ _. tt) (λ _. k)
 
   names-utf8 : (ys : List MaybeSpan) → All W (nameSpans ys) → All Utf8 (map (nameBy p q (x .text)) ys)
-  unfolding nameSpans
+  unfolding concat
   names-utf8 [] h = tt
   names-utf8 (y ∷ ys) h = (
     utf8-name p q f (orEmpty (textBy (x .text) y)) (go (textBy (x .text) y) (text-utf8 y (all-left W (spanIn (optionOf y)) _ h))),
@@ -317,7 +310,7 @@ module _ (p q : ℕ) (f : Fit p q) (x : Pbn) (typed : PbnTyped x) (well : All (�
   room-utf8 l h = utf8-append (ascii "o") _ (by-ascii (ascii "o") refl) (utf8-append l _ h (utf8-append (ascii ",BOARD ") l (by-ascii (ascii ",BOARD ") refl) h))
 
   raw-utf8 : (cs : List PbnCall) → All W (rawSpans cs) → All (λ (c : PbnCall). Present (λ (t : List ℕ). Utf8 (clean p q t)) (annotationBy (x .text) (x .notes) (rawOf c))) cs
-  unfolding rawSpans
+  unfolding concat
   raw-utf8 [] h = tt
   raw-utf8 (c ∷ cs) h = (go (rawOf c) (all-left W (spanIn (rawOf c)) _ h), raw-utf8 cs (all-right W (spanIn (rawOf c)) _ h))
     where

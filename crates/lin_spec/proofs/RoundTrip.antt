@@ -11,7 +11,7 @@ use lib.ListN.{length, take, drop, length-append}
 use lib.Seq.{take-append-seam}
 use lib.Dec.{ltb}
 use borrow.Author.Tests.{lt-ltb}
-use Rattle.lin_spec.specs.Base.{pick, All, any, eqList, starts, concat, ascii}
+use Rattle.lin_spec.specs.Base.{pick, All, any, starts, concat, ascii, eqAll, keep}
 use Rattle.lin_spec.specs.Records.{span, endOf, part, bytesAt}
 use Rattle.lin_spec.specs.Utf8.{encode}
 use Rattle.lin_spec.specs.White.{isCommand, sameWord, lower, trim, trimEnd, trimStart, skipWhite, blank, whiteAt, front, whiteSpace}
@@ -115,19 +115,19 @@ pub record Lead (lead : List ℕ) : Type 0 where
   pub same : (w : List ℕ) → isCommand (lead ++ ascii "mn") w ≡ isCommand (ascii "mn") w
 
 none-lead : Lead []
-unfolding count
+unfolding keep
 none-lead = record { pipeless = refl; same = λ w. refl }
 
 lf-lead : Lead (ascii "\n")
-unfolding count isCommand trim trimEnd trimStart skipWhite blank whiteAt front whiteSpace encode starts
+unfolding keep isCommand trim trimEnd trimStart skipWhite blank whiteAt front whiteSpace encode starts
 lf-lead = record { pipeless = refl; same = λ w. refl }
 
 mn-facts : (isCommand (ascii "mn") (ascii "qx") ≡ false) × (leads (ascii "mn") ≡ true) × (isCommand (ascii "pn") (ascii "qx") ≡ false) × (leads (ascii "pn") ≡ true) × (isCommand (ascii "qx") (ascii "qx") ≡ true)
-unfolding isCommand sameWord lower trim trimEnd trimStart skipWhite blank whiteAt front whiteSpace encode starts eqList
+unfolding isCommand sameWord lower trim trimEnd trimStart skipWhite blank whiteAt front whiteSpace encode starts eqAll
 mn-facts = (refl, refl, refl, refl, refl)
 
 body-all : (p q : ℕ) (b : BoardOf (List ℕ)) → All (CommandOf Body) (bodyTokens p q b)
-unfolding isCommand sameWord lower trim trimEnd trimStart skipWhite blank whiteAt front whiteSpace encode starts eqList
+unfolding isCommand sameWord lower trim trimEnd trimStart skipWhite blank whiteAt front whiteSpace encode starts eqAll
 body-all p q b =
     body-commands p q Body (record {
       rh = (refl, refl);
@@ -186,7 +186,7 @@ module _ (p q : ℕ) (f : Fit p q) (b : BoardOf (List ℕ)) (v : Valid b) (lead 
 -- The board of a part
 
 holds-map : {A B : Type 0} (g : A → B) (w : List ℕ) (ts : List (TokenOf A)) → holds w (map (mapToken g) ts) ≡ holds w ts
-unfolding holds
+unfolding any
 holds-map g w [] = refl
 holds-map g w (token c v ∷ ts) = ap (λ (t : Bool). isCommand c w || t) (holds-map g w ts)
 
@@ -201,7 +201,7 @@ or-true true = refl
 or-true false = refl
 
 md-held : (p q : ℕ) (lead : List ℕ) (b : BoardOf (List ℕ)) → holds (ascii "md") (boardTokens p q lead b) ≡ true
-unfolding boardTokens bodyTokens holds isCommand sameWord lower trim trimEnd trimStart skipWhite blank whiteAt front whiteSpace encode starts eqList
+unfolding boardTokens bodyTokens any isCommand sameWord lower trim trimEnd trimStart skipWhite blank whiteAt front whiteSpace encode starts eqAll
 md-held p q lead b = ap (λ (t : Bool). isCommand (lead ++ ascii "mn") (ascii "md") || t) (go (b .header) _) ∙ or-true (isCommand (lead ++ ascii "mn") (ascii "md"))
   where
     go : (o : Option (List ℕ)) (ts : List Token) → holds (ascii "md") (headerTokens p q o ++ token (ascii "md") (mdText (b .dealt)) ∷ ts) ≡ true
@@ -280,7 +280,7 @@ stop-later lead i a =
 -- board i's part, and the parts after it
 read-part : (s : List ℕ) (i : Item) → Good i → (lead : List ℕ) → Lead lead → (a : ℕ) (y : List ℕ) → drop a s ≡ write (tokensOf lead i) y → (ps : List Section)
     → read s (partAt s a (stop a (tokensOf lead i)) ∷ ps) ≡ settle i ∷ read s ps
-unfolding boardsOf
+unfolding keep
 read-part s i h lead l a y d ps =
     let f = h .fit in
     let v = h .valid in
@@ -291,7 +291,7 @@ read-part s i h lead l a y d ps =
 found-from : (s : List ℕ) (is : List Item) → All Good is → (i : Item) → Good i → (lead : List ℕ) → Lead lead → (a : ℕ)
     → drop a s ≡ write (tokensOf lead i) (0x0A ∷ forms is) → drop (stop a (tokensOf lead i)) s ≡ 0x0A ∷ forms is
     → read s (partsFrom s a (stop a (tokensOf lead i)) (stop a (tokensOf lead i)) (stream s (stop a (tokensOf lead i)))) ≡ settle i ∷ map settle is
-unfolding forms concat partsFrom boardsOf
+unfolding forms concat partsFrom keep
 found-from s [] hs i h lead l a d r =
     let e = stop a (tokensOf lead i) in
     ap (λ (ts : List (TokenOf Span)). read s (partsFrom s a e e ts)) (few-tokens s e r) ∙ read-part s i h lead l a (0x0A ∷ forms []) d []
@@ -324,11 +324,11 @@ found-from s (j ∷ is) hs i h lead l a d r = go (found-from s is (hs .1) j (hs 
 -- The round trip
 
 qx-held : (p q : ℕ) (b : BoardOf (List ℕ)) (ts : List Token) → holds (ascii "qx") (boardTokens p q [] b ++ ts) ≡ true
-unfolding boardTokens holds isCommand sameWord lower trim trimEnd trimStart skipWhite blank whiteAt front whiteSpace encode starts eqList
+unfolding boardTokens any isCommand sameWord lower trim trimEnd trimStart skipWhite blank whiteAt front whiteSpace encode starts eqAll
 qx-held p q b ts = refl
 
 none-found : parseLinFile [] ≡ []
-unfolding parseLinFile sections boardsOf holds stream placed cut linesFrom blank trimStart skipWhite
+unfolding parseLinFile sections keep any stream placed cut linesFrom blank trimStart skipWhite
 none-found = refl
 
 sections-by : (s : List ℕ) → holds (ascii "qx") (stream s 0) ≡ true → sections s ≡ partsFrom s 0 0 0 (stream s 0)

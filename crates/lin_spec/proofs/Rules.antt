@@ -8,7 +8,7 @@ use mathlib.Core.Option.{Option, none, some}
 use lib.Dec.{eqb, leb}
 use native.Mathlib.Omega.{arith}
 use borrow.Author.Tests.{leb-true, le-leb, eqb-true}
-use Rattle.lin_spec.specs.Base.{pick, null, ascii}
+use Rattle.lin_spec.specs.Base.{pick, null, ascii, all}
 use Rattle.lin_spec.specs.White.{trim, isCommand}
 use Rattle.lin_spec.specs.Tokens.{cut, TokenOf}
 use Rattle.lin_spec.specs.Tokens.TokenOf.{token}
@@ -73,7 +73,7 @@ number-plain bound s t n a z d e w =
     simp (a, z, d, l, e)
 
 digit-no-plus : (t : List ℕ) → allDigits t ≡ true → afterPlus t ≡ t
-unfolding allDigits
+unfolding all
 digit-no-plus [] h = refl
 digit-no-plus (b ∷ t) h = go (eqb b 0x2B) refl
   where

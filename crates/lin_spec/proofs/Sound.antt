@@ -10,7 +10,7 @@ use mathlib.Core.Option.{Option, none, some}
 use lib.ListN.{length}
 use lib.Dec.{leb}
 use borrow.Author.Tests.{leb-true}
-use Rattle.lin_spec.specs.Base.{All, joinBy, ascii}
+use Rattle.lin_spec.specs.Base.{All, joinBy, ascii, all, keep}
 use Rattle.lin_spec.specs.Tokens.{pipe, count, Token, tokens, trailing, NoPipes}
 use Rattle.lin_spec.specs.Tokens.TokenOf.{token}
 use Rattle.lin_spec.specs.Decimal.{decimal}
@@ -53,7 +53,7 @@ unfolding visible allBelow
 card-visible c h = by-visible (cardLetters c) (below (λ n. visible (cardLetters n)) 52 refl c h)
 
 digits-visible : (s : List ℕ) → allDigits s ≡ true → All Visible s
-unfolding allDigits
+unfolding all
 digits-visible [] h = tt
 digits-visible (b ∷ s) h =
     let k = and-left (isDigit b) _ h in
@@ -108,7 +108,7 @@ pipeless-append : (x y : List ℕ) → Pipeless x → Pipeless y → Pipeless (x
 pipeless-append x y h k = count-append pipe x y ∙ omega arith
 
 pipeless-join : (xs : List (List ℕ)) → All Pipeless xs → Pipeless (joinBy (ascii ",") xs)
-unfolding joinBy count
+unfolding joinBy keep
 pipeless-join [] h = refl
 pipeless-join (x ∷ []) h = h .0
 pipeless-join (x ∷ y ∷ r) h = pipeless-append x _ (h .0) (pipeless-join (y ∷ r) (h .1))
@@ -126,7 +126,7 @@ module _ (p q : ℕ) (f : Fit p q) where
   pipeless-option (some s) = pipeless-clean s
 
   pipeless-calls : (cs : List (CallOf (List ℕ))) → All (λ (c : CallOf (List ℕ)). Pipeless (bidText p q c) × Present (λ (s : List ℕ). Pipeless (clean p q s)) (c .annotation)) cs
-  unfolding count
+  unfolding keep
   pipeless-calls [] = tt
   pipeless-calls (c ∷ cs) = (
     (pipeless-append (clean p q (c .bid)) _ (pipeless-clean (c .bid)) (picked Pipeless (c .alerted) (λ _. refl) (λ _. refl)), pipeless-option (c .annotation)),
@@ -140,7 +140,7 @@ module _ (p q : ℕ) (f : Fit p q) where
       (pipeless-join (map (cleanName p q) (b .names)) (pipeless-names (b .names))) (pipeless-clean (orEmpty (b .room))) (pipeless-option (b .header)) (pipeless-calls (b .calls)))
 
   pipeless-commands : (lead : List ℕ) (b : BoardOf (List ℕ)) → Pipeless lead → All (CommandOf Pipeless) (boardTokens p q lead b)
-  unfolding boardTokens count
+  unfolding boardTokens keep
   pipeless-commands lead b l = (
     pipeless-append lead (ascii "mn") l refl,
     (
@@ -162,7 +162,7 @@ module _ (p q : ℕ) (f : Fit p q) where
 
   -- so these are its tokens, and its trailing text is one LF
   pub written-reads : (b : BoardOf (List ℕ)) → Valid b → ReadsBack (boardTokens p q [] b) (ascii "\n") (written p q b)
-  unfolding count
+  unfolding keep
   written-reads b v =
       subst (ReadsBack (boardTokens p q [] b) (ascii "\n")) (sym (written-tokens p q b))
       (read-written (boardTokens p q [] b) (ascii "\n") (record { none = no-pipes [] b refl v; few = omega arith }))

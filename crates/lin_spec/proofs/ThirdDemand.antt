@@ -12,7 +12,7 @@ use lib.ListN.{length, take, drop, getD, length-append, length-take, length-drop
 use lib.Seq.{take-at}
 use lib.Dec.{ltb, leb}
 use borrow.Author.Tests.{ltb-false, le-ltb, lt-leb}
-use Rattle.lin_spec.specs.Base.{pick, All, any, concat}
+use Rattle.lin_spec.specs.Base.{pick, All, any, keep, countIf, concat}
 use Rattle.lin_spec.specs.Records.{bytesAt, limit}
 use Rattle.lin_spec.specs.Refusals.{Answer, refuseIf, unless, passesEnd, illSpan, sat}
 use Rattle.lin_spec.specs.Refusals.Answer.{refused, accepted}
@@ -22,12 +22,12 @@ use Rattle.lin_spec.specs.Board.{BoardOf, mapCall, mapBoard, EachText}
 use Rattle.lin_spec.specs.Lent.{Lent, lent, meaning, lentSpans, badNumber, lentChecks}
 use Rattle.lin_spec.specs.Append.{Filing, plain, writtenForm, settledForm, tooSmallAfter, extended, appended}
 use Rattle.lin_spec.specs.Reading.{headingOf, callWords, stored}
-use Rattle.lin_spec.specs.File.{section, boardIn, parseLinFile, fileSpans, countBoards, numbered, fileBoard, countIf}
+use Rattle.lin_spec.specs.File.{section, boardIn, parseLinFile, fileSpans, countBoards, numbered, fileBoard}
 use Rattle.lin_spec.specs.Log.{State, usedAfter, Event, event, events, final, usedBytes, Log, emptyLog, meets, entered, logOf, verdicts}
 use Rattle.lin_spec.specs.declared.Span.{Span}
 use Rattle.lin_spec.specs.declared.Refusal.{Refusal}
 use Rattle.lin_spec.specs.declared.Refusal.the-variants.{TextTooLong, SpanPastEnd, SpanNotUtf8, OutputTooSmall, OutOfRange}
-use Rattle.lin_spec.proofs.Base.{or-none, all-append}
+use Rattle.lin_spec.proofs.Base.{or-none, all-append, count-cons}
 use Rattle.lin_spec.proofs.Checks.{unless-same}
 use Rattle.lin_spec.proofs.FileMeaning.{file-out}
 use Rattle.lin_spec.specs.ThirdDemand.{Typed, accepts, Stays, Gives, Kept, ThirdDemand}
@@ -247,7 +247,7 @@ module _ (rm : ℕ) (st : State) (k : Log) (h : Same rm st k) (f : Filing) where
           ∙ ap (λ (t : Bool). length (k .boards) + pick t (n + 1) n) (sym (decides-event ∙ ap not e))
 
 follow : (rm : ℕ) (fs : List Filing) → All Allowed fs → (st : State) (k : Log) → Same rm st k → Filed k → Followed rm st k fs
-unfolding final events logOf verdicts countIf
+unfolding final events logOf verdicts keep
 follow rm [] a st k h p = record { same = h; filed = p; stays = tt; decided = refl; many = omega arith }
 follow rm (f ∷ fs) a st k h p =
     let w = follow rm fs (a .1) (event st f .next) (entered rm k f) (kept rm st k h f) (filed-entered rm st k h f p (a .0)) in
@@ -256,7 +256,7 @@ follow rm (f ∷ fs) a st k h p =
       filed = w .filed;
       stays = (refuses rm st k h f, w .stays);
       decided = (let z = decides-event rm st k h f in let v = w .decided in λ i. z i ∷ v i);
-      many = w .many ∙ more rm st k h f (countIf took (events (event st f .next) fs));
+      many = w .many ∙ more rm st k h f (countIf took (events (event st f .next) fs)) ∙ ap (λ (n : ℕ). length (k .boards) + n) (sym (count-cons took (event st f) (events (event st f .next) fs)));
     }
 
 -- What the file reader finds

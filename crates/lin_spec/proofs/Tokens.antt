@@ -9,7 +9,7 @@ use mathlib.Core.List.{List, [], _∷_, _++_, append-assoc, append-nil}
 use lib.ListN.{length, getD}
 use lib.Dec.{eqb}
 use borrow.Author.Tests.{eq-eqb, ne-eqb, eqb-true}
-use Rattle.lin_spec.specs.Base.{pick}
+use Rattle.lin_spec.specs.Base.{pick, keep}
 use Rattle.lin_spec.specs.Tokens.{Pieces, Token, cut, push, count, paired, left, tokens, trailing, write, NoPipes, pipe}
 use Rattle.lin_spec.specs.Tokens.Pieces.{end, piece}
 use Rattle.lin_spec.specs.Tokens.TokenOf.{token}
@@ -42,7 +42,7 @@ cuts-push b (end x) = refl
 cuts-push b (piece x r) = refl
 
 whole-push : (c b : ℕ) (p : Pieces) → eqb b c ≡ false → Whole c p → Whole c (push b p)
-unfolding Whole count
+unfolding Whole keep
 whole-push c b (end x) e h = simp e h
 whole-push c b (piece x r) e h = (simp e (h .0), h .1)
 
@@ -57,7 +57,7 @@ joined-cut c (b ∷ s) = go (eqb b c) refl (joined-cut c s)
     go false e ih = simp (e, joined-push, ih)
 
 pub whole-cut : (c : ℕ) (s : List ℕ) → Whole c (cut c s)
-unfolding Whole cut count
+unfolding Whole cut keep
 whole-cut c [] = refl
 whole-cut c (b ∷ s) = go (eqb b c) refl (whole-cut c s)
   where
@@ -66,7 +66,7 @@ whole-cut c (b ∷ s) = go (eqb b c) refl (whole-cut c s)
     go false e ih = simp e (whole-push c b (cut c s) e ih)
 
 pub cuts-cut : (c : ℕ) (s : List ℕ) → cuts (cut c s) ≡ count c s
-unfolding cuts cut count
+unfolding cuts cut keep
 cuts-cut c [] = refl
 cuts-cut c (b ∷ s) = go (eqb b c) refl (cuts-cut c s)
   where
@@ -76,7 +76,7 @@ cuts-cut c (b ∷ s) = go (eqb b c) refl (cuts-cut c s)
 
 -- a text with no c, then a c, is cut there
 pub cut-piece : (c : ℕ) (x t : List ℕ) → count c x ≡ 0 → cut c (x ++ c ∷ t) ≡ piece x (cut c t)
-unfolding cut count
+unfolding cut keep
 cut-piece c [] t h = simp (eq-eqb c c refl)
 cut-piece c (b ∷ x) t h = go (eqb b c) refl (cut-piece c x t)
   where
@@ -87,7 +87,7 @@ cut-piece c (b ∷ x) t h = go (eqb b c) refl (cut-piece c x t)
 
 -- a text without a c is one piece
 pub cut-none : (c : ℕ) (x : List ℕ) → count c x ≡ 0 → cut c x ≡ end x
-unfolding cut count
+unfolding cut keep
 cut-none c [] h = refl
 cut-none c (b ∷ x) h = go (eqb b c) refl (cut-none c x)
   where
@@ -192,17 +192,17 @@ paired-no-pipes (piece x (end y)) h = tt
 paired-no-pipes (piece x (piece y r)) h = (h .0, h .1 .0, paired-no-pipes r (h .1 .1))
 
 pub count-append : (c : ℕ) (x y : List ℕ) → count c (x ++ y) ≡ count c x + count c y
-unfolding count
+unfolding keep
 count-append c [] y = omega arith
 count-append c (b ∷ x) y = go (eqb b c) (count-append c x y)
   where
     go : (t : Bool) → count c (x ++ y) ≡ count c x + count c y
-        → pick t (suc (count c (x ++ y))) (count c (x ++ y)) ≡ pick t (suc (count c x)) (count c x) + count c y
+        → length (pick t (b ∷ keep (λ d. eqb d c) (x ++ y)) (keep (λ d. eqb d c) (x ++ y))) ≡ length (pick t (b ∷ keep (λ d. eqb d c) x) (keep (λ d. eqb d c) x)) + count c y
     go true ih = omega arith
     go false ih = ih
 
 left-few : (p : Pieces) → Whole pipe p → count pipe (left p) ≤ 1
-unfolding Whole left count
+unfolding Whole left keep
 left-few (end x) h = omega arith
 left-few (piece x (end y)) h = omega (arith, h .0, h .1, count-append pipe x (pipe ∷ y))
 left-few (piece x (piece y r)) h = left-few r (h .1 .1)

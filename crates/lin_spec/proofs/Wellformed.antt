@@ -3,12 +3,12 @@
 use Prim.Native.Nat.{ℕ, _+_}
 use native.Mathlib.Omega.{arith}
 use mathlib.Core.Path.{_≡_, refl, ap, sym, _∙_}
-use mathlib.Core.Bool.{Bool, true, false, _&&_, _||_}
+use mathlib.Core.Bool.{Bool, true, false, _&&_, _||_, not}
 use mathlib.Core.List.{List, [], _∷_, _++_, map, append-assoc}
 use mathlib.Core.Option.{Option, none, some}
 use lib.Dec.{eqb}
-use borrow.Author.Tests.{eqb-true}
-use Rattle.lin_spec.specs.Base.{All, joinBy, concat, ascii}
+use borrow.Author.Tests.{eqb-true, not-false}
+use Rattle.lin_spec.specs.Base.{All, joinBy, concat, ascii, keep}
 use Rattle.lin_spec.specs.Utf8.{utf8, utf, utfStep, first}
 use Rattle.lin_spec.specs.Tokens.{pipe, Token, write}
 use Rattle.lin_spec.specs.Tokens.TokenOf.{token}
@@ -66,14 +66,14 @@ module _ (p q : ℕ) (f : Fit p q) where
 
   -- nor does a byte of ASCII that is left out
   without-utf8 : (c : ℕ) → Ascii c → (s x : List ℕ) → Utf8 (x ++ s) → Utf8 (x ++ without c s)
-  unfolding without
+  unfolding keep
   without-utf8 c k [] x h = h
   without-utf8 c k (b ∷ s) x h =
-      picked (λ (t : List ℕ). Utf8 (x ++ t)) (eqb b c)
-      (λ e.
-      let g : (utf8 x && utf8 s) ≡ true = sym (utf8-cut x c s k) ∙ ap (λ (d : ℕ). utf8 (x ++ d ∷ s)) (sym (eqb-true b c e)) ∙ h in
-      utf8-append x (without c s) (and-left (utf8 x) (utf8 s) g) (without-utf8 c k s [] (and-right (utf8 x) (utf8 s) g)))
+      picked (λ (t : List ℕ). Utf8 (x ++ t)) (not (eqb b c))
       (λ _. ap utf8 (sym (append-assoc x (b ∷ []) (without c s))) ∙ without-utf8 c k s (x ++ b ∷ []) (ap utf8 (append-assoc x (b ∷ []) s) ∙ h))
+      (λ e.
+      let g : (utf8 x && utf8 s) ≡ true = sym (utf8-cut x c s k) ∙ ap (λ (d : ℕ). utf8 (x ++ d ∷ s)) (sym (eqb-true b c (not-false _ e))) ∙ h in
+      utf8-append x (without c s) (and-left (utf8 x) (utf8 s) g) (without-utf8 c k s [] (and-right (utf8 x) (utf8 s) g)))
 
   pub utf8-name : (s : List ℕ) → Utf8 s → Utf8 (cleanName p q s)
   utf8-name s h = without-utf8 0x2C (omega arith) (clean p q s) [] (utf8-clean s h)

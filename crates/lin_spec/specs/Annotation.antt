@@ -2,11 +2,11 @@
 use Prim.Native.Nat.{ℕ, zero, suc, _+_, _-_, _*_, min}
 use Prim.Native.Char.{code}
 use mathlib.Core.Bool.{Bool, _&&_, _||_, not}
-use mathlib.Core.List.{List, [], _∷_}
+use mathlib.Core.List.{List, [], _∷_, map}
 use mathlib.Core.Option.{Option, none, some}
 use lib.ListN.{length, take, drop, getD}
 use lib.Dec.{eqb}
-use Rattle.lin_spec.specs.Base.{pick, null, eqList, starts, joinBy, ascii}
+use Rattle.lin_spec.specs.Base.{pick, keep, null, eqList, starts, joinBy, ascii}
 use Rattle.lin_spec.specs.Records.{span, bytesAt}
 use Rattle.lin_spec.specs.Utf8.{Utf, first}
 use Rattle.lin_spec.specs.Utf8.Utf.{whole, needs, ill}
@@ -89,9 +89,8 @@ unfoldable pub partWord : (s notes part : List ℕ) → List ℕ
 partWord s ws p = pick (isClosed p) (noteWord s ws p (numberIn 255 (between p))) (pick (eqb (run isMark p) (length p)) p (nagWord p))
 
 -- "others and empty words go"
-unfoldable pub wordsOf : (s notes : List ℕ) → List (List ℕ) → List (List ℕ)
-wordsOf s ws [] = []
-wordsOf s ws (p ∷ ps) = let w = partWord s ws p in pick (null w) (wordsOf s ws ps) (w ∷ wordsOf s ws ps)
+abbrev pub wordsOf : (s notes : List ℕ) → List (List ℕ) → List (List ℕ)
+wordsOf s ws ps = keep (λ (w : List ℕ). not (null w)) (map (partWord s ws) ps)
 
 -- "Words join with a space, none means absent."
 abbrev pub joinedWords : List (List ℕ) → Option (List ℕ)

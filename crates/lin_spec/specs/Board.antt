@@ -5,7 +5,7 @@ use mathlib.Core.List.{List, [], _∷_, _++_, map}
 use mathlib.Core.Option.{Option, none, some}
 use lib.ListN.{length, replicate}
 use lib.Dec.{eqb, leb}
-use Rattle.lin_spec.specs.Base.{pick, All, null, ascii}
+use Rattle.lin_spec.specs.Base.{pick, All, all, null, ascii}
 use Rattle.lin_spec.specs.White.{trim, sameWord, isCommand}
 use Rattle.lin_spec.specs.Tokens.{Pieces, cut, TokenOf}
 use Rattle.lin_spec.specs.Tokens.Pieces.{end, piece}
@@ -83,9 +83,8 @@ endsIn c [] = false
 endsIn c (b ∷ []) = eqb b c
 endsIn c (b ∷ d ∷ s) = endsIn c (d ∷ s)
 
-unfoldable pub only : (c : ℕ) → List ℕ → Bool
-only c [] = true
-only c (b ∷ s) = eqb b c && only c s
+abbrev pub only : (c : ℕ) → List ℕ → Bool
+only c s = all (λ (b : ℕ). eqb b c) s
 
 -- "all trailing `!` removed, nothing trimmed"
 unfoldable pub withoutEnd : (c : ℕ) → List ℕ → List ℕ
@@ -116,9 +115,8 @@ played (some c) cs = cs ++ (c ∷ [])
 abbrev pub isDigit : ℕ → Bool
 isDigit b = leb 0x30 b && leb b 0x39
 
-unfoldable pub allDigits : List ℕ → Bool
-allDigits [] = true
-allDigits (b ∷ s) = isDigit b && allDigits s
+abbrev pub allDigits : List ℕ → Bool
+allDigits s = all isDigit s
 
 -- the number that digits give, after those that give n
 unfoldable pub valueFrom : (n : ℕ) → List ℕ → ℕ

@@ -4,7 +4,7 @@ use mathlib.Core.Bool.{Bool, true, false, _&&_, _||_}
 use mathlib.Core.List.{List, [], _∷_}
 use mathlib.Core.Option.{Option, none, some}
 use lib.Dec.{eqb}
-use Rattle.lin_spec.specs.Base.{eqList}
+use Rattle.lin_spec.specs.Base.{eqAll, eqList}
 use Rattle.lin_spec.specs.Refusals.{Answer, refuseIf, unless, tooLong, pastEnd, spanNotUtf8}
 use Rattle.lin_spec.specs.Refusals.Answer.{refused, accepted}
 use Rattle.lin_spec.specs.Letters.{seatNumber, svLetter, handAt}
@@ -22,13 +22,7 @@ equalityOf Equal = accepted true
 equalityOf Different = accepted false
 equalityOf (Refused r) = refused r
 
--- lists and options are equal when their elements are
-unfoldable pub eqAll : {A : Type 0} → (A → A → Bool) → List A → List A → Bool
-eqAll f [] [] = true
-eqAll f [] (b ∷ t) = false
-eqAll f (a ∷ s) [] = false
-eqAll f (a ∷ s) (b ∷ t) = f a b && eqAll f s t
-
+-- options are equal when their elements are
 abbrev pub eqOption : {A : Type 0} → (A → A → Bool) → Option A → Option A → Bool
 eqOption f none none = true
 eqOption f none (some b) = false

@@ -5,7 +5,7 @@ use mathlib.Core.List.{List, [], _∷_, map}
 use mathlib.Core.Option.{Option}
 use lib.ListN.{length, take, drop, getD}
 use lib.Dec.{ltb, leb}
-use Rattle.lin_spec.specs.Base.{pick, any, null, eqList, ascii}
+use Rattle.lin_spec.specs.Base.{pick, any, keep, countIf, null, eqList, ascii}
 use Rattle.lin_spec.specs.Records.{endOf, part, bytesAt}
 use Rattle.lin_spec.specs.White.{blank, isCommand}
 use Rattle.lin_spec.specs.Tokens.{Pieces, cut, TokenOf}
@@ -35,10 +35,12 @@ tokensIn s a e = stream (take e s) a
 unfoldable pub boardIn : (s : List ℕ) → Section → BoardOf Span
 boardIn s p = boardFrom (spanText (take (p .stop) s)) (tokensIn s (p .start) (p .stop))
 
--- some token has the command w
-unfoldable pub holds : {A : Type 0} → (w : List ℕ) → List (TokenOf A) → Bool
-holds w [] = false
-holds w (token c v ∷ ts) = isCommand c w || holds w ts
+-- a token has the command w, and some token has
+abbrev pub has : {A : Type 0} → (w : List ℕ) → TokenOf A → Bool
+has w (token c v) = isCommand c w
+
+abbrev pub holds : {A : Type 0} → (w : List ℕ) → List (TokenOf A) → Bool
+holds w ts = any (has w) ts
 
 -- "mn and pn tokens"
 abbrev pub leads : (command : List ℕ) → Bool
@@ -67,9 +69,8 @@ linesFrom at (piece x r) = section at (at + length x) (not (blank x)) ∷ linesF
 unfoldable pub sections : List ℕ → List Section
 sections s = let ts = stream s 0 in pick (holds (ascii "qx") ts) (partsFrom s 0 0 0 ts) (linesFrom 0 (cut 0x0A s))
 
-unfoldable pub boardsOf : List Section → List Section
-boardsOf [] = []
-boardsOf (p ∷ ps) = pick (p .board) (p ∷ boardsOf ps) (boardsOf ps)
+abbrev pub boardsOf : List Section → List Section
+boardsOf ps = keep (λ (p : Section). p .board) ps
 
 -- A board cursor stands at a place where a part or a line begins, and keeps the number of the next board.
 pub record Standing : Type 0 where
@@ -137,10 +138,6 @@ sameName a b = eqList a b
 -- "at any seat"
 abbrev pub hasName : (s name : List ℕ) → BoardOf Span → Bool
 hasName s name b = any (λ x. sameName (bytesAt s x) name) (b .names)
-
-unfoldable pub countIf : {A : Type 0} → (A → Bool) → List A → ℕ
-countIf f [] = 0
-countIf f (a ∷ s) = pick (f a) (countIf f s + 1) (countIf f s)
 
 -- "the finder counts a file's boards with a given name, a second text checked after the file"
 unfoldable pub findName : (s name : List ℕ) → Answer ℕ

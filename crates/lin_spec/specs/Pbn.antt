@@ -7,7 +7,7 @@ use mathlib.Core.Option.{Option, none, some}
 use lib.ListN.{length, getD}
 use lib.IntN.ℤ.{pos, negsuc}
 use lib.Dec.{eqb, ltb, leb}
-use Rattle.lin_spec.specs.Base.{pick, any, concat, ascii}
+use Rattle.lin_spec.specs.Base.{pick, any, keep, concat, ascii}
 use Rattle.lin_spec.specs.Records.{span, bytesAt, optionOf}
 use Rattle.lin_spec.specs.Refusals.{Answer, refuseIf, unless, tooLong, pastEnd, spanNotUtf8, tooSmall}
 use Rattle.lin_spec.specs.Refusals.Answer.{refused, accepted}
@@ -123,9 +123,8 @@ module _ (p q : ℕ) (s notes : List ℕ) where
   keptCalls (c ∷ cs) = keptBy (bidOf c) c (keptCalls cs)
 
 -- "continue, blank and gaps are dropped"
-unfoldable pub keptCards : List ℕ → List ℕ
-keptCards [] = []
-keptCards (c ∷ cs) = pick (eqb c gap) (keptCards cs) (c ∷ keptCards cs)
+abbrev pub keptCards : List ℕ → List ℕ
+keptCards cs = keep (λ (c : ℕ). not (eqb c gap)) cs
 
 -- `from_board`: "Title, label and dealer as in `from_board`; names, title, room-and-board, header and annotations are cleaned."
 unfoldable pub fromBoard : (p q : ℕ) → Pbn → BoardOf (List ℕ)
@@ -204,13 +203,11 @@ unfoldable pub badPbn : Pbn → Bool
 badPbn x = badBoardNumber (x .board .number) || (any badCall (x .calls) || any badEntry (x .plays))
 
 -- the spans of the whole input, unused notes and dropped calls too
-unfoldable pub rawSpans : List PbnCall → List Span
-rawSpans [] = []
-rawSpans (c ∷ cs) = spanIn (rawOf c) ++ rawSpans cs
+abbrev pub rawSpans : List PbnCall → List Span
+rawSpans cs = concat (map (λ (c : PbnCall). spanIn (rawOf c)) cs)
 
-unfoldable pub nameSpans : List MaybeSpan → List Span
-nameSpans [] = []
-nameSpans (x ∷ xs) = spanIn (optionOf x) ++ nameSpans xs
+abbrev pub nameSpans : List MaybeSpan → List Span
+nameSpans xs = concat (map (λ (x : MaybeSpan). spanIn (optionOf x)) xs)
 
 unfoldable pub pbnSpans : Pbn → List Span
 pbnSpans x =

@@ -4,13 +4,13 @@ use mathlib.Core.Path.{_≡_}
 use mathlib.Core.Bool.{Bool, true, false}
 use mathlib.Core.List.{List, map}
 use lib.ListN.{length, take, getD}
-use Rattle.lin_spec.specs.Base.{All}
+use Rattle.lin_spec.specs.Base.{All, countIf}
 use Rattle.lin_spec.specs.Refusals.{Answer}
 use Rattle.lin_spec.specs.Refusals.Answer.{refused, accepted}
 use Rattle.lin_spec.specs.Output.{room}
 use Rattle.lin_spec.specs.Board.{BoardOf, Present}
 use Rattle.lin_spec.specs.Reading.{Reading}
-use Rattle.lin_spec.specs.File.{countBoards, fileBoard, countIf}
+use Rattle.lin_spec.specs.File.{countBoards, fileBoard}
 use Rattle.lin_spec.specs.Lent.{Lent, lent, claimOf, meaning}
 use Rattle.lin_spec.specs.Append.{Filing, plain}
 use Rattle.lin_spec.specs.Log.{State, Event, events, final, usedBytes, Log, emptyLog, logOf, verdicts}

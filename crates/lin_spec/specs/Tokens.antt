@@ -4,7 +4,7 @@ use mathlib.Core.Path.{_≡_}
 use mathlib.Core.Bool.{Bool, true, false}
 use mathlib.Core.List.{List, [], _∷_, _++_}
 use lib.Dec.{eqb}
-use Rattle.lin_spec.specs.Base.{pick, ascii}
+use Rattle.lin_spec.specs.Base.{pick, countIf, ascii}
 
 -- "pipes (`|`)"
 abbrev pub pipe : ℕ
@@ -25,9 +25,8 @@ cut c [] = end []
 cut c (b ∷ s) = pick (eqb b c) (piece [] (cut c s)) (push b (cut c s))
 
 -- how many bytes c there are
-unfoldable pub count : (c : ℕ) → List ℕ → ℕ
-count c [] = 0
-count c (b ∷ s) = pick (eqb b c) (suc (count c s)) (count c s)
+abbrev pub count : (c : ℕ) → List ℕ → ℕ
+count c s = countIf (λ (b : ℕ). eqb b c) s
 
 -- a command with its value; A is the type of the value: the bytes, or a span of them
 pub data TokenOf (A : Type 0) : Type 0 where

@@ -6,7 +6,7 @@ use mathlib.Core.List.{List, [], _∷_, _++_, map}
 use mathlib.Core.Option.{Option, none, some}
 use lib.ListN.{getD, replicate}
 use lib.Dec.{eqb}
-use Rattle.lin_spec.specs.Base.{pick, null, concat, joinBy, ascii}
+use Rattle.lin_spec.specs.Base.{pick, keep, null, concat, joinBy, ascii}
 use Rattle.lin_spec.specs.Tokens.{pipe}
 use Rattle.lin_spec.specs.Cards.{sum, remainder, thirteens}
 use Rattle.lin_spec.specs.Decimal.{decimal}
@@ -21,9 +21,8 @@ clean p q [] = []
 clean p q (b ∷ s) = pick (eqb b pipe) p (pick (eqb b 0x0D || eqb b 0x0A) q b) ∷ clean p q s
 
 -- "names then lose commas"
-unfoldable pub without : (c : ℕ) → List ℕ → List ℕ
-without c [] = []
-without c (b ∷ s) = pick (eqb b c) (without c s) (b ∷ without c s)
+abbrev pub without : (c : ℕ) → List ℕ → List ℕ
+without c s = keep (λ (b : ℕ). not (eqb b c)) s
 
 abbrev pub cleanName : (p q : ℕ) → List ℕ → List ℕ
 cleanName p q s = without 0x2C (clean p q s)
@@ -90,9 +89,8 @@ unfoldable pub callText : (p q : ℕ) → CallOf (List ℕ) → List ℕ
 callText p q c =
     ascii "mb|" ++ (clean p q (c .bid) ++ (pick (c .alerted) (ascii "!") [] ++ (ascii "|" ++ optional (ascii "an|") (mapOption (clean p q) (c .annotation)))))
 
-unfoldable pub callsText : (p q : ℕ) → List (CallOf (List ℕ)) → List ℕ
-callsText p q [] = []
-callsText p q (c ∷ cs) = callText p q c ++ callsText p q cs
+abbrev pub callsText : (p q : ℕ) → List (CallOf (List ℕ)) → List ℕ
+callsText p q cs = concat (map (callText p q) cs)
 
 -- a card's letters, and `pc`
 abbrev pub cardLetters : ℕ → List ℕ

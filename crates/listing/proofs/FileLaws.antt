@@ -8,6 +8,7 @@ use mathlib.Core.List.{List, [], _∷_, _++_, map}
 use mathlib.Core.Option.{Option}
 use lib.ListN.{length, take, length-append}
 use borrow.Author.Tests.{le-ltb, lt-ltb}
+use Rattle.lin_spec.specs.Base.{keep}
 use Rattle.lin_spec.specs.Records.{limit}
 use Rattle.lin_spec.specs.Refusals.{unless, tooLong, notUtf8, sat}
 use Rattle.lin_spec.specs.Refusals.Answer.{refused, accepted}
@@ -83,11 +84,11 @@ unfolding fileSpans
 rest-begin s c r = ap (rest s) (r .first) ∙ ap (λ (l : List Part). boardLines 0 (map (boardIn s) (boardsOf l))) (all-remain s)
 
 pub rest-end : (s : List ℕ) (c : Standing) → remaining s c ≡ [] → rest s c ≡ []
-unfolding boardsOf boardLines
+unfolding keep boardLines
 rest-end s c e = ap (λ (l : List Part). boardLines (c .number) (map (boardIn s) (boardsOf l))) e
 
 pub rest-on : (s : List ℕ) (c : Standing) → Way s c → (n : ℕ) (p : Part) (d : Standing) → Found s c n p d → rest s c ≡ sectionLine s n p ++ rest s d
-unfolding boardsOf boardLines
+unfolding keep boardLines
 rest-on s c w n p d f = ap (λ (l : List Part). boardLines (c .number) (map (boardIn s) (boardsOf l))) (f .front) ∙ go (p .board) refl
   where
     go : (t : Bool) → p .board ≡ t → boardLines (c .number) (map (boardIn s) (boardsOf (p ∷ remaining s d))) ≡ sectionLine s n p ++ rest s d

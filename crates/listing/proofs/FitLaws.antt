@@ -10,7 +10,7 @@ use mathlib.Core.Option.{Option, none, some}
 use lib.ListN.{length, take, drop, length-append, length-take, length-drop}
 use lib.Dec.{eqb, ltb}
 use borrow.Author.Tests.{le-ltb}
-use Rattle.lin_spec.specs.Base.{pick, null, ascii}
+use Rattle.lin_spec.specs.Base.{pick, null, ascii, any}
 use Rattle.lin_spec.specs.Records.{span, part}
 use Rattle.lin_spec.specs.Utf8.{utf8, longest}
 use Rattle.lin_spec.specs.White.{skipWhite, trimStart, blank, trim, isCommand}
@@ -260,7 +260,7 @@ module _ (s : List ℕ) (p : Section) (n : ℕ) (l : length (drop (p .start) (ta
 
 -- a text of tokens has two bytes at least
 two-bytes : (at : ℕ) (p : Pieces) → holds (ascii "md") (placed at p) ≡ true → 2 ≤ length (joined pipe p)
-unfolding holds placed joined
+unfolding any placed joined
 two-bytes at (end x) h = absurd (false≢true h)
 two-bytes at (piece x (end y)) h = absurd (false≢true h)
 two-bytes at (piece x (piece y r)) h = let q : length (x ++ pipe ∷ (y ++ pipe ∷ joined pipe r)) ≡ length x + suc (length y + suc (length (joined pipe r))) = simp length-append in omega arith

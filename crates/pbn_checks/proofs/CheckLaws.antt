@@ -8,7 +8,7 @@ use mathlib.Core.Option.{Option, none, some}
 use lib.ListN.{length}
 use lib.Dec.{eqb, ltb}
 use borrow.Author.Tests.{lt-ltb, le-ltb, eq-eqb, ne-eqb}
-use Rattle.lin_spec.specs.Base.{pick, any}
+use Rattle.lin_spec.specs.Base.{pick, any, concat}
 use Rattle.lin_spec.specs.Records.{limit, optionOf}
 use Rattle.lin_spec.specs.Refusals.{Answer, refuseIf, unless, passesEnd, illSpan}
 use Rattle.lin_spec.specs.Refusals.Answer.{refused, accepted}
@@ -35,12 +35,12 @@ any-append f (a ∷ x) y = ap (λ (t : Bool). f a || t) (any-append f x y) ∙ s
 
 -- the spans of the calls and of the names, call by call and name by name
 pub raws-any : (f : Span → Bool) (cs : List PbnCall) → any f (rawSpans cs) ≡ any (λ c. any f (spanIn (rawOf c))) cs
-unfolding rawSpans any
+unfolding concat any
 raws-any f [] = refl
 raws-any f (c ∷ cs) = any-append f (spanIn (rawOf c)) (rawSpans cs) ∙ ap (λ (t : Bool). any f (spanIn (rawOf c)) || t) (raws-any f cs)
 
 pub names-any : (f : Span → Bool) (xs : List MaybeSpan) → any f (nameSpans xs) ≡ any (λ x. any f (spanIn (optionOf x))) xs
-unfolding nameSpans any
+unfolding concat any
 names-any f [] = refl
 names-any f (x ∷ xs) = any-append f (spanIn (optionOf x)) (nameSpans xs) ∙ ap (λ (t : Bool). any f (spanIn (optionOf x)) || t) (names-any f xs)
 

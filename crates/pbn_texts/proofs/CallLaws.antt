@@ -11,14 +11,14 @@ use lib.ListN.{length, getD, drop, drop-of-length-le, length-append}
 use lib.Seq.{drop-cons}
 use lib.Dec.{eqb, ltb}
 use borrow.Author.Tests.{eq-eqb, ne-eqb, eqb-false, ltb-false}
-use Rattle.lin_spec.specs.Base.{pick, any, ascii}
+use Rattle.lin_spec.specs.Base.{pick, any, keep, ascii}
 use Rattle.lin_spec.specs.Refusals.{sat}
 use Rattle.lin_spec.specs.Records.{bytesAt}
 use Rattle.lin_spec.specs.Writer.{orEmpty}
 use Rattle.lin_spec.specs.Annotation.{annotationText}
 use Rattle.lin_spec.specs.Pbn.{gap, pbnRow, pbnRows, keptCards, badCall}
 use Rattle.lin_spec.specs.declared.PbnCall.{PbnCall}
-use Rattle.lin_spec.proofs.Base.{picked, or-none}
+use Rattle.lin_spec.proofs.Base.{picked, or-none, keep-cons}
 use Rattle.output.specs.Put.{Room}
 use Rattle.output.proofs.Laws.{Left, start}
 use Rattle.lent.specs.Calls.{rowAt}
@@ -33,20 +33,12 @@ card-gap b e = simp (eq-eqb b 255 e)
 pub card-kept : (b : ℕ) → (b ≡ 255 → ⊥) → keptLetter b ≡ b ∷ []
 card-kept b e = simp (ne-eqb b 255 e)
 
-cards-cons : (b : ℕ) (s : List ℕ) → keptCards (b ∷ s) ≡ keptLetter b ++ keptCards s
-unfolding keptCards
-cards-cons b s = go (eqb b gap)
-  where
-    go : (t : Bool) → pick t (keptCards s) (b ∷ keptCards s) ≡ pick t [] (b ∷ []) ++ keptCards s
-    go true = refl
-    go false = refl
-
 module _ (ps : List ℕ) (i : ℕ) where
   cards-from : i < length ps → keptCards (drop i ps) ≡ keptLetter (getD ps i 0) ++ keptCards (drop (i + 1) ps)
-  cards-from h = rw (add-one i, drop-cons ps i 0 h) (cards-cons (getD ps i 0) (drop (suc i) ps))
+  cards-from h = rw (add-one i, drop-cons ps i 0 h) (keep-cons (λ (b : ℕ). not (eqb b gap)) (getD ps i 0) (drop (suc i) ps))
 
   pub cards-end : length ps ≤ i → keptCards (drop i ps) ≡ []
-  unfolding keptCards
+  unfolding keep
   cards-end h = rw (drop-of-length-le ps h) refl
 
   pub cards-count : i < length ps → length (keptCards (drop i ps)) ≡ length (keptLetter (getD ps i 0)) + length (keptCards (drop (i + 1) ps))

@@ -4,24 +4,25 @@ use Prim.Native.Nat.{ℕ, suc, _+_, _≤_}
 use native.Mathlib.Nat.{zero-add}
 use native.Mathlib.Omega.{arith}
 use mathlib.Core.Path.{_≡_, refl, ap, sym, _∙_}
-use mathlib.Core.Bool.{Bool, true, false}
+use mathlib.Core.Bool.{not}
 use mathlib.Core.List.{List, [], _∷_, _++_, map, append-nil}
 use lib.ListN.{length, drop, length-take, length-drop, length-append}
 use lib.Dec.{eqb}
-use Rattle.lin_spec.specs.Base.{pick, concat}
+use Rattle.lin_spec.specs.Base.{keep, concat}
 use Rattle.lin_spec.specs.Records.{span, part, bytesAt}
-use Rattle.lin_spec.specs.Writer.{clean, without, cleanName}
+use Rattle.lin_spec.specs.Writer.{clean, cleanName}
 use Rattle.lin_spec.specs.Pbn.{nameBy, laidNames}
 use Rattle.lin_spec.specs.declared.Span.{Span}
 use Rattle.lin_spec.specs.declared.MaybeSpan.{MaybeSpan}
 use Rattle.lin_spec.specs.declared.MaybeSpan.the-variants.{Absent, Present}
+use Rattle.lin_spec.proofs.Base.{keep-most}
 use Rattle.output.specs.Put.{joined}
 use Rattle.cleaning.proofs.TextLaws.{clean-length}
 use Rattle.pbn_texts.specs.Names.{nameAt, namesPieces, namesText}
 
 module _ (p q : ℕ) (s : List ℕ) where
   pub name-absent : (x : MaybeSpan) → x ≡ Absent → nameBy p q s x ≡ []
-  unfolding clean without
+  unfolding clean keep
   name-absent x e = rw e refl
 
   pub name-present : (x : MaybeSpan) (y : Span) → x ≡ Present y → nameBy p q s x ≡ cleanName p q (bytesAt s y)
@@ -44,23 +45,14 @@ module _ (p q : ℕ) (s : List ℕ) where
       ∙ simp (length-append, append-nil) (omega arith)
 
   -- no name is longer than the text
-  without-most : (c : ℕ) (t : List ℕ) → length (without c t) ≤ length t
-  unfolding without
-  without-most c [] = omega arith
-  without-most c (b ∷ t) = go (eqb b c) (without-most c t)
-    where
-      go : (u : Bool) → length (without c t) ≤ length t → length (pick u (without c t) (b ∷ without c t)) ≤ suc (length t)
-      go true h = omega arith
-      go false h = omega arith
-
   bytes-most : (y : Span) → length (bytesAt s y) ≤ length s
   unfolding part
   bytes-most y = omega (arith, length-take (y .len) (drop (y .start) s), length-drop (y .start) s)
 
   pub name-most : (x : MaybeSpan) → length (nameBy p q s x) ≤ length s
-  unfolding clean without
+  unfolding clean keep
   name-most Absent = omega arith
-  name-most (Present y) = omega (arith, without-most 0x2C (clean p q (bytesAt s y)), clean-length p q (bytesAt s y), bytes-most y)
+  name-most (Present y) = omega (arith, keep-most (λ (b : ℕ). not (eqb b 0x2C)) (clean p q (bytesAt s y)), clean-length p q (bytesAt s y), bytes-most y)
 
   -- where each stands
   pub names-placed : (ms : List MaybeSpan) → length ms ≡ 4 → (a b c d : ℕ) → a ≡ length (nameAt p q s ms 0) → b ≡ length (nameAt p q s ms 1) → c ≡ length (nameAt p q s ms 2) → d ≡ length (nameAt p q s ms 3)

@@ -1,6 +1,6 @@
 -- The kept calls before cleaning, and the kept cards, one at a time. (01: From PBN)
 use Prim.Native.Nat.{ℕ, _+_}
-use mathlib.Core.Bool.{Bool}
+use mathlib.Core.Bool.{Bool, not}
 use mathlib.Core.List.{List, [], _∷_, _++_}
 use mathlib.Core.Option.{Option, none, some}
 use lib.Dec.{eqb, ltb}
@@ -13,7 +13,7 @@ use Rattle.lin_spec.specs.declared.PbnCall.{PbnCall}
 
 -- an entry of the play, if it is kept
 abbrev pub keptLetter : ℕ → List ℕ
-keptLetter b = pick (eqb b gap) [] (b ∷ [])
+keptLetter b = pick (not (eqb b gap)) (b ∷ []) []
 
 abbrev pub isKept : PbnCall → Bool
 isKept c = ltb (c .kind) 4

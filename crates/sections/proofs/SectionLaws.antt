@@ -8,7 +8,7 @@ use mathlib.Core.List.{List, [], _∷_}
 use lib.ListN.{length, take, drop, length-drop}
 use lib.Dec.{eqb, ltb, leb}
 use borrow.Author.Tests.{eq-eqb, ne-eqb, eqb-true, le-leb, ltb-true, lt-ltb, le-ltb}
-use Rattle.lin_spec.specs.Base.{pick, null, ascii}
+use Rattle.lin_spec.specs.Base.{pick, null, ascii, any}
 use Rattle.lin_spec.specs.Records.{endOf, part}
 use Rattle.lin_spec.specs.Refusals.{unless, tooLong, notUtf8, sat}
 use Rattle.lin_spec.specs.Refusals.Answer.{refused, accepted}
@@ -51,15 +51,15 @@ module _ (s : List ℕ) (at k : ℕ) (v : Span) (n : ℕ) (t : TokenAt s at k v 
   leads-is = simp (command-is s at k v n t 6 (omega arith), command-is s at k v n t 4 (omega arith))
 
   pub qx-here : k ≡ 5 → true ≡ holds (ascii "qx") (stream s at)
-  unfolding holds
+  unfolding any
   qx-here h = simp (t .front, qx-is, eq-eqb k 5 h)
 
   pub qx-later : (k ≡ 5 → ⊥) → holds (ascii "qx") (stream s n) ≡ holds (ascii "qx") (stream s at)
-  unfolding holds
+  unfolding any
   qx-later h = simp (t .front, qx-is, ne-eqb k 5 h)
 
 pub no-qx : (s : List ℕ) (at : ℕ) → stream s at ≡ [] → false ≡ holds (ascii "qx") (stream s at)
-unfolding holds
+unfolding any
 no-qx s at e = simp e
 
 -- The part that begins at `begin`: what is still to be read of it, where a qx here is moved back to `back`
@@ -73,7 +73,7 @@ pub record Walks (s : List ℕ) (begin back at : ℕ) (board : Bool) : Type 0 wh
   pub ahead : (e : ℕ) → at ≤ e → (board || mdUpTo s at e) ≡ mdUpTo s begin e
 
 pub walks-begin : (s : List ℕ) (begin : ℕ) → Walks s begin begin begin false
-unfolding holds
+unfolding any
 walks-begin s begin = record { ends = refl; here = simp (none-yet s begin begin (omega arith)); ahead = λ e h. refl }
 
 -- its bounds, when it ends
@@ -83,7 +83,7 @@ part-is s begin e board h b = rw (← h) (rw (b ∙ ap (holds (ascii "md")) (sym
 
 pub walks-end : (s : List ℕ) (begin back at : ℕ) (board : Bool) → Walks s begin back at board → stream s at ≡ []
     → section begin at board ≡ partAt s begin (partEnd begin begin begin (stream s begin))
-unfolding partEnd holds upTo
+unfolding partEnd any upTo
 walks-end s begin back at board w e =
     part-is s begin at board ((let z : at ≡ partEnd begin back at (stream s at) = simp e in z) ∙ w .ends)
     (sym (or-false board) ∙ (let z = w .ahead at (omega arith) in rw e at z))
@@ -98,7 +98,7 @@ module _ (s : List ℕ) (begin back at : ℕ) (board : Bool) (w : Walks s begin 
 
   -- the token is passed
   md-more : (e : ℕ) → n ≤ e → mdUpTo s at e ≡ (eqb k 3 || mdUpTo s n e)
-  unfolding holds upTo
+  unfolding any upTo
   md-more e h = let a = t .after in simp (t .front, le-leb (endOf v + 1) e (omega arith), md-is s at k v n t)
 
   other : (i j : ℕ) → k ≡ i → (i ≡ j → ⊥) → eqb k j ≡ false
@@ -116,7 +116,7 @@ module _ (s : List ℕ) (begin back at : ℕ) (board : Bool) (w : Walks s begin 
       go false q = simp (t .front, qx-is s at k v n t, q, leads-is s at k v n t, ← t .after)
 
   on-here : (r : Bool) → (eqb k 6 || eqb k 4) ≡ r → (board || eqb k 3) ≡ mdUpTo s begin (pick r back n)
-  unfolding holds
+  unfolding any
   on-here false r =
       let m : mdUpTo s n n ≡ false = simp (none-yet s n n (omega arith)) in
       (let z : (board || eqb k 3) ≡ (board || mdUpTo s at n) = ap (λ (x : Bool). board || x) (sym (md-more n (omega arith) ∙ ap (λ (x : Bool). eqb k 3 || x) m ∙ or-false (eqb k 3))) in z)

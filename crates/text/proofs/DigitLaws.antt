@@ -11,7 +11,7 @@ use lib.ListN.{length, getD, take, drop, drop-of-length-le}
 use lib.Seq.{drop-cons, take-all}
 use borrow.Author.Tests.{eq-eqb, ne-eqb, leb-true, le-leb, lt-leb}
 use lib.Dec.{leb}
-use Rattle.lin_spec.specs.Base.{null}
+use Rattle.lin_spec.specs.Base.{null, all}
 use Rattle.lin_spec.proofs.Base.{and-left, and-right, picked, split}
 use Rattle.lin_spec.specs.Board.{isDigit, allDigits, valueFrom, afterPlus, numberIn}
 use Rattle.text.specs.Digits.{numberOf}
@@ -66,7 +66,7 @@ pub record Counted (t : List ℕ) (top i n : ℕ) : Type 0 where
 
 module _ (t : List ℕ) (top i n : ℕ) (c : Counted t top i n) (h : i < length t) where
   pub count-turn : isDigit (getD t i 0) ≡ true → (m : ℕ) → m ≡ min (n * 10 + (getD t i 0 - 0x30)) top → Counted t top (i + 1) m
-  unfolding allDigits valueFrom
+  unfolding all valueFrom
   count-turn d m e =
       let k = drop-cons t i 0 h in
       record {
@@ -77,7 +77,7 @@ module _ (t : List ℕ) (top i n : ℕ) (c : Counted t top i n) (h : i < length 
       }
 
   count-bad : isDigit (getD t i 0) ≡ false → allDigits t ≡ false
-  unfolding allDigits
+  unfolding all
   count-bad d = sym (c .digits) ∙ (rw (drop-cons t i 0 h, d) refl)
 
 -- a digit is 0 or more
@@ -99,7 +99,7 @@ module _ (s t : List ℕ) (bound : ℕ) (e : t ≡ afterPlus s) where
   number-bad top i n c h d = simp (← e, count-bad t top i n c h d, and-false)
 
   full : (top i n : ℕ) → Counted t top i n → length t ≤ i → (allDigits t ≡ true) × (min n top ≡ min (valueFrom 0 t) top)
-  unfolding allDigits valueFrom
+  unfolding all valueFrom
   full top i n c h =
       let k = drop-of-length-le t h in
       (sym (c .digits) ∙ rw k refl, (let z = c .value in rw k at z))

@@ -10,7 +10,7 @@ use lib.ListN.{length, getD, drop, drop-of-length-le}
 use lib.Seq.{drop-cons}
 use lib.Dec.{eqb}
 use borrow.Author.Tests.{eq-eqb, ne-eqb}
-use Rattle.lin_spec.specs.Base.{any, eqList}
+use Rattle.lin_spec.specs.Base.{any, eqList, eqAll}
 use Rattle.lin_spec.proofs.Base.{eq-length}
 
 -- one word off the front
@@ -43,12 +43,12 @@ module _ (a b : List ℕ) where
 
   module _ (l : length a ≡ length b) (i : ℕ) (v : eqList (drop i a) (drop i b) ≡ eqList a b) where
     pub same-end : length a ≤ i → true ≡ eqList a b
-    unfolding eqList
+    unfolding eqAll
     same-end h = (let z = rw (drop-of-length-le a h, drop-of-length-le b (let k : length b ≤ i = omega arith in k)) at v in z)
 
     module _ (h : i < length a) where
       same-cons : eqList (drop i a) (drop i b) ≡ (eqb (getD a i 0) (getD b i 0) && eqList (drop (i + 1) a) (drop (i + 1) b))
-      unfolding eqList
+      unfolding eqAll
       same-cons = rw (add-one, drop-cons a i 0 h, drop-cons b i 0 (let k : i < length b = omega arith in k)) refl
 
       pub same-differ : (getD a i 0 ≡ getD b i 0 → ⊥) → false ≡ eqList a b

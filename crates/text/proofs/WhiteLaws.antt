@@ -12,7 +12,7 @@ use lib.ListN.{length, getD, take, drop, length-append, length-drop, length-map,
 use lib.Seq.{drop-cons, take-at, drop-drop, length-take-le, take-all, take-take}
 use lib.Dec.{eqb, leb, ltb}
 use borrow.Author.Tests.{eq-eqb, ne-eqb, eqb-true, eqb-false, leb-true, leb-false, ltb-true, le-leb, lt-leb}
-use Rattle.lin_spec.specs.Base.{pick, any, null, starts, eqList}
+use Rattle.lin_spec.specs.Base.{pick, any, null, starts, eqList, eqAll}
 use Rattle.lin_spec.specs.Utf8.{encode}
 use Rattle.lin_spec.specs.White.{whiteSpace, front, whiteAt, skipWhite, trimStart, blank, trimEnd, trim, lower, sameWord}
 use Rattle.lin_spec.proofs.Base.{picked, list-eq, eq-list, eq-length, starts-split}
@@ -43,11 +43,11 @@ range lo (suc n) x hi h = rw (← range (suc lo) n x hi (omega arith)) (go (eqb 
     go false e false f = rw (lt-leb lo x (omega (arith, leb-false (suc lo) x f, eqb-false x lo e)))
 
 pub white₁-is : (a : ℕ) → ((leb 0x9 a && leb a 0xD) || eqb a 0x20) ≡ isWhite (a ∷ [])
-unfolding isWhite any eqList encode whiteSpace run
+unfolding isWhite any eqAll encode whiteSpace run
 white₁-is a = simp (range 0x9 5 a 0xD refl, or-assoc, and-true, and-false, or-false)
 
 pub white₂-is : (a b : ℕ) → (eqb a 0xC2 && (eqb b 0x85 || eqb b 0xA0)) ≡ isWhite (a ∷ b ∷ [])
-unfolding isWhite any eqList encode whiteSpace
+unfolding isWhite any eqAll encode whiteSpace
 white₂-is a b = simp (and-or-distrib-left, and-true, and-false, or-false)
 
 pub white₃-is : (a b c : ℕ)
@@ -56,16 +56,16 @@ pub white₃-is : (a b c : ℕ)
     || (eqb a 0xE2 && eqb b 0x81 && eqb c 0x9F)
     || (eqb a 0xE3 && eqb b 0x80 && eqb c 0x80))
     ≡ isWhite (a ∷ b ∷ c ∷ [])
-unfolding isWhite any eqList encode whiteSpace run
+unfolding isWhite any eqAll encode whiteSpace run
 white₃-is a b c = simp (range 0x80 11 c 0x8A refl, and-or-distrib-left, or-assoc, and-assoc, and-true, and-false, or-false)
 
 -- no white space character has a byte 0 or more than three bytes
 zero-first : (x : List ℕ) → isWhite (0 ∷ x) ≡ false
-unfolding isWhite any eqList encode whiteSpace
+unfolding isWhite any eqAll encode whiteSpace
 zero-first x = refl
 
 four : (a b c d : ℕ) (s : List ℕ) → isWhite (a ∷ b ∷ c ∷ d ∷ s) ≡ false
-unfolding isWhite any eqList encode whiteSpace
+unfolding isWhite any eqAll encode whiteSpace
 four a b c d s = simp and-false
 
 -- what passes the test is the bytes of a character of the list
@@ -122,7 +122,7 @@ pick-or true u x y = refl
 pick-or false u x y = refl
 
 front-is : (s : List ℕ) → whiteAt s ≡ firstWhite (getD s 0 0 ∷ []) (getD s 0 0 ∷ getD s 1 0 ∷ []) (getD s 0 0 ∷ getD s 1 0 ∷ getD s 2 0 ∷ [])
-unfolding whiteAt front starts isWhite any eqList encode whiteSpace
+unfolding whiteAt front starts isWhite any eqAll encode whiteSpace
 front-is [] = refl
 front-is (a ∷ []) = simp (pick-or, and-true, and-false, or-false)
 front-is (a ∷ b ∷ []) = simp (pick-or, and-true, and-false, or-false)
@@ -359,16 +359,16 @@ word-length s w h = sym (eq-length (map lower s) w (λ e. h (sym (length-map s l
 
 module _ (s w : List ℕ) (l : length s ≡ length w) (i : ℕ) (g : Word s w i) where
   pub word-end : length s ≤ i → true ≡ sameWord s w
-  unfolding sameWord eqList
+  unfolding sameWord eqAll
   word-end h = sym (rw (drop-of-length-le s h, drop-of-length-le w {i = i} (omega arith))) ∙ g
 
   module _ (h : i < length s) (x : ℕ) (e : x ≡ lower (getD s i 0)) where
     pub word-next : x ≡ getD w i 0 → Word s w (i + 1)
-    unfolding sameWord eqList
+    unfolding sameWord eqAll
     word-next k = rw add-one (rw (drop-cons s i 0 h, drop-cons w i 0 (omega arith), eq-eqb _ _ (sym e ∙ k)) at g)
 
     pub word-differ : (x ≡ getD w i 0 → ⊥) → false ≡ sameWord s w
-    unfolding sameWord eqList
+    unfolding sameWord eqAll
     word-differ k = sym (rw (drop-cons s i 0 h, drop-cons w i 0 (omega arith), ne-eqb _ _ (λ q. k (e ∙ q)))) ∙ g
 
 null-length : (x : List ℕ) → eqb (length x) 0 ≡ null x

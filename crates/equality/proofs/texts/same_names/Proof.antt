@@ -6,9 +6,8 @@ use mathlib.Core.Path.{_≡_, refl}
 use mathlib.Core.List.{map}
 use lib.ListN.{length, drop}
 use borrow.Author.Needs.{needs}
-use Rattle.lin_spec.specs.Base.{eqList}
+use Rattle.lin_spec.specs.Base.{eqAll, eqList}
 use Rattle.lin_spec.specs.Records.{bytesAt}
-use Rattle.lin_spec.specs.Equality.{eqAll}
 use Rattle.equality.proofs.EqualityLaws.{names-end, names-differ, names-next}
 use Rattle.equality.proofs.texts.same_names.Statement.{statement}
 use Rattle.equality.proofs.texts.same_names.Tie as tie
