@@ -3,7 +3,7 @@
 
 use crate::clock::milliseconds;
 use lin_host_rust::{
-    boards::{self, ROW},
+    boards::{self, LinHeading, ROW},
     files::{self, Boards},
     pbn,
     tokens::{self, Cursor, Span, Token},
@@ -196,14 +196,13 @@ fn rows_of(boards: &[LinData]) -> (usize, usize) {
     (calls, boards.iter().map(|b| b.play.len()).sum())
 }
 
-/// All boards with their rows.
-fn reading(text: &str, runs: usize) -> Times {
+/// All boards, each read by its part of the file.
+fn boards_by(text: &str, runs: usize, mut read: impl FnMut(&[u8]) -> LinHeading) -> Times {
     let bytes = text.as_bytes();
-    let (mut rows, mut cards) = (vec![0; ROW * LIMIT / 4], vec![0; LIMIT / 6]);
-    let read = || {
+    let read_all = || {
         let mut seen = (0, (0, 0));
         for board in Boards::open(black_box(bytes)).expect("a text within the limit") {
-            let h = boards::parse_lin_numbers(board.text, &mut rows, &mut cards);
+            let h = read(board.text);
             black_box(&h);
             seen.0 += 1;
             seen.1 .0 += h.calls as usize;
@@ -212,29 +211,22 @@ fn reading(text: &str, runs: usize) -> Times {
         seen
     };
     let parse = || parse_lin_file(black_box(text)).expect("no error");
-    in_turn_reading(text, runs, parse, read, |all, seen| {
+    in_turn_reading(text, runs, parse, read_all, |all, seen| {
         (all.len(), rows_of(all)) == *seen
+    })
+}
+
+/// All boards with their rows.
+fn reading(text: &str, runs: usize) -> Times {
+    let (mut rows, mut cards) = (vec![0; ROW * LIMIT / 4], vec![0; LIMIT / 6]);
+    boards_by(text, runs, |part| {
+        boards::parse_lin_numbers(part, &mut rows, &mut cards)
     })
 }
 
 /// The headings of all boards.
 fn headings(text: &str, runs: usize) -> Times {
-    let bytes = text.as_bytes();
-    let read = || {
-        let mut seen = (0, (0, 0));
-        for board in Boards::open(black_box(bytes)).expect("a text within the limit") {
-            let h = boards::heading_numbers(board.text);
-            black_box(&h);
-            seen.0 += 1;
-            seen.1 .0 += h.calls as usize;
-            seen.1 .1 += h.cards as usize;
-        }
-        seen
-    };
-    let parse = || parse_lin_file(black_box(text)).expect("no error");
-    in_turn_reading(text, runs, parse, read, |all, seen| {
-        (all.len(), rows_of(all)) == *seen
-    })
+    boards_by(text, runs, boards::heading_numbers)
 }
 
 /// One heading by its number, the last.
