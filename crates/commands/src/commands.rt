@@ -2,7 +2,9 @@
 use text::same_word;
 use text::trim;
 ghost use mathlib.Core.Path.{_≡_};
-ghost use Rattle.commands.specs.Commands.{words, firstWord, commandOf};
+ghost use mathlib.Core.List.{[], _∷_};
+ghost use Rattle.lin_spec.specs.White.{lower};
+ghost use Rattle.commands.specs.Commands.{words, firstWord, codeOf, commandOf};
 ghost use lib.ListN.{drop};
 
 pub const PC: u8 = 0;
@@ -24,6 +26,72 @@ pub const SV: u8 = 7;
 pub const AH: u8 = 8;
 
 pub const MC: u8 = 9;
+
+// A capital of ASCII as the small letter, any other byte as it is.
+fn small(b: u8) -> u8
+    ensures { λ r. ⌜ r ≡ lower b ⌝ }
+{
+    if b < 0x41 {
+        return b;
+    }
+    if 0x5A < b {
+        return b;
+    }
+    b + 0x20
+}
+
+// The number of the word of two small letters, the first neither p nor m.
+fn other_pair(x: u8, y: u8) -> u8
+    requires { ⌜ (x ≡ 112 → ⊥) × (x ≡ 109 → ⊥) ⌝ }
+    ensures { λ r. ⌜ r ≡ codeOf x y ⌝ }
+{
+    if (x == b'a') & (y == b'n') {
+        return AN;
+    }
+    if (x == b'q') & (y == b'x') {
+        return QX;
+    }
+    if (x == b's') & (y == b'v') {
+        return SV;
+    }
+    if (x == b'a') & (y == b'h') {
+        return AH;
+    }
+    10
+}
+
+// The number of a command of two bytes, as nearly all are.
+pub(crate) fn pair_of(a: u8, b: u8) -> u8
+    ensures { λ r. ⌜ r ≡ commandOf (a ∷ b ∷ []) ⌝ }
+{
+    let x = small(a);
+    let y = small(b);
+    if x == b'p' {
+        if y == b'c' {
+            return PC;
+        }
+        if y == b'n' {
+            return PN;
+        }
+        return 10;
+    }
+    if x == b'm' {
+        if y == b'b' {
+            return MB;
+        }
+        if y == b'd' {
+            return MD;
+        }
+        if y == b'n' {
+            return MN;
+        }
+        if y == b'c' {
+            return MC;
+        }
+        return 10;
+    }
+    other_pair(x, y)
+}
 
 // The number of a command, 10 where it is none of them.
 pub fn command_of(raw: &[u8]) -> u8
