@@ -1,6 +1,7 @@
 -- Laws of the commands' numbers: which word it is, and that the number says which command it is. (01: Board)
 -- Assumes nothing.
-use Prim.Native.Nat.{ℕ, zero, suc, _+_, _<_, _≤_}
+use Prim.Native.Nat.{ℕ, zero, suc, _+_, _-_, _<_, _≤_}
+use native.Mathlib.Numerals.{add-one}
 use native.Mathlib.Nat.{not-suc-le-zero, le-of-suc-le-suc}
 use native.Mathlib.Omega.{arith}
 use mathlib.Core.Path.{_≡_, refl, ap, sym, _∙_}
@@ -8,13 +9,15 @@ use mathlib.Core.Bool.{Bool, true, false, _&&_, and-true, and-false, false≢tru
 use mathlib.Core.List.{List, [], _∷_, map}
 use mathlib.Core.Logic.{_⊎_, inl, inr, ⊎-elim}
 use lib.ListN.{length, getD, drop, length-drop}
+use lib.Seq.{drop-cons}
 use lib.Dec.{eqb, leb}
 use borrow.Author.Tests.{eq-eqb, ne-eqb, eqb-true, eqb-false, leb-true}
 use Rattle.lin_spec.specs.Base.{pick, eqList}
+use Rattle.lin_spec.specs.Records.{part}
 use Rattle.lin_spec.specs.White.{lower, whiteAt, skipWhite, trimStart, trimEnd, blank, trim, sameWord, isCommand}
 use Rattle.lin_spec.proofs.Base.{picked, split, and-left, and-right, allBelow, below, eq-list}
-use Rattle.lin_spec.proofs.White.{Visible, skip-at, trim-most, trim-visible, white-most}
-use Rattle.commands.specs.Commands.{words, firstWord, firstSmall, codeOf, commandOf}
+use Rattle.lin_spec.proofs.White.{Visible, skip-at, trim-most, trim-visible, white-most, trim-lf}
+use Rattle.commands.specs.Commands.{words, firstWord, firstSmall, codeOf, commandOf, SameFrom}
 
 -- the word at the front, or another
 pub word-here : (n : ℕ) (w : List ℕ) (ws : List (List ℕ)) (s : List ℕ) (t : Bool) → t ≡ sameWord s w → t ≡ true → n ≡ firstWord n (w ∷ ws) s
@@ -172,3 +175,26 @@ none-other x y p m a b c d = rw (code-form x y) (simp (ne-eqb x 112 p, ne-eqb x 
 
 pub code-pair : (x y i : ℕ) → i < 10 → (eqb x (getD (getD words i []) 0 0) && eqb y (getD (getD words i []) 1 0)) ≡ true → i ≡ codeOf x y
 code-pair x y i h e = code-word x y i h (eqb-true x _ (and-left (eqb x (getD (getD words i []) 0 0)) (eqb y (getD (getD words i []) 1 0)) e)) (eqb-true y _ (and-right (eqb x (getD (getD words i []) 0 0)) (eqb y (getD (getD words i []) 1 0)) e))
+
+-- Where a command stands
+
+pub same-here : (s : List ℕ) (at p : ℕ) → at ≤ p → SameFrom s at p at
+same-here s at p h = record { from = omega arith; to = h; same = refl }
+
+pub same-lf : (s : List ℕ) (at p : ℕ) → at < p → p ≤ length s → getD s at 0 ≡ 0xA → SameFrom s at p (at + 1)
+unfolding commandOf part
+same-lf s at p h k e =
+    let n : p - at ≡ suc (p - (at + 1)) = omega arith in
+    let d : drop at s ≡ 0xA ∷ drop (at + 1) s = rw (add-one at, ← e) (drop-cons s at 0 (omega arith)) in
+    record {
+      from = omega arith;
+      to = omega arith;
+      same = rw (n, d) (sym (ap (firstWord 0 words) (trim-lf (part s (at + 1) (p - (at + 1))))));
+    }
+
+pub two-bytes : (s : List ℕ) (at p : ℕ) → p ≤ length s → p - at ≡ 2 → part s at (p - at) ≡ getD s at 0 ∷ getD s (at + 1) 0 ∷ []
+unfolding part
+two-bytes s at p h e =
+    let d = drop-cons s at 0 (omega arith) in
+    let f = drop-cons s (suc at) 0 (omega arith) in
+    rw (e, add-one at, d, f)

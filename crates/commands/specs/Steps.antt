@@ -27,10 +27,6 @@ abbrev pub Commands : (s : List ℕ) (at : ℕ) → Commanded → Type 0
 Commands s at (Spoken k p c) = TokenAt s at k (span (p .start) (p .len)) (c .at)
 Commands s at Silent = stream s at ≡ []
 
--- what stands at the place n stands at `at` too
-abbrev pub Starts : (s : List ℕ) (at n : ℕ) → Type 0
-Starts s at n = (r : Commanded) → Commands s n r → Commands s at r
-
 abbrev pub Knows : (s : List ℕ) (at : ℕ) → Known → Type 0
 Knows s at (Token k v c) = TokenAt s at k v (c .at)
 Knows s at Ended = stream s at ≡ []

@@ -4,8 +4,10 @@ use text::trim;
 ghost use mathlib.Core.Path.{_≡_};
 ghost use mathlib.Core.List.{[], _∷_};
 ghost use Rattle.lin_spec.specs.White.{lower};
-ghost use Rattle.commands.specs.Commands.{words, firstWord, codeOf, commandOf};
-ghost use lib.ListN.{drop};
+ghost use Rattle.commands.specs.Commands.{words, firstWord, codeOf, commandOf, SameFrom};
+ghost use Prim.Native.Nat.{_-_, _≤_};
+ghost use lib.ListN.{length, drop};
+ghost use Rattle.lin_spec.specs.Records.{part};
 
 pub const PC: u8 = 0;
 
@@ -61,7 +63,7 @@ fn other_pair(x: u8, y: u8) -> u8
 }
 
 // The number of a command of two bytes, as nearly all are.
-pub(crate) fn pair_of(a: u8, b: u8) -> u8
+fn pair_of(a: u8, b: u8) -> u8
     ensures { λ r. ⌜ r ≡ commandOf (a ∷ b ∷ []) ⌝ }
 {
     let x = small(a);
@@ -91,13 +93,6 @@ pub(crate) fn pair_of(a: u8, b: u8) -> u8
         return 10;
     }
     other_pair(x, y)
-}
-
-// The number of a command, 10 where it is none of them.
-pub fn command_of(raw: &[u8]) -> u8
-    ensures { λ r. ⌜ r ≡ commandOf (now (raw .entry)) ⌝ }
-{
-    word_of(trim(raw))
 }
 
 fn word_of(t: &[u8]) -> u8
@@ -140,4 +135,30 @@ fn other_word_of(t: &[u8]) -> u8
         return MC;
     }
     10
+}
+
+// The place after an LF, if one is there: the command is the same without it.
+fn after_lf(text: &[u8], at: usize, p: usize) -> usize
+    requires { ⌜ (at ≤ p) × (p ≤ length (now text)) ⌝ }
+    ensures { λ r. ⌜ SameFrom (now (text .entry)) at p r ⌝ }
+{
+    if p <= at {
+        return at;
+    }
+    if text[at] == b'\n' {
+        return at + 1;
+    }
+    at
+}
+
+// The number of the command that stands from `at` up to p, 10 where it is none of them. Nearly all are two bytes, perhaps after an LF.
+pub fn command_at(text: &[u8], at: usize, p: usize) -> u8
+    requires { ⌜ (at ≤ p) × (p ≤ length (now text)) ⌝ }
+    ensures { λ r. ⌜ r ≡ commandOf (part (now (text .entry)) at (p - at)) ⌝ }
+{
+    let a = after_lf(text, at, p);
+    if p - a == 2 {
+        return pair_of(text[a], text[a + 1]);
+    }
+    word_of(trim(&text[a..p]))
 }

@@ -1,13 +1,12 @@
 // One token at a time, with its command's number. (01: Tokens, Board)
-use crate::commands::command_of;
-use crate::commands::pair_of;
+use crate::commands::command_at;
 use document::Cursor;
 use document::Part;
 use document::next_pipe;
 use lin_spec::Span;
 ghost use Prim.Native.Nat.{_<_, _^_};
 ghost use lib.ListN.{length};
-ghost use Rattle.commands.specs.Steps.{Commands, Starts, Knows};
+ghost use Rattle.commands.specs.Steps.{Commands, Knows};
 
 // A token's command by number and its value, with the cursor after it; or no token.
 pub enum Commanded {
@@ -21,8 +20,8 @@ pub enum Known {
     Ended,
 }
 
-// The token at the cursor, whatever its command is.
-fn any_command(text: &[u8], cursor: Cursor) -> Commanded
+// The token at the cursor.
+pub fn next_command(text: &[u8], cursor: Cursor) -> Commanded
     ensures { λ r. ⌜ Commands (now (text .entry)) (cursor .at) r ⌝ }
 {
     let at = cursor.at;
@@ -35,56 +34,12 @@ fn any_command(text: &[u8], cursor: Cursor) -> Commanded
     if text.len() <= q {
         return Commanded::Ended;
     }
-    let k = command_of(&text[at..p]);
+    let k = command_at(text, at, p);
     let value = Part {
         start: v,
         len: q - v,
     };
     Commanded::Token(k, value, Cursor { at: q + 1 })
-}
-
-// The place after an LF, if one is there: the command of a token is the same without it.
-fn after_lf(text: &[u8], at: usize) -> usize
-    ensures { λ r. ⌜ Starts (now (text .entry)) at r ⌝ }
-{
-    if text.len() <= at {
-        return at;
-    }
-    if text[at] == b'\n' {
-        return at + 1;
-    }
-    at
-}
-
-// The token at the cursor. Nearly all commands are two bytes, perhaps after an LF.
-pub fn next_command(text: &[u8], cursor: Cursor) -> Commanded
-    ensures { λ r. ⌜ Commands (now (text .entry)) (cursor .at) r ⌝ }
-{
-    let at = after_lf(text, cursor.at);
-    if text.len() < 3 {
-        return any_command(text, cursor);
-    }
-    if text.len() - 3 < at {
-        return any_command(text, cursor);
-    }
-    if text[at + 2] != b'|' {
-        return any_command(text, cursor);
-    }
-    let a = text[at];
-    let b = text[at + 1];
-    if (a == b'|') | (b == b'|') {
-        return any_command(text, cursor);
-    }
-    let v = at + 3;
-    let q = next_pipe(text, v);
-    if text.len() <= q {
-        return Commanded::Ended;
-    }
-    let value = Part {
-        start: v,
-        len: q - v,
-    };
-    Commanded::Token(pair_of(a, b), value, Cursor { at: q + 1 })
 }
 
 // The same in a text whose places are numbers of 32 bits.
