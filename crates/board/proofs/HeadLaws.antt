@@ -47,8 +47,11 @@ module _ (s : List ℕ) (h : Head) (k : ℕ) (v : Span) where
   pub stepped-call : k ≡ 1 → (n : ℕ) → n ≡ h .calls + 1 → Stepped s h k v (record { names = h .names; md = h .md; vulnerability = h .vulnerability; title = h .title; room = h .room; header = h .header; claim = h .claim; calls = n; cards = h .cards })
   stepped-call q n e = record { names = rw (ne-eqb k 4 (λ e. omega arith)) refl; md = rw (ne-eqb k 3 (λ e. omega arith)) refl; vulnerability = rw (ne-eqb k 7 (λ e. omega arith)) refl; title = rw (ne-eqb k 6 (λ e. omega arith)) refl; room = rw (ne-eqb k 5 (λ e. omega arith)) refl; header = rw (ne-eqb k 8 (λ e. omega arith)) refl; claim = rw (ne-eqb k 9 (λ e. omega arith)) refl; calls = rw (eq-eqb k 1 q) e; cards = rw (ne-eqb k 0 (λ e. omega arith)) refl }
 
+  pub stepped-note : k ≡ 2 → Stepped s h k v h
+  stepped-note l = record { names = rw (ne-eqb k 4 (λ e. omega arith)) refl; md = rw (ne-eqb k 3 (λ e. omega arith)) refl; vulnerability = rw (ne-eqb k 7 (λ e. omega arith)) refl; title = rw (ne-eqb k 6 (λ e. omega arith)) refl; room = rw (ne-eqb k 5 (λ e. omega arith)) refl; header = rw (ne-eqb k 8 (λ e. omega arith)) refl; claim = rw (ne-eqb k 9 (λ e. omega arith)) refl; calls = rw (ne-eqb k 1 (λ e. omega arith)) refl; cards = rw (ne-eqb k 0 (λ e. omega arith)) refl }
+
 -- one field: what the token leaves of it, with the test of the command's number in place of the command's own
-field : {A : Type 0} (f : List ℕ → Span → A → A) (ts us : List (TokenOf Span)) (c : List ℕ) (v : Span) (b b₀ b′ : A)
+pub field : {A : Type 0} (f : List ℕ → Span → A → A) (ts us : List (TokenOf Span)) (c : List ℕ) (v : Span) (b b₀ b′ : A)
     → over f b (token c v ∷ us) ≡ over f b₀ ts → b′ ≡ f c v b → over f b′ us ≡ over f b₀ ts
 unfolding over
 field f ts us c v b b₀ b′ h e = rw e h

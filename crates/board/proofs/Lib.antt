@@ -3,3 +3,4 @@ pub mod DealingLaws
 pub mod CallLaws
 pub mod PlayLaws
 pub mod ReaderLaws
+pub mod StoringLaws

@@ -1,23 +1,24 @@
 -- Laws of the board reader: the calls and cards one at a time are the board's, the heading's numbers are their lengths, and what the entries give. (01: Board)
 -- Assumes nothing.
-use Prim.Native.Nat.{ℕ, zero, suc, _+_, _*_, _/_, _≤_, _<_, _^_}
+use Prim.Native.Nat.{ℕ, zero, suc, _+_, _-_, _*_, _/_, _≤_, _<_, _^_}
 use native.Mathlib.Omega.{arith}
 use native.Mathlib.Nat.{zero-add}
 use mathlib.Core.Path.{_≡_, refl, ap, sym, subst, _∙_}
-use mathlib.Core.Bool.{Bool, true, false}
-use mathlib.Core.List.{List, [], _∷_, _++_, append-assoc, append-nil}
+use mathlib.Core.Bool.{Bool, true, false, _&&_}
+use mathlib.Core.List.{List, [], _∷_, _++_, map, append-assoc, append-nil}
 use mathlib.Core.Option.{Option, none, some}
-use lib.ListN.{length, length-append}
-use lib.Dec.{eqb, ltb}
-use borrow.Author.Tests.{lt-ltb, le-ltb}
+use lib.ListN.{length, drop, length-append, length-drop, length-map}
+use lib.Dec.{eqb, ltb, leb}
+use borrow.Author.Tests.{lt-ltb, le-ltb, leb-true}
 use Rattle.lin_spec.specs.Base.{pick, ascii}
 use Rattle.lin_spec.specs.Records.{span, optionOf, bytesAt}
-use Rattle.lin_spec.specs.White.{trim, isCommand}
-use Rattle.lin_spec.specs.Tokens.{TokenOf}
+use Rattle.lin_spec.specs.White.{lower, trim, sameWord, isCommand}
+use Rattle.lin_spec.specs.Tokens.{Pieces, cut, pipe, TokenOf}
+use Rattle.lin_spec.specs.Tokens.Pieces.{end, piece}
 use Rattle.lin_spec.specs.Tokens.TokenOf.{token}
 use Rattle.lin_spec.specs.Cards.{readCard}
 use Rattle.lin_spec.specs.Board.{CallOf, Dealt as DealtBy, BoardOf, callOf, annotated, played, undealt, over, onDealt, onCalls, onPlay, boardFrom}
-use Rattle.lin_spec.specs.Reading.{spanText, stream, parseSpans, flag, maybeOf, claimedOf, headingOf, headed, readHeading, annotationWords, callWords, fewRows, stored, readBoard}
+use Rattle.lin_spec.specs.Reading.{spanText, placed, stream, parseSpans, flag, maybeOf, claimedOf, headingOf, headed, readHeading, annotationWords, callWords, fewRows, stored, readBoard}
 use Rattle.lin_spec.specs.Fresh.{refusedHeading}
 use Rattle.lin_spec.specs.Refusals.{Answer, unless, tooLong, notUtf8}
 use Rattle.lin_spec.specs.Refusals.Answer.{refused, accepted}
@@ -33,6 +34,9 @@ use Rattle.lin_spec.specs.declared.MaybeClaim.the-variants.{Absent as NoClaim, 
 use Rattle.lin_spec.specs.declared.Verdict.the-variants.{Accepted}
 use Rattle.lin_spec.specs.declared.Heading.{Heading}
 use Rattle.lin_spec.specs.declared.Board.{Board}
+use Rattle.lin_spec.proofs.Base.{picked, split, and-left, and-right, eq-length}
+use Rattle.lin_spec.proofs.White.{trim-most}
+use Rattle.lin_spec.proofs.Tokens.{joined, joined-cut}
 use Rattle.lin_spec.proofs.Rules.{over-change}
 use Rattle.lin_spec.proofs.Checks.{unless-refused, unless-passed}
 use Rattle.lin_spec.proofs.Document.{opened}
@@ -48,7 +52,8 @@ use Rattle.board.specs.Head.{freshHead, onLast, onCount, onCard, Leaves}
 use Rattle.board.specs.Dealing.{held, dealtFrom}
 use Rattle.board.specs.Calls.{isPresent, placeOf, rowOf, rowWords, with, callsAfter, callsFrom, CallAt, Gives as Call·Gives}
 use Rattle.board.specs.Play.{before, cardsFrom, Gives as Card·Gives}
-use Rattle.board.specs.Reader.{boardAt}
+use Rattle.board.specs.Reader.{boardAt, headOf, Ample}
+use Rattle.board.specs.Storing.{Fits, Stored}
 use Rattle.board.specs.declared.heading.Head.{Head}
 use Rattle.board.specs.declared.dealing.Dealt.{Dealt}
 use Rattle.lin_spec.specs.declared.Call.{Call}
@@ -103,7 +108,7 @@ cards-after s (token w v ∷ ts) cs = go (isCommand w (ascii "pc")) (readCard (t
 
 -- A heading's counts are the lengths of the board's lists
 
-annotated-length : (v : Span) (cs : List (CallOf Span)) → length (annotated v cs) ≡ length cs
+pub annotated-length : (v : Span) (cs : List (CallOf Span)) → length (annotated v cs) ≡ length cs
 unfolding annotated
 annotated-length v [] = refl
 annotated-length v (c ∷ []) = refl
@@ -131,6 +136,54 @@ cards-count s ts = over-change length (onPlay (spanText s)) (onCard s) step ts [
         go true (some c) = length-append cs (c ∷ [])
         go false o = refl
 
+-- A token that counts has a command of two bytes at least, so it takes four bytes
+
+short-command : (c w : List ℕ) → length w ≡ 2 → length c < 2 → isCommand c w ≡ false
+unfolding isCommand sameWord
+short-command c w e h = eq-length (map lower (trim c)) w (λ q. let a = length-map (trim c) lower in let b = trim-most c in omega arith)
+
+module _ (f : List ℕ → Span → ℕ → ℕ) (one : (c : List ℕ) (v : Span) (n : ℕ) → f c v n ≤ n + 1) (none-short : (c : List ℕ) (v : Span) (n : ℕ) → length c < 2 → f c v n ≡ n) where
+  placed-four : (at n : ℕ) (p : Pieces) → 4 * over f n (placed at p) ≤ 4 * n + length (joined pipe p)
+  unfolding over placed joined
+  placed-four at n (end x) = omega arith
+  placed-four at n (piece x (end y)) = omega arith
+  placed-four at n (piece x (piece y r)) =
+      let v = span (at + (length x + 1)) (length y) in
+      let ih = placed-four (at + (length x + 1) + (length y + 1)) (f x v n) r in
+      let a = length-append x (pipe ∷ (y ++ pipe ∷ joined pipe r)) in
+      let b = length-append y (pipe ∷ joined pipe r) in
+      split (length x) 2
+      (λ k. let e = none-short x v n k in omega arith)
+      (λ k. let e = one x v n in omega arith)
+
+  stream-four : (s : List ℕ) (at : ℕ) → 4 * over f 0 (stream s at) ≤ length s - at
+  unfolding stream
+  stream-four s at =
+      let a = placed-four at 0 (cut pipe (drop at s)) in
+      let b = ap length (joined-cut pipe (drop at s)) in
+      let c = length-drop at s in
+      omega arith
+
+calls-four : (s : List ℕ) (at : ℕ) → 4 * length (boardAt s at .calls) ≤ length s - at
+unfolding boardFrom
+calls-four s at = rw (calls-count s (stream s at)) (stream-four onCount (λ c v n. picked (λ (x : ℕ). x ≤ n + 1) (isCommand c (ascii "mb")) (λ _. omega arith) (λ _. omega arith)) (λ c v n h. simp (short-command c (ascii "mb") refl h)) s at)
+
+play-four : (s : List ℕ) (at : ℕ) → 4 * length (boardAt s at .play) ≤ length s - at
+unfolding boardFrom
+play-four s at = rw (cards-count s (stream s at)) (stream-four (onCard s) (λ c v n. picked (λ (x : ℕ). x ≤ n + 1) (isCommand c (ascii "pc")) (λ _. most (readCard (trim (bytesAt s v))) n) (λ _. omega arith)) (λ c v n h. simp (short-command c (ascii "pc") refl h)) s at)
+  where
+    most : (o : Option ℕ) (n : ℕ) → more o n ≤ n + 1
+    most none n = omega arith
+    most (some c) n = omega arith
+
+pub ample : (s : List ℕ) (at : ℕ) (rows cards : List ℕ) → (leb ((length s - at) / 4) (length rows / 6) && leb ((length s - at) / 4) (length cards)) ≡ true → Ample s at rows cards
+ample s at rows cards e =
+    let a : (length s - at) / 4 ≤ length rows / 6 = leb-true _ _ (and-left (leb ((length s - at) / 4) (length rows / 6)) (leb ((length s - at) / 4) (length cards)) e) in
+    let b : (length s - at) / 4 ≤ length cards = leb-true _ _ (and-right (leb ((length s - at) / 4) (length rows / 6)) (leb ((length s - at) / 4) (length cards)) e) in
+    let c = calls-four s at in
+    let d = play-four s at in
+    record { calls = omega arith; play = omega arith }
+
 -- The heading that was read is the board's
 
 maybe-is : (m : MaybeSpan) {o : Option Span} → optionOf m ≡ o → m ≡ maybeOf o
@@ -141,7 +194,7 @@ claim-is : (m : MaybeClaim) {o : Option ℕ} → claimOf m ≡ o → m ≡ claim
 claim-is NoClaim e = ap claimedOf e
 claim-is (Claimed n) e = ap claimedOf e
 
-pub read-heading : (s : List ℕ) (at : ℕ) (h : Head) (d : Dealt) → Leaves s (stream s at) h freshHead [] → held d ≡ dealtFrom s (optionOf (h .md))
+pub with-deal : (s : List ℕ) (h : Head) (d : Dealt) → held d ≡ dealtFrom s (optionOf (h .md))
     → record {
       verdict = Accepted;
       board =
@@ -157,28 +210,58 @@ pub read-heading : (s : List ℕ) (at : ℕ) (h : Head) (d : Dealt) → Leaves s
           };
       calls = h .calls;
       cards = h .cards;
-    } ≡ headingOf (boardAt s at)
-unfolding boardFrom over
-read-heading s at h d l e =
-    let ts = stream s at in
-    let q : held d ≡ over (onDealt (spanText s)) undealt ts = e ∙ ap (dealtFrom s) (l .md) ∙ dealt-last s ts in
+    } ≡ headOf s h
+with-deal s h d e =
     λ i.
     record {
       verdict = Accepted;
       board =
           record {
-            names = l .names i;
-            dealer = q i .dealer;
-            deal = record { counts = q i .deal };
-            vulnerability = l .vulnerability i;
-            title = maybe-is (h .title) (l .title) i;
-            «room_board» = maybe-is (h .room) (l .room) i;
-            «board_header» = maybe-is (h .header) (l .header) i;
-            claim = claim-is (h .claim) (l .claim) i;
+            names = h .names;
+            dealer = e i .dealer;
+            deal = record { counts = e i .deal };
+            vulnerability = h .vulnerability;
+            title = h .title;
+            «room_board» = h .room;
+            «board_header» = h .header;
+            claim = h .claim;
           };
-      calls = (l .calls ∙ sym (calls-count s ts)) i;
-      cards = (l .cards ∙ sym (cards-count s ts)) i;
+      calls = h .calls;
+      cards = h .cards;
     }
+
+-- the counts of a heading that was read
+module _ (s : List ℕ) (at : ℕ) (h : Head) (l : Leaves s (stream s at) h freshHead []) where
+  pub read-calls : h .calls ≡ length (boardAt s at .calls)
+  unfolding boardFrom over
+  read-calls = l .calls ∙ sym (calls-count s (stream s at))
+
+  pub read-cards : h .cards ≡ length (boardAt s at .play)
+  unfolding boardFrom over
+  read-cards = l .cards ∙ sym (cards-count s (stream s at))
+
+  pub read-heading : headOf s h ≡ headingOf (boardAt s at)
+  unfolding boardFrom over
+  read-heading =
+      let ts = stream s at in
+      let q : dealtFrom s (optionOf (h .md)) ≡ over (onDealt (spanText s)) undealt ts = ap (dealtFrom s) (l .md) ∙ dealt-last s ts in
+      λ i.
+      record {
+        verdict = Accepted;
+        board =
+            record {
+              names = l .names i;
+              dealer = q i .dealer;
+              deal = record { counts = q i .deal };
+              vulnerability = l .vulnerability i;
+              title = maybe-is (h .title) (l .title) i;
+              «room_board» = maybe-is (h .room) (l .room) i;
+              «board_header» = maybe-is (h .header) (l .header) i;
+              claim = claim-is (h .claim) (l .claim) i;
+            };
+        calls = read-calls i;
+        cards = read-cards i;
+      }
 
 pub read-names : (s : List ℕ) (at : ℕ) (h : Head) → Leaves s (stream s at) h freshHead [] → h .names ≡ boardAt s at .names
 unfolding boardFrom over
@@ -186,7 +269,7 @@ read-names s at h l = l .names
 
 -- Rows of six words
 
-words-cons : (c : CallOf Span) (cs : List (CallOf Span)) → callWords (c ∷ cs) ≡ rowWords (rowOf c) ++ callWords cs
+pub words-cons : (c : CallOf Span) (cs : List (CallOf Span)) → callWords (c ∷ cs) ≡ rowWords (rowOf c) ++ callWords cs
 unfolding callWords rowWords
 words-cons c cs = go (c .annotation)
   where
@@ -201,22 +284,11 @@ unfolding callWords rowWords
 words-length [] = refl
 words-length (c ∷ cs) = ap length (words-cons c cs) ∙ (let h = words-length cs in omega arith)
 
--- what a call or a card that was called for and taken apart says
-pub given-call : (s : List ℕ) (at : ℕ) (r v : NextCall) → Call·Gives s at r → r ≡ v → Call·Gives s at v
-given-call s at r v h e = subst (Call·Gives s at) e h
-
+-- what a card that was called for and taken apart says
 pub given-card : (s : List ℕ) (at : ℕ) (r v : NextCard) → Card·Gives s at r → r ≡ v → Card·Gives s at v
 given-card s at r v h e = subst (Card·Gives s at) e h
 
--- what is left to store: a call and the others, or nothing
-module _ (s : List ℕ) (at : ℕ) {d : List ℕ} {pos : ℕ} {d₀ : List ℕ} {from : ℕ} {whole : List ℕ} (l : Left d pos (callWords (callsFrom s (stream s at))) d₀ from whole) where
-  pub call-left : (r : Call) (n : ℕ) → CallAt s at r n → Left d pos (rowWords r ++ callWords (callsFrom s (stream s n))) d₀ from whole
-  call-left r n c = rw (c .row, ← words-cons (c .call) (callsFrom s (stream s n)), ← c .front) l
-
-  pub calls-left : callsFrom s (stream s at) ≡ [] → Left d pos [] d₀ from whole
-  unfolding callWords
-  calls-left e = rw e at l
-
+-- what is left to store: a card and the others, or nothing
 module _ (s : List ℕ) (at : ℕ) {d : List ℕ} {pos : ℕ} {d₀ : List ℕ} {from : ℕ} {whole : List ℕ} (l : Left d pos (cardsFrom s (stream s at)) d₀ from whole) where
   pub card-left : (x n : ℕ) → cardsFrom s (stream s at) ≡ x ∷ cardsFrom s (stream s n) → Left d pos ((x ∷ []) ++ cardsFrom s (stream s n)) d₀ from whole
   card-left x n e = rw e at l
@@ -225,47 +297,40 @@ module _ (s : List ℕ) (at : ℕ) {d : List ℕ} {pos : ℕ} {d₀ : List ℕ} 
   cards-left e = rw e at l
 
 -- all of them are left at the start
-pub all-calls : (s : List ℕ) (at : ℕ) (d : List ℕ) → Room d 0 (callWords (boardAt s at .calls)) → Left d 0 (callWords (callsFrom s (stream s at))) d 0 (callWords (boardAt s at .calls))
-unfolding boardFrom
-all-calls s at d r = rw (← calls-are s (stream s at)) (start r)
-
 pub all-cards : (s : List ℕ) (at : ℕ) (d : List ℕ) → Room d 0 (boardAt s at .play) → Left d 0 (cardsFrom s (stream s at)) d 0 (boardAt s at .play)
 unfolding boardFrom
 all-cards s at d r = rw (← cards-after s (stream s at) []) (start r)
 
 -- What the checks of rows and cards give
-module _ (b : BoardOf Span) (rows cards : List ℕ) (h : Heading) (e : h ≡ headingOf b) where
-  calls-are-length : h .calls ≡ length (b .calls)
-  calls-are-length = ap (λ (x : Heading). x .calls) e
-
-  cards-are-length : h .cards ≡ length (b .play)
-  cards-are-length = ap (λ (x : Heading). x .cards) e
-
-  pub few-calls : length rows / 6 < h .calls → (r : Heading) → r ≡ refusedHeading (TooFewRows Calls (h .calls))
-      → record { heading = r; rows = rows; cards = cards } ≡ stored (unless (fewRows b rows cards) b) rows cards
-  unfolding unless
-  few-calls k r f = rw (f, calls-are-length) (simp (lt-ltb (length rows / 6) (length (b .calls)) (rw calls-are-length at k)))
-
-  module _ (k : h .calls ≤ length rows / 6) where
-    calls-fit : ltb (length rows / 6) (length (b .calls)) ≡ false
-    calls-fit = le-ltb (length rows / 6) (length (b .calls)) (rw calls-are-length at k)
-
-    pub few-cards : length cards < h .cards → (r : Heading) → r ≡ refusedHeading (TooFewRows Cards (h .cards))
-        → record { heading = r; rows = rows; cards = cards } ≡ stored (unless (fewRows b rows cards) b) rows cards
+module _ (s : List ℕ) (at : ℕ) (rows cards : List ℕ) where
+  module _ (h : Head) (l : Leaves s (stream s at) h freshHead []) where
+    pub few-calls : length rows / 6 < h .calls → (r : Heading) → r ≡ refusedHeading (TooFewRows Calls (h .calls))
+        → record { heading = r; rows = rows; cards = cards } ≡ stored (unless (fewRows (boardAt s at) rows cards) (boardAt s at)) rows cards
     unfolding unless
-    few-cards l r f = rw (f, cards-are-length) (simp (calls-fit, lt-ltb (length cards) (length (b .play)) (rw cards-are-length at l)))
+    few-calls k r f = let e = read-calls s at h l in rw (f, e) (simp (lt-ltb (length rows / 6) (length (boardAt s at .calls)) (rw e at k)))
 
-    pub calls-room : Room rows 0 (callWords (b .calls))
-    calls-room = record { room = let w = words-length (b .calls) in let c = calls-are-length in omega arith }
-
-    module _ (l : h .cards ≤ length cards) where
-      pub cards-room : Room cards 0 (b .play)
-      cards-room = record { room = let c = cards-are-length in omega arith }
-
-      pub board-stored : (rows′ cards′ : List ℕ) {n m : ℕ} → Put rows 0 (callWords (b .calls)) rows′ n → Put cards 0 (b .play) cards′ m
-          → record { heading = h; rows = rows′; cards = cards′ } ≡ stored (unless (fewRows b rows cards) b) rows cards
+    module _ (k : h .calls ≤ length rows / 6) where
+      pub few-cards : length cards < h .cards → (r : Heading) → r ≡ refusedHeading (TooFewRows Cards (h .cards))
+          → record { heading = r; rows = rows; cards = cards } ≡ stored (unless (fewRows (boardAt s at) rows cards) (boardAt s at)) rows cards
       unfolding unless
-      board-stored rows′ cards′ p q = rw (p .text, q .text, e) (simp (calls-fit, le-ltb (length cards) (length (b .play)) (rw cards-are-length at l)))
+      few-cards m r f =
+          let e = read-calls s at h l in
+          let d = read-cards s at h l in
+          rw (f, d) (simp (le-ltb (length rows / 6) (length (boardAt s at .calls)) (rw e at k), lt-ltb (length cards) (length (boardAt s at .play)) (rw d at m)))
+
+      pub enough : h .cards ≤ length cards → Ample s at rows cards
+      enough m = record { calls = let e = read-calls s at h l in rw e at k; play = let d = read-cards s at h l in rw d at m }
+
+  module _ (m : Ample s at rows cards) where
+    pub fits : (at ≤ length s) × (length s < 2 ^ 32) → Fits s at rows cards
+    fits w = record { within = w .0; short = w .1; calls = let a = words-length (boardAt s at .calls) in let c = m .calls in omega arith; play = m .play }
+
+    pub board-stored : (h : Head) (rows′ cards′ : List ℕ) → Stored s at rows cards h rows′ cards′ → (r : Heading) → r ≡ headOf s h
+        → record { heading = r; rows = rows′; cards = cards′ } ≡ stored (unless (fewRows (boardAt s at) rows cards) (boardAt s at)) rows cards
+    unfolding unless
+    board-stored h rows′ cards′ p r e =
+        rw (p .calls, p .play, e, read-heading s at h (p .leaves))
+        (simp (le-ltb (length rows / 6) (length (boardAt s at .calls)) (m .calls), le-ltb (length cards) (length (boardAt s at .play)) (m .play)))
 
 -- The entries, by the answer of `open`
 module _ (s : List ℕ) (o : Opened) (e : openedOf o ≡ openText s) where

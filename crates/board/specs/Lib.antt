@@ -3,3 +3,4 @@ pub mod Dealing
 pub mod Calls
 pub mod Play
 pub mod Reader
+pub mod Storing

@@ -18,6 +18,10 @@ abbrev pub before : Option ℕ → List ℕ → List ℕ
 before none cs = cs
 before (some c) cs = c ∷ cs
 
+-- the card of a pc's value, if it is one
+abbrev pub cardOf : (s : List ℕ) (v : Span) → List ℕ
+cardOf s v = before (readCard (trim (bytesAt s v))) []
+
 -- the cards from a place of the tokens on
 unfoldable pub cardsFrom : (s : List ℕ) → List (TokenOf Span) → List ℕ
 cardsFrom s [] = []

@@ -1,9 +1,40 @@
 -- The board that the tokens of a text from a place on give. (01: Board)
-use Prim.Native.Nat.{ℕ}
+use Prim.Native.Nat.{ℕ, _≤_, _/_}
 use mathlib.Core.List.{List}
+use lib.ListN.{length}
+use Rattle.lin_spec.specs.Records.{optionOf}
 use Rattle.lin_spec.specs.Board.{BoardOf, boardFrom}
 use Rattle.lin_spec.specs.Reading.{spanText, stream}
 use Rattle.lin_spec.specs.declared.Span.{Span}
+use Rattle.lin_spec.specs.declared.Heading.{Heading}
+use Rattle.lin_spec.specs.declared.Verdict.the-variants.{Accepted}
+use Rattle.board.specs.Dealing.{dealtFrom}
+use Rattle.board.specs.declared.heading.Head.{Head}
 
 abbrev pub boardAt : (s : List ℕ) (at : ℕ) → BoardOf Span
 boardAt s at = boardFrom (spanText s) (stream s at)
+
+-- a heading that was read, with dealer and deal
+abbrev pub headOf : (s : List ℕ) → Head → Heading
+headOf s h =
+    record {
+      verdict = Accepted;
+      board =
+          record {
+            names = h .names;
+            dealer = dealtFrom s (optionOf (h .md)) .dealer;
+            deal = record { counts = dealtFrom s (optionOf (h .md)) .deal };
+            vulnerability = h .vulnerability;
+            title = h .title;
+            «room_board» = h .room;
+            «board_header» = h .header;
+            claim = h .claim;
+          };
+      calls = h .calls;
+      cards = h .cards;
+    }
+
+-- the board has places for all its calls and cards
+pub record Ample (s : List ℕ) (at : ℕ) (rows cards : List ℕ) : Type 0 where
+  pub calls : length (boardAt s at .calls) ≤ length rows / 6
+  pub play : length (boardAt s at .play) ≤ length cards

@@ -58,7 +58,7 @@ fn flag_of(b: bool) -> u32
 }
 
 // The call of an mb value with an annotation or none.
-fn call_of(text: &[u8], v: Span, annotation: MaybeSpan) -> Call
+pub(crate) fn call_of(text: &[u8], v: Span, annotation: MaybeSpan) -> Call
     requires { ⌜ endOf v ≤ length (now text) ⌝ }
     ensures { λ r. ⌜ r ≡ rowOf (with (callOf (spanText (now (text .entry))) v) (optionOf annotation)) ⌝ }
 {

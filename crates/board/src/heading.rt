@@ -1,6 +1,5 @@
 // The heading of a board from a run of tokens, in one pass that keeps spans and small numbers only. (01: Board, `from_tokens`)
 use commands::AH;
-use commands::Known;
 use commands::MB;
 use commands::MC;
 use commands::MD;
@@ -9,7 +8,7 @@ use commands::PC;
 use commands::PN;
 use commands::QX;
 use commands::SV;
-use commands::next_known;
+use commands::command_at;
 use commands::on_card;
 use commands::on_claim;
 use commands::on_count;
@@ -18,7 +17,7 @@ use commands::on_names;
 use commands::on_present;
 use commands::on_sv;
 use commands::on_value;
-use document::Cursor;
+use document::next_pipe;
 use lin_spec::MaybeClaim;
 use lin_spec::MaybeSpan;
 use lin_spec::Span;
@@ -45,7 +44,7 @@ pub(crate) struct Head {
 }
 
 // The heading after one token more, whose command has the number k.
-fn step(text: &[u8], mut h: Head, k: u8, v: Span) -> Head
+pub(crate) fn step(text: &[u8], mut h: Head, k: u8, v: Span) -> Head
     requires { ⌜ (endOf v ≤ length (now text)) × (length (now text) < 2 ^ 32) × (h .calls < 2 ^ 32) × (h .cards < 2 ^ 32) ⌝ }
     ensures { λ r. ⌜ Stepped (now (text .entry)) h k v r ⌝ }
 {
@@ -91,7 +90,7 @@ fn step(text: &[u8], mut h: Head, k: u8, v: Span) -> Head
 }
 
 // A heading before the first token.
-fn fresh_head() -> Head
+pub(crate) fn fresh_head() -> Head
     ensures { λ r. ⌜ r ≡ freshHead ⌝ }
 {
     let none = Span { start: 0, len: 0 };
@@ -114,16 +113,26 @@ pub(crate) fn read_head(text: &[u8], at: usize) -> Head
     ensures { λ r. ⌜ Leaves (now (text .entry)) (stream (now (text .entry)) at) r freshHead [] ⌝ }
 {
     let mut h = fresh_head();
-    let mut cursor = Cursor { at };
+    let mut c = at;
     loop {
-        match next_known(text, cursor) {
-            Known::Token(k, v, c) => {
-                h = step(text, h, k, v);
-                cursor = c;
-            }
-            Known::Ended => {
-                return h;
-            }
+        let p = next_pipe(text, c);
+        let v = p + 1;
+        let q = next_pipe(text, v);
+        if text.len() <= q {
+            return h;
+        }
+        let k = command_at(text, c, p);
+        let value = Span {
+            start: v as u32,
+            len: (q - v) as u32,
+        };
+        c = q + 1;
+        if k == PC {
+            h.cards = on_card(text, true, value, h.cards);
+        } else if MC < k {} else if k == MB {
+            h.calls = on_count(true, h.calls);
+        } else {
+            h = step(text, h, k, value);
         }
     }
 }

@@ -4,6 +4,7 @@ mod dealing;
 mod heading;
 mod play;
 mod reader;
+mod storing;
 
 pub use calls::NextCall;
 pub use calls::next_call;

@@ -27,7 +27,7 @@ pub enum NextCard {
 }
 
 // The card of a token, if it is a pc and its value is a card.
-fn card_at(text: &[u8], k: u8, v: Span) -> MaybeCard
+pub(crate) fn card_at(text: &[u8], k: u8, v: Span) -> MaybeCard
     ensures { λ r. ⌜ maybeOf r ≡ pick (eqb k 0) (readCard (trimmed (bytesAt (now (text .entry)) v))) none ⌝ }
 {
     if k == PC {

@@ -1,65 +1,28 @@
 // The entries of `parse_lin`, and what they share with the reader of a file. (01: Board; File, "A heading call ..")
-use crate::calls::NextCall;
-use crate::calls::next_call;
 use crate::dealing::dealt_by;
+use crate::heading::Head;
 use crate::heading::read_head;
 use crate::play::NextCard;
 use crate::play::next_card;
+use crate::storing::read_into;
 use document::Cursor;
 use document::Opened;
 use document::open;
 use lin_spec::Board;
-use lin_spec::Call;
 use lin_spec::Heading;
 use lin_spec::Refusal;
 use lin_spec::RowKind;
 use lin_spec::Span;
 use lin_spec::Verdict;
 use output::put_byte;
-use output::put_word;
 ghost use mathlib.Core.Path.{_≡_};
+ghost use mathlib.Core.Bool.{true};
 ghost use Prim.Native.Nat.{_<_, _≤_, _^_};
 ghost use lib.ListN.{length};
 ghost use Rattle.output.specs.Put.{Room, Put};
 ghost use Rattle.lin_spec.specs.Refusals.{unless};
-ghost use Rattle.lin_spec.specs.Reading.{callWords, headingOf, fewRows, Reading, stored, readHeading, readBoard};
-ghost use Rattle.board.specs.Calls.{rowWords};
-ghost use Rattle.board.specs.Reader.{boardAt};
-
-// Stores a call in a row of six words.
-fn put_call(rows: &mut [u32], at: usize, c: Call) -> usize
-    requires { ⌜ Room (now rows) at (rowWords c) ⌝ }
-    ensures { λ r. ⌜ Put (now (rows .entry)) at (rowWords c) (now (rows .exit)) r ⌝ }
-{
-    let bid = c.bid;
-    let annotation = c.annotation;
-    let a = put_word(rows, at, bid.start);
-    let b = put_word(rows, a, bid.len);
-    let d = put_word(rows, b, c.alerted);
-    let e = put_word(rows, d, c.annotated);
-    let f = put_word(rows, e, annotation.start);
-    put_word(rows, f, annotation.len)
-}
-
-// Stores every call from a place on.
-fn put_calls(rows: &mut [u32], text: &[u8], at: usize) -> usize
-    requires { ⌜ Room (now rows) 0 (callWords (boardAt (now text) at .calls)) × (length (now text) < 2 ^ 32) ⌝ }
-    ensures { λ r. ⌜ Put (now (rows .entry)) 0 (callWords (boardAt (now (text .entry)) at .calls)) (now (rows .exit)) r ⌝ }
-{
-    let mut n = 0;
-    let mut cursor = Cursor { at };
-    loop {
-        match next_call(text, cursor) {
-            NextCall::Found(c, next) => {
-                n = put_call(rows, n, c);
-                cursor = next;
-            }
-            NextCall::Ended => {
-                return n;
-            }
-        }
-    }
-}
+ghost use Rattle.lin_spec.specs.Reading.{headingOf, fewRows, Reading, stored, readHeading, readBoard};
+ghost use Rattle.board.specs.Reader.{boardAt, headOf, Ample};
 
 // Stores every card from a place on.
 pub fn put_cards(cards: &mut [u8], text: &[u8], at: usize) -> usize
@@ -81,12 +44,11 @@ pub fn put_cards(cards: &mut [u8], text: &[u8], at: usize) -> usize
     }
 }
 
-// The heading of the board that the tokens of a text from a place on give.
-pub fn heading_at(text: &[u8], at: usize) -> Heading
-    requires { ⌜ (at ≤ length (now text)) × (length (now text) < 2 ^ 32) ⌝ }
-    ensures { λ r. ⌜ r ≡ headingOf (boardAt (now (text .entry)) at) ⌝ }
+// A heading that was read, with dealer and deal.
+fn heading_of(text: &[u8], h: Head) -> Heading
+    requires { ⌜ length (now text) < 2 ^ 32 ⌝ }
+    ensures { λ r. ⌜ r ≡ headOf (now (text .entry)) h ⌝ }
 {
-    let h = read_head(text, at);
     let md = h.md;
     let d = dealt_by(text, md);
     let names = h.names;
@@ -115,6 +77,14 @@ pub fn heading_at(text: &[u8], at: usize) -> Heading
     }
 }
 
+// The heading of the board that the tokens of a text from a place on give.
+pub fn heading_at(text: &[u8], at: usize) -> Heading
+    requires { ⌜ (at ≤ length (now text)) × (length (now text) < 2 ^ 32) ⌝ }
+    ensures { λ r. ⌜ r ≡ headingOf (boardAt (now (text .entry)) at) ⌝ }
+{
+    heading_of(text, read_head(text, at))
+}
+
 // The names of that board alone.
 pub fn names_at(text: &[u8], at: usize) -> [Span; 4]
     requires { ⌜ (at ≤ length (now text)) × (length (now text) < 2 ^ 32) ⌝ }
@@ -124,21 +94,31 @@ pub fn names_at(text: &[u8], at: usize) -> [Span; 4]
     h.names
 }
 
+// Whether no board of the text from a place on can have too few rows or cards: an mb or a pc takes four bytes at least.
+fn roomy(text: &[u8], at: usize, rows: &[u32], cards: &[u8]) -> bool
+    requires { ⌜ at ≤ length (now text) ⌝ }
+    ensures { λ r. ⌜ (r ≡ true → Ample (now (text .entry)) at (now (rows .entry)) (now (cards .entry))) ⌝ }
+{
+    let most = (text.len() - at) / 4;
+    (most <= rows.len() / 6) & (most <= cards.len())
+}
+
 // The same board with its rows and cards, where there are enough places.
 pub fn board_at(text: &[u8], at: usize, rows: &mut [u32], cards: &mut [u8]) -> Heading
     requires { ⌜ (at ≤ length (now text)) × (length (now text) < 2 ^ 32) ⌝ }
     ensures { λ r. ⌜ _≡_ {A = Reading} (record { heading = r; rows = now (rows .exit); cards = now (cards .exit) }) (stored (unless (fewRows (boardAt (now (text .entry)) at) (now (rows .entry)) (now (cards .entry))) (boardAt (now (text .entry)) at)) (now (rows .entry)) (now (cards .entry))) ⌝ }
 {
-    let h = heading_at(text, at);
+    if roomy(text, at, rows, cards) {
+        return heading_of(text, read_into(text, at, rows, cards));
+    }
+    let h = read_head(text, at);
     if rows.len() / 6 < h.calls {
         return Heading::refused(Refusal::TooFewRows(RowKind::Calls, h.calls as u64));
     }
     if cards.len() < h.cards {
         return Heading::refused(Refusal::TooFewRows(RowKind::Cards, h.cards as u64));
     }
-    put_calls(rows, text, at);
-    put_cards(cards, text, at);
-    h
+    heading_of(text, read_into(text, at, rows, cards))
 }
 
 // The heading of a text that is one board.

@@ -1,6 +1,6 @@
 -- Laws of one token with its command's number. (01: Tokens, Board)
 -- Assumes nothing.
-use Prim.Native.Nat.{ℕ, _+_, _≤_, _<_}
+use Prim.Native.Nat.{ℕ, _+_, _-_, _≤_, _<_}
 use native.Mathlib.Omega.{arith}
 use mathlib.Core.Path.{_≡_, ap, sym, subst, _∙_}
 use mathlib.Core.List.{List, [], _∷_}
@@ -8,11 +8,13 @@ use lib.ListN.{length, getD}
 use lib.Dec.{eqb}
 use Rattle.lin_spec.specs.Records.{span, part}
 use Rattle.lin_spec.specs.White.{isCommand}
-use Rattle.lin_spec.specs.Cursor.{Place, Step, stepAt}
+use Rattle.lin_spec.specs.Tokens.{pipe}
+use Rattle.lin_spec.specs.Cursor.{Place, Step, stepAt, findFrom}
 use Rattle.lin_spec.specs.Cursor.Step.{found, ended}
 use Rattle.lin_spec.specs.Reading.{stream}
 use Rattle.lin_spec.specs.declared.Span.{Span}
-use Rattle.lin_spec.proofs.Cursor.{means}
+use Rattle.lin_spec.proofs.Base.{split}
+use Rattle.lin_spec.proofs.Cursor.{means, find-end, find-after, step-none, step-one, step-two, step-after}
 use Rattle.lin_spec.proofs.Reading.{streams}
 use Rattle.commands.specs.Commands.{words, commandOf}
 use Rattle.commands.specs.Steps.{TokenAt, Commands, Knows}
@@ -34,6 +36,24 @@ module _ (s : List ℕ) (at : ℕ) (c v : Place) (n : ℕ) (e : stepAt s at ≡ 
 
 pub no-token : (s : List ℕ) (at n : ℕ) → stepAt s at ≡ ended n → stream s at ≡ []
 no-token s at n e = streams s at (ended n) e
+
+-- the next two pipes give it; the second is sought after the first even where there is none
+module _ (s : List ℕ) (at p q : ℕ) (ep : p ≡ findFrom pipe s at) (eq : q ≡ findFrom pipe s (p + 1)) where
+  pub pipes-none : length s ≤ q → stream s at ≡ []
+  pipes-none h = split p (length s) (λ k. no-token s at at (step-one s at p ep k q eq h)) (λ k. no-token s at at (step-none s at p ep k))
+
+  module _ (h : q < length s) where
+    pub pipes-first : p < length s
+    pipes-first = split p (length s) (λ k. k) (λ k. let e = find-end pipe s (p + 1) (omega arith) in absurd (let z : ⊥ = omega arith in z))
+
+    pub pipes-command : (at ≤ p) × (p ≤ length s)
+    pipes-command = (step-after s at p ep pipes-first, let l = pipes-first in omega arith)
+
+    pub pipes-value : p + 1 ≤ q
+    pipes-value = rw eq (find-after pipe s (p + 1) (rw eq at h))
+
+    pub pipes-token : (k : ℕ) → k ≡ commandOf (part s at (p - at)) → TokenAt s at k (span (p + 1) (q - (p + 1))) (q + 1)
+    pipes-token k ek = token-at s at _ _ _ (step-two s at p ep pipes-first q eq h) k ek
 
 -- what a step that was called for and taken apart says
 pub commanded : (s : List ℕ) (at : ℕ) (r v : Commanded) → Commands s at r → r ≡ v → Commands s at v

@@ -1,7 +1,9 @@
 -- The commands of a board by number. (01: Board)
-use Prim.Native.Nat.{ℕ, suc}
+use Prim.Native.Nat.{ℕ, suc, _-_, _≤_}
+use mathlib.Core.Path.{_≡_}
 use mathlib.Core.List.{List, [], _∷_}
-use Rattle.lin_spec.specs.Base.{pick, ascii}
+use Rattle.lin_spec.specs.Base.{pick, ascii, eqList}
+use Rattle.lin_spec.specs.Records.{part}
 use Rattle.lin_spec.specs.White.{trim, sameWord}
 
 abbrev pub words : List (List ℕ)
@@ -14,5 +16,20 @@ unfoldable pub firstWord : (n : ℕ) (ws : List (List ℕ)) (s : List ℕ) → �
 firstWord n [] s = n
 firstWord n (w ∷ ws) s = pick (sameWord s w) n (firstWord (suc n) ws s)
 
+-- the same of a word x that is in small letters already
+unfoldable pub firstSmall : (n : ℕ) (ws : List (List ℕ)) (x : List ℕ) → ℕ
+firstSmall n [] x = n
+firstSmall n (w ∷ ws) x = pick (eqList x w) n (firstSmall (suc n) ws x)
+
+-- the number of the word of the small letters x and y
+abbrev pub codeOf : (x y : ℕ) → ℕ
+codeOf x y = firstSmall 0 words (x ∷ y ∷ [])
+
 unfoldable pub commandOf : (command : List ℕ) → ℕ
 commandOf c = firstWord 0 words (trim c)
+
+-- from r up to p stands the same command as from `at` up to p
+pub record SameFrom (s : List ℕ) (at p r : ℕ) : Type 0 where
+  pub from : at ≤ r
+  pub to : r ≤ p
+  pub same : commandOf (part s r (p - r)) ≡ commandOf (part s at (p - at))

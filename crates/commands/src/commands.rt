@@ -2,8 +2,12 @@
 use text::same_word;
 use text::trim;
 ghost use mathlib.Core.Path.{_≡_};
-ghost use Rattle.commands.specs.Commands.{words, firstWord, commandOf};
-ghost use lib.ListN.{drop};
+ghost use mathlib.Core.List.{[], _∷_};
+ghost use Rattle.lin_spec.specs.White.{lower};
+ghost use Rattle.commands.specs.Commands.{words, firstWord, codeOf, commandOf, SameFrom};
+ghost use Prim.Native.Nat.{_-_, _≤_};
+ghost use lib.ListN.{length, drop};
+ghost use Rattle.lin_spec.specs.Records.{part};
 
 pub const PC: u8 = 0;
 
@@ -25,11 +29,70 @@ pub const AH: u8 = 8;
 
 pub const MC: u8 = 9;
 
-// The number of a command, 10 where it is none of them.
-pub fn command_of(raw: &[u8]) -> u8
-    ensures { λ r. ⌜ r ≡ commandOf (now (raw .entry)) ⌝ }
+// A capital of ASCII as the small letter, any other byte as it is.
+fn small(b: u8) -> u8
+    ensures { λ r. ⌜ r ≡ lower b ⌝ }
 {
-    word_of(trim(raw))
+    if b < 0x41 {
+        return b;
+    }
+    if 0x5A < b {
+        return b;
+    }
+    b + 0x20
+}
+
+// The number of the word of two small letters, the first neither p nor m.
+fn other_pair(x: u8, y: u8) -> u8
+    requires { ⌜ (x ≡ 112 → ⊥) × (x ≡ 109 → ⊥) ⌝ }
+    ensures { λ r. ⌜ r ≡ codeOf x y ⌝ }
+{
+    if (x == b'a') & (y == b'n') {
+        return AN;
+    }
+    if (x == b'q') & (y == b'x') {
+        return QX;
+    }
+    if (x == b's') & (y == b'v') {
+        return SV;
+    }
+    if (x == b'a') & (y == b'h') {
+        return AH;
+    }
+    10
+}
+
+// The number of a command of two bytes, as nearly all are.
+fn pair_of(a: u8, b: u8) -> u8
+    ensures { λ r. ⌜ r ≡ commandOf (a ∷ b ∷ []) ⌝ }
+{
+    let x = small(a);
+    let y = small(b);
+    if x == b'p' {
+        if y == b'c' {
+            return PC;
+        }
+        if y == b'n' {
+            return PN;
+        }
+        return 10;
+    }
+    if x == b'm' {
+        if y == b'b' {
+            return MB;
+        }
+        if y == b'd' {
+            return MD;
+        }
+        if y == b'n' {
+            return MN;
+        }
+        if y == b'c' {
+            return MC;
+        }
+        return 10;
+    }
+    other_pair(x, y)
 }
 
 fn word_of(t: &[u8]) -> u8
@@ -72,4 +135,30 @@ fn other_word_of(t: &[u8]) -> u8
         return MC;
     }
     10
+}
+
+// The place after an LF, if one is there: the command is the same without it.
+fn after_lf(text: &[u8], at: usize, p: usize) -> usize
+    requires { ⌜ (at ≤ p) × (p ≤ length (now text)) ⌝ }
+    ensures { λ r. ⌜ SameFrom (now (text .entry)) at p r ⌝ }
+{
+    if p <= at {
+        return at;
+    }
+    if text[at] == b'\n' {
+        return at + 1;
+    }
+    at
+}
+
+// The number of the command that stands from `at` up to p, 10 where it is none of them. Nearly all are two bytes, perhaps after an LF.
+pub fn command_at(text: &[u8], at: usize, p: usize) -> u8
+    requires { ⌜ (at ≤ p) × (p ≤ length (now text)) ⌝ }
+    ensures { λ r. ⌜ r ≡ commandOf (part (now (text .entry)) at (p - at)) ⌝ }
+{
+    let a = after_lf(text, at, p);
+    if p - a == 2 {
+        return pair_of(text[a], text[a + 1]);
+    }
+    word_of(trim(&text[a..p]))
 }

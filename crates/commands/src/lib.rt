@@ -13,7 +13,7 @@ pub use commands::PC;
 pub use commands::PN;
 pub use commands::QX;
 pub use commands::SV;
-pub use commands::command_of;
+pub use commands::command_at;
 pub use fields::on_card;
 pub use fields::on_claim;
 pub use fields::on_count;

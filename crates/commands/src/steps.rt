@@ -1,5 +1,5 @@
 // One token at a time, with its command's number. (01: Tokens, Board)
-use crate::commands::command_of;
+use crate::commands::command_at;
 use document::Cursor;
 use document::Part;
 use document::next_pipe;
@@ -34,7 +34,7 @@ pub fn next_command(text: &[u8], cursor: Cursor) -> Commanded
     if text.len() <= q {
         return Commanded::Ended;
     }
-    let k = command_of(&text[at..p]);
+    let k = command_at(text, at, p);
     let value = Part {
         start: v,
         len: q - v,

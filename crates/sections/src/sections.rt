@@ -4,9 +4,11 @@ use commands::MD;
 use commands::MN;
 use commands::PN;
 use commands::QX;
+use commands::command_at;
 use commands::next_command;
 use document::Cursor;
 use document::Opened;
+use document::next_pipe;
 use document::open;
 use lin_spec::Refusal;
 use text::find_byte;
@@ -84,29 +86,29 @@ fn part_from(text: &[u8], at: usize) -> Section
 {
     let mut back = at;
     let mut board = false;
-    let mut c = Cursor { at };
+    let mut c = at;
     loop {
-        match next_command(text, c) {
-            Commanded::Token(k, _, next) => {
-                if (k == QX) & (at < back) {
-                    return Section {
-                        start: at,
-                        stop: back,
-                        board,
-                    };
-                }
-                back = moved_back(k, back, next.at);
-                board = board | (k == MD);
-                c = next;
-            }
-            Commanded::Ended => {
-                return Section {
-                    start: at,
-                    stop: c.at,
-                    board,
-                };
-            }
+        let p = next_pipe(text, c);
+        let v = p + 1;
+        let q = next_pipe(text, v);
+        if text.len() <= q {
+            return Section {
+                start: at,
+                stop: c,
+                board,
+            };
         }
+        let k = command_at(text, c, p);
+        if (k == QX) & (at < back) {
+            return Section {
+                start: at,
+                stop: back,
+                board,
+            };
+        }
+        c = q + 1;
+        back = moved_back(k, back, c);
+        board = board | (k == MD);
     }
 }
 

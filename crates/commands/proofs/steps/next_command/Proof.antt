@@ -1,8 +1,8 @@
 -- `commands::next_command` meets its contract: the pipes that were found say which step it is.
 -- Assumes nothing.
-use Rattle.lin_spec.specs.Records.{part}
 use Rattle.lin_spec.proofs.Cursor.{step-none, step-one, step-two, step-after}
 use Rattle.commands.proofs.StepLaws.{token-at, no-token}
+use native.Mathlib.Omega.{arith}
 use borrow.Author.Needs.{needs}
 use Rattle.commands.proofs.steps.next_command.Statement.{statement}
 use Rattle.commands.proofs.steps.next_command.Tie as tie
@@ -22,27 +22,17 @@ next-pipe-requires-2 c κs = search needs
 returns-2 : tie.Need-returns-2
 returns-2 c = no-token _ _ _ (step-one _ _ _ (c .before .before .before .next-pipe .ensures) (c .before .before .if1 .left) _ (c .before .next-pipe2 .ensures) (c .if2 .taken))
 
-sub-command-of : tie.Need-sub-command-of
-sub-command-of c = step-after _ _ _ (c .before .before .before .next-pipe .ensures) (c .before .before .if1 .left)
-
-part-command-of-start : tie.Need-part-command-of-start
-part-command-of-start c = step-after _ _ _ (c .before .before .before .next-pipe .ensures) (c .before .before .if1 .left)
-
-part-command-of-end : tie.Need-part-command-of-end
-part-command-of-end c = search needs
-
-command-of-requires : tie.Need-command-of-requires
-command-of-requires c κs = search needs
+command-at-requires : tie.Need-command-at-requires
+command-at-requires c κs = (step-after _ _ _ (c .before .before .before .next-pipe .ensures) (c .before .before .if1 .left), omega (arith, c .before .before .if1 .left))
 
 sub-t9 : tie.Need-sub-t9
-sub-t9 c = step-after _ _ _ (c .before .before .before .next-pipe2 .ensures) (c .before .before .if2 .left)
+sub-t9 c = step-after _ _ _ (c .before .before .next-pipe2 .ensures) (c .before .if2 .left)
 
 add-t9 : tie.Need-add-t9
 add-t9 c = search needs
 
 returns-3 : tie.Need-returns-3
-unfolding part
-returns-3 c = token-at _ _ _ _ _ (step-two _ _ _ (c .before .before .before .before .before .next-pipe .ensures) (c .before .before .before .before .if1 .left) _ (c .before .before .before .next-pipe2 .ensures) (c .before .before .if2 .left)) _ (c .command-of .ensures)
+returns-3 c = token-at _ _ _ _ _ (step-two _ _ _ (c .before .before .before .before .next-pipe .ensures) (c .before .before .before .if1 .left) _ (c .before .before .next-pipe2 .ensures) (c .before .if2 .left)) _ (c .command-at .ensures)
 
 pub next-command-spec : {M : Type 1} → statement M
 next-command-spec =
@@ -53,10 +43,7 @@ next-command-spec =
     add-v
     next-pipe-requires-2
     returns-2
-    sub-command-of
-    part-command-of-start
-    part-command-of-end
-    command-of-requires
+    command-at-requires
     sub-t9
     add-t9
     returns-3)

@@ -1,46 +1,68 @@
--- `file::part_from` meets its contract: a turn passes a token that ends no part.
+-- `sections::part_from` meets its contract: a turn passes a token that ends no part.
 -- Assumes nothing.
 use Rattle.sections.proofs.SectionLaws.{Walks, walks-begin, walks-end, walks-stop, walks-on}
-use Rattle.commands.proofs.StepLaws.{commanded}
+use Rattle.commands.proofs.StepLaws.{pipes-none, pipes-command, pipes-token}
+use Rattle.commands.proofs.FieldLaws.{find-most}
 use lib.ListN.{length}
-use borrow.Author.Needs.{needs}
 use native.Mathlib.Omega.{arith}
 use Prim.Native.Nat.{_-_}
 use Rattle.sections.proofs.sections.part_from.Statement.{statement}
 use Rattle.sections.proofs.sections.part_from.Tie as tie
+use Rattle.sections.proofs.sections.part_from.Reads as reads
+use Rattle.sections.proofs.sections.part_from.Lts as lts
+use Rattle.commands.proofs.command_at.Reads as command-at-reads
+use Rattle.document.proofs.next_pipe.Reads as next-pipe-reads
+use Rattle.sections.proofs.sections.moved_back.Reads as moved-back-reads
 
 abbrev Inv-loop : tie.InvT-loop
-Inv-loop text at back₀ board₀ c₀ back board c = Walks text at back (c .at) board
+Inv-loop text at back₀ board₀ c₀ back board c = Walks text at back c board
 
 abbrev μ-loop : tie.MeasureT-loop
-μ-loop text at back₀ board₀ c₀ back board c = length text - c .at
+μ-loop text at back₀ board₀ c₀ back board c = length text - c
 
+-- src/sections.rt:90:5
 loop-holds : tie.Need-loop-holds Inv-loop μ-loop
 loop-holds c = walks-begin _ _
 
-next-command-requires : tie.Need-next-command-requires Inv-loop μ-loop
-next-command-requires c κs = tt
+-- src/sections.rt:91:13
+next-pipe-requires : tie.Need-next-pipe-requires Inv-loop μ-loop
+next-pipe-requires c κs = tt
 
-enum-known-k : tie.Need-enum-known-k Inv-loop μ-loop
-enum-known-k c = search needs
+-- src/sections.rt:92:17
+add-v : tie.Need-add-v Inv-loop μ-loop
+add-v c = omega (arith, find-most _ _ _ _ (c .next-pipe .ensures))
 
+-- src/sections.rt:93:13
+next-pipe-requires-2 : tie.Need-next-pipe-requires-2 Inv-loop μ-loop
+next-pipe-requires-2 c κs = tt
+
+-- src/sections.rt:95:13
 returns : tie.Need-returns Inv-loop μ-loop
-returns c = walks-stop _ _ _ _ _ (c .before .before .before .before .before .loop .inv) _ _ _ (commanded _ _ _ _ (c .before .before .before .before .next-command .ensures) (c .before .before .k .given .1)) (c .if1 .taken)
+returns c = walks-end _ _ _ _ _ (c .before .before .before .loop .inv) (pipes-none _ _ _ _ (c .before .before .next-pipe .ensures) (c .before .next-pipe2 .ensures) (c .if1 .taken))
 
+-- src/sections.rt:101:13
+command-at-requires : tie.Need-command-at-requires Inv-loop μ-loop
+command-at-requires c κs = pipes-command _ _ _ _ (c .before .before .next-pipe .ensures) (c .before .next-pipe2 .ensures) (c .if1 .left)
+
+-- src/sections.rt:103:13
+returns-2 : tie.Need-returns-2 Inv-loop μ-loop
+returns-2 c = walks-stop _ _ _ _ _ (c .before .before .before .before .before .loop .inv) _ _ _ (pipes-token _ _ _ _ (c .before .before .before .before .next-pipe .ensures) (c .before .before .before .next-pipe2 .ensures) (c .before .before .if1 .left) _ (c .before .command-at .ensures)) (c .if2 .taken)
+
+-- src/sections.rt:109:13
+add-c : tie.Need-add-c Inv-loop μ-loop
+add-c c = omega arith
+
+-- src/sections.rt:110:9
 moved-back-requires : tie.Need-moved-back-requires Inv-loop μ-loop
 moved-back-requires c κs = tt
 
+-- src/sections.rt:90:5
 loop-less : tie.Need-loop-less Inv-loop μ-loop
-loop-less c = let t = commanded _ _ _ _ (c .before .before .before .before .before .next-command .ensures) (c .before .before .before .k .given .1) in omega (arith, t .later, t .within)
+loop-less c = let t = pipes-token _ _ _ _ (c .before .before .before .before .before .next-pipe .ensures) (c .before .before .before .before .next-pipe2 .ensures) (c .before .before .before .if1 .left) _ (c .before .before .command-at .ensures) in omega (arith, t .later, t .within)
 
+-- src/sections.rt:90:5
 loop-again : tie.Need-loop-again Inv-loop μ-loop
-loop-again c = walks-on _ _ _ _ _ (c .before .before .before .before .before .before .loop .inv) _ _ _ (commanded _ _ _ _ (c .before .before .before .before .before .next-command .ensures) (c .before .before .before .k .given .1)) (c .before .if1 .left) _ (c .moved-back .ensures)
-
-enum-told : tie.Need-enum-told Inv-loop μ-loop
-enum-told c = search needs
-
-returns-2 : tie.Need-returns-2 Inv-loop μ-loop
-returns-2 c = walks-end _ _ _ _ _ (c .before .before .before .loop .inv) (commanded _ _ _ _ (c .before .before .next-command .ensures) (c .enum-told .given .1))
+loop-again c = walks-on _ _ _ _ _ (c .before .before .before .before .before .before .loop .inv) _ _ _ (pipes-token _ _ _ _ (c .before .before .before .before .before .next-pipe .ensures) (c .before .before .before .before .next-pipe2 .ensures) (c .before .before .before .if1 .left) _ (c .before .before .command-at .ensures)) (c .before .if2 .left) _ (c .moved-back .ensures)
 
 pub part-from-spec : {M : Type 1} → statement M
 part-from-spec =
@@ -49,11 +71,13 @@ part-from-spec =
     Inv-loop
     μ-loop
     loop-holds
-    next-command-requires
-    enum-known-k
+    next-pipe-requires
+    add-v
+    next-pipe-requires-2
     returns
+    command-at-requires
+    returns-2
+    add-c
     moved-back-requires
     loop-less
-    loop-again
-    enum-told
-    returns-2)
+    loop-again)

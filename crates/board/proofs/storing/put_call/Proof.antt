@@ -7,8 +7,8 @@ use denote.Ref.{now}
 use Rattle.output.specs.Put.{joined}
 use Rattle.output.proofs.Laws.{Left, start, roomy, step, finish}
 use Rattle.board.specs.Calls.{rowPieces, rowWords}
-use Rattle.board.proofs.reader.put_call.Statement.{statement}
-use Rattle.board.proofs.reader.put_call.Tie as tie
+use Rattle.board.proofs.storing.put_call.Statement.{statement}
+use Rattle.board.proofs.storing.put_call.Tie as tie
 
 -- what is left to store after k of the puts
 abbrev After : ℕ → tie.Start → List ℕ → ℕ → Type 0

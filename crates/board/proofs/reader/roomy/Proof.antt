@@ -1,0 +1,19 @@
+-- `board::roomy` meets its contract.
+-- Assumes nothing.
+use Rattle.board.proofs.ReaderLaws.{ample}
+use borrow.Author.Needs.{needs}
+use Rattle.board.proofs.reader.roomy.Statement.{statement}
+use Rattle.board.proofs.reader.roomy.Tie as tie
+use Rattle.board.proofs.reader.roomy.Reads as reads
+use Rattle.board.proofs.reader.roomy.Lts as lts
+
+-- src/reader.rt:102:17
+sub-most : tie.Need-sub-most
+sub-most c = search needs
+
+-- src/reader.rt:98:1
+returns : tie.Need-returns
+returns c = ample _ _ _ _
+
+pub roomy-spec : {M : Type 1} → statement M
+roomy-spec = tie.close (tie.spec sub-most returns)

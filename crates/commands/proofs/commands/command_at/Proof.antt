@@ -1,0 +1,86 @@
+-- `commands::command_at` meets its contract: two bytes, or the word that is left after trimming. (01: Tokens)
+-- Assumes nothing.
+use mathlib.Core.Path.{ap, sym, _∙_}
+use Rattle.lin_spec.specs.Records.{part}
+use Rattle.commands.specs.Commands.{words, firstWord, commandOf}
+use Rattle.commands.proofs.CommandLaws.{two-bytes}
+use borrow.Author.Needs.{needs}
+use Rattle.commands.proofs.commands.command_at.Statement.{statement}
+use Rattle.commands.proofs.commands.command_at.Tie as tie
+use Rattle.commands.proofs.commands.command_at.Reads as reads
+use Rattle.commands.proofs.commands.command_at.Lts as lts
+use Rattle.commands.proofs.commands.after_lf.Reads as after-lf-reads
+use Rattle.commands.proofs.commands.pair_of.Reads as pair-of-reads
+use Rattle.commands.proofs.commands.word_of.Reads as word-of-reads
+use Rattle.text.proofs.trim.Reads as trim-reads
+
+-- src/commands.rt:159:9
+after-lf-requires : tie.Need-after-lf-requires
+after-lf-requires c κs = search needs
+
+-- src/commands.rt:160:8
+sub-if1 : tie.Need-sub-if1
+sub-if1 c = search needs
+
+-- src/commands.rt:161:24
+shared-slice-read-pair-of : tie.Need-shared-slice-read-pair-of
+shared-slice-read-pair-of c = search needs
+
+-- src/commands.rt:161:38
+add-pair-of : tie.Need-add-pair-of
+add-pair-of c = search needs
+
+-- src/commands.rt:161:33
+shared-slice-read-pair-of-2 : tie.Need-shared-slice-read-pair-of-2
+shared-slice-read-pair-of-2 c = search needs
+
+-- src/commands.rt:161:9
+pair-of-requires : tie.Need-pair-of-requires
+pair-of-requires c κs = search needs
+
+-- src/commands.rt:161:9
+returns : tie.Need-returns
+returns c = c .pair-of .ensures ∙ sym (ap commandOf (two-bytes _ _ _ (c .before .before .before .before .before .before .pre .1) (c .before .before .before .if1 .taken))) ∙ c .before .before .before .before .after-lf .ensures .same
+
+-- src/commands.rt:163:18
+sub-trim : tie.Need-sub-trim
+sub-trim c = search needs
+
+-- src/commands.rt:163:18
+part-trim-start : tie.Need-part-trim-start
+part-trim-start c = search needs
+
+-- src/commands.rt:163:18
+part-trim-end : tie.Need-part-trim-end
+part-trim-end c = search needs
+
+-- src/commands.rt:163:13
+trim-requires : tie.Need-trim-requires
+trim-requires c κs = search needs
+
+-- src/commands.rt:163:5
+word-of-requires : tie.Need-word-of-requires
+word-of-requires c κs = search needs
+
+-- src/commands.rt:155:1
+returns-2 : tie.Need-returns-2
+unfolding commandOf part
+returns-2 c = c .word-of .ensures ∙ ap (firstWord 0 words) (c .before .trim .ensures) ∙ c .before .before .before .before .after-lf .ensures .same
+
+pub command-at-spec : {M : Type 1} → statement M
+command-at-spec =
+    tie.close
+    (tie.spec
+    after-lf-requires
+    sub-if1
+    shared-slice-read-pair-of
+    add-pair-of
+    shared-slice-read-pair-of-2
+    pair-of-requires
+    returns
+    sub-trim
+    part-trim-start
+    part-trim-end
+    trim-requires
+    word-of-requires
+    returns-2)

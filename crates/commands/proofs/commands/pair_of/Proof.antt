@@ -1,0 +1,77 @@
+-- `commands::pair_of` meets its contract: by the first letter, then by the second. (01: Board)
+-- Assumes nothing.
+use native.Mathlib.Omega.{arith}
+use mathlib.Core.Path.{_∙_}
+use Rattle.commands.proofs.CommandLaws.{pair-code, code-word, none-p, none-m}
+use borrow.Author.Needs.{needs}
+use Rattle.commands.proofs.commands.pair_of.Statement.{statement}
+use Rattle.commands.proofs.commands.pair_of.Tie as tie
+use Rattle.commands.proofs.commands.pair_of.Reads as reads
+use Rattle.commands.proofs.commands.pair_of.Lts as lts
+use Rattle.commands.proofs.commands.other_pair.Reads as other-pair-reads
+use Rattle.commands.proofs.commands.small.Reads as small-reads
+
+-- src/commands.rt:67:9
+small-requires : tie.Need-small-requires
+small-requires c κs = search needs
+
+-- src/commands.rt:68:9
+small-requires-2 : tie.Need-small-requires-2
+small-requires-2 c κs = search needs
+
+-- src/commands.rt:71:13
+returns : tie.Need-returns
+returns c = code-word _ _ 0 (omega arith) (c .before .if1 .taken) (c .if2 .taken) ∙ pair-code _ _ _ _ (c .before .before .before .small .ensures) (c .before .before .small2 .ensures)
+
+-- src/commands.rt:74:13
+returns-2 : tie.Need-returns-2
+returns-2 c = code-word _ _ 4 (omega arith) (c .before .before .if1 .taken) (c .if3 .taken) ∙ pair-code _ _ _ _ (c .before .before .before .before .small .ensures) (c .before .before .before .small2 .ensures)
+
+-- src/commands.rt:76:9
+returns-3 : tie.Need-returns-3
+returns-3 c = none-p _ _ (c .before .before .if1 .taken) (c .before .if2 .left) (c .if3 .left) ∙ pair-code _ _ _ _ (c .before .before .before .before .small .ensures) (c .before .before .before .small2 .ensures)
+
+-- src/commands.rt:80:13
+returns-4 : tie.Need-returns-4
+returns-4 c = code-word _ _ 1 (omega arith) (c .before .if4 .taken) (c .if5 .taken) ∙ pair-code _ _ _ _ (c .before .before .before .before .small .ensures) (c .before .before .before .small2 .ensures)
+
+-- src/commands.rt:83:13
+returns-5 : tie.Need-returns-5
+returns-5 c = code-word _ _ 3 (omega arith) (c .before .before .if4 .taken) (c .if6 .taken) ∙ pair-code _ _ _ _ (c .before .before .before .before .before .small .ensures) (c .before .before .before .before .small2 .ensures)
+
+-- src/commands.rt:86:13
+returns-6 : tie.Need-returns-6
+returns-6 c = code-word _ _ 6 (omega arith) (c .before .before .before .if4 .taken) (c .if7 .taken) ∙ pair-code _ _ _ _ (c .before .before .before .before .before .before .small .ensures) (c .before .before .before .before .before .small2 .ensures)
+
+-- src/commands.rt:89:13
+returns-7 : tie.Need-returns-7
+returns-7 c = code-word _ _ 9 (omega arith) (c .before .before .before .before .if4 .taken) (c .if8 .taken) ∙ pair-code _ _ _ _ (c .before .before .before .before .before .before .before .small .ensures) (c .before .before .before .before .before .before .small2 .ensures)
+
+-- src/commands.rt:91:9
+returns-8 : tie.Need-returns-8
+returns-8 c = none-m _ _ (c .before .before .before .before .if4 .taken) (c .before .before .before .if5 .left) (c .before .before .if6 .left) (c .before .if7 .left) (c .if8 .left) ∙ pair-code _ _ _ _ (c .before .before .before .before .before .before .before .small .ensures) (c .before .before .before .before .before .before .small2 .ensures)
+
+-- src/commands.rt:93:5
+other-pair-requires : tie.Need-other-pair-requires
+other-pair-requires c κs = search needs
+
+-- src/commands.rt:64:1
+returns-9 : tie.Need-returns-9
+returns-9 c = c .other-pair .ensures ∙ pair-code _ _ _ _ (c .before .before .before .before .small .ensures) (c .before .before .before .small2 .ensures)
+
+pub pair-of-spec : {M : Type 1} → statement M
+pair-of-spec =
+    tie.close
+    (tie.spec
+    small-requires
+    small-requires-2
+    returns
+    returns-2
+    returns-3
+    returns-4
+    returns-5
+    returns-6
+    returns-7
+    returns-8
+    other-pair-requires
+    returns-9)
