@@ -4,4 +4,4 @@ mod hands;
 mod texts;
 
 pub use boards::same_board;
-pub use boards::same_boards;
+pub use boards::same_heads;

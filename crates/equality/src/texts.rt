@@ -3,7 +3,6 @@ use lent::call_at;
 use lin_spec::Call;
 use lin_spec::MaybeSpan;
 use lin_spec::Span;
-use text::same_bytes;
 use text::shown;
 ghost use mathlib.Core.Path.{_≡_};
 ghost use mathlib.Core.Bool.{not};
@@ -14,6 +13,22 @@ ghost use Rattle.lin_spec.specs.Records.{bytesAt, optionOf};
 ghost use Rattle.lin_spec.specs.Board.{mapOption};
 ghost use Rattle.lin_spec.specs.Equality.{eqAll, eqOption, eqFlag, eqCall};
 ghost use Rattle.equality.specs.Parts.{callBytes, callsBytes};
+
+// Whether two texts have the same bytes.
+pub(crate) fn same_bytes(a: &[u8], b: &[u8]) -> bool
+    ensures { λ r. ⌜ r ≡ eqList (now (a .entry)) (now (b .entry)) ⌝ }
+{
+    if a.len() != b.len() {
+        return false;
+    }
+    let mut same = true;
+    let mut i = 0;
+    while i < a.len() {
+        same = same & (a[i] == b[i]);
+        i += 1;
+    }
+    same
+}
 
 // Whether two spans name the same bytes.
 fn same_span(text: &[u8], x: Span, text2: &[u8], y: Span) -> bool
