@@ -9,7 +9,7 @@ use cardtext::format_cardplay_by_trick;
 use cleaning::Marks;
 use equality::same_heads;
 use lin_spec::Equality;
-use writer::append_with;
+use writer::append_head;
 ghost use mathlib.Core.Path.{_≡_};
 ghost use Rattle.lin_spec.specs.Play.{formatCardplay};
 ghost use Rattle.lin_spec.specs.Equality.{equalityOf};
@@ -55,7 +55,7 @@ pub extern "C" fn lin_append(
         line: b' ',
     };
     let head = head_of(board);
-    written(append_with(
+    written(append_head(
         other,
         marks,
         text,

@@ -44,7 +44,7 @@ fn append_checked(
 
 // Adds a board, without its deal and with the counts of its deal, after the used bytes, with these marks, and gives the new used count; or refuses,
 // and changes nothing. `other` says whether another number of the call is outside its range.
-pub fn append_with(
+pub fn append_head(
     other: bool,
     marks: Marks,
     text: &[u8],
@@ -65,6 +65,32 @@ pub fn append_with(
     }
 }
 
+// Adds a board after the used bytes, with these marks, and gives the new used count; or refuses, and changes nothing.
+fn append_with(
+    marks: Marks,
+    text: &[u8],
+    board: Board,
+    rows: &[u32],
+    cards: &[u8],
+    out: &mut [u8],
+    used: usize,
+) -> Written
+    ensures { λ r. ⌜ _≡_ {A = Outcome} (record { answer = answerOf r; output = now (out .exit) }) (appended false (filing marks (now (text .entry)) board (now (rows .entry)) (now (cards .entry))) (now (out .entry)) used) ⌝ }
+{
+    let head = head_of(board);
+    append_head(
+        false,
+        marks,
+        text,
+        head,
+        &board.deal.counts,
+        rows,
+        cards,
+        out,
+        used,
+    )
+}
+
 // Adds a board after the used bytes, and gives the new used count; or refuses, and changes nothing.
 pub fn append(
     text: &[u8],
@@ -80,18 +106,7 @@ pub fn append(
         pipe: b'/',
         line: b' ',
     };
-    let head = head_of(board);
-    append_with(
-        false,
-        marks,
-        text,
-        head,
-        &board.deal.counts,
-        rows,
-        cards,
-        out,
-        used,
-    )
+    append_with(marks, text, board, rows, cards, out, used)
 }
 
 // Writes a board from the first byte of the output on, and gives its length; or refuses, and changes nothing.

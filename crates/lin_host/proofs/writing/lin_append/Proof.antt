@@ -18,8 +18,8 @@ bad-codes-requires c κs = search needs
 head-of-requires : tie.Need-head-of-requires
 head-of-requires c κs = search needs
 
-append-with-requires : tie.Need-append-with-requires
-append-with-requires c κs = counts-long (c .before .before .before .before .before .before .before .before .before)
+append-head-requires : tie.Need-append-head-requires
+append-head-requires c κs = counts-long (c .before .before .before .before .before .before .before .before .before)
 
 written-requires : tie.Need-written-requires
 written-requires c κs = search needs
@@ -30,7 +30,7 @@ same-length c = search needs
 returns : tie.Need-returns
 returns c =
     rw (c .written .ensures)
-    (ap outcomeNumbers (c .before .before .before .append-with .ensures) ∙ appending (now (c .before .before .before .before .before .before .before .before .before .before .before .before .before .args .text)) (c .before .before .before .before .before .before .before .before .before .before .before .before .before .args .t2) (now (c .before .before .before .before .before .before .before .before .before .before .before .before .before .args .rows)) (now (c .before .before .before .before .before .before .before .before .before .before .before .before .before .args .cards)) (now (c .before .before .before .before .before .before .before .before .before .before .before .before .before .args .out)) (c .before .before .before .before .before .before .before .before .before .before .before .before .before .args .used) (c .before .before .before .before .before .before .before .before .bad-codes .ensures) (c .before .before .before .before .before .before .before .head-of .ensures))
+    (ap outcomeNumbers (c .before .before .before .append-head .ensures) ∙ appending (now (c .before .before .before .before .before .before .before .before .before .before .before .before .before .args .text)) (c .before .before .before .before .before .before .before .before .before .before .before .before .before .args .t2) (now (c .before .before .before .before .before .before .before .before .before .before .before .before .before .args .rows)) (now (c .before .before .before .before .before .before .before .before .before .before .before .before .before .args .cards)) (now (c .before .before .before .before .before .before .before .before .before .before .before .before .before .args .out)) (c .before .before .before .before .before .before .before .before .before .before .before .before .before .args .used) (c .before .before .before .before .before .before .before .before .bad-codes .ensures) (c .before .before .before .before .before .before .before .head-of .ensures))
 
 pub lin-append-spec : {M : Type 1} → statement M
 lin-append-spec =
@@ -38,7 +38,7 @@ lin-append-spec =
     (tie.spec
     bad-codes-requires
     head-of-requires
-    append-with-requires
+    append-head-requires
     written-requires
     same-length
     returns)
