@@ -1,5 +1,6 @@
 // Whether a board equals another, as `LinData` compares them. (01: equality; upstream's mod.rs)
 mod boards;
+mod bytes;
 mod hands;
 mod texts;
 

@@ -3,7 +3,7 @@
 use Prim.Native.Nat.{ℕ, _+_, _-_, _/_, _≤_, _<_}
 use native.Mathlib.Numerals.{add-one}
 use native.Mathlib.Omega.{arith}
-use mathlib.Core.Path.{_≡_, refl, ap, sym, _∙_}
+use mathlib.Core.Path.{_≡_, refl, ap, sym, _∙_, subst}
 use mathlib.Core.Bool.{Bool, true, false, _||_, or-assoc, or-false}
 use mathlib.Core.List.{List, [], _∷_, _++_, map}
 use mathlib.Core.Option.{Option}
@@ -11,9 +11,10 @@ use lib.ListN.{length, getD, drop, drop-of-length-le, length-drop}
 use lib.Seq.{drop-cons}
 use borrow.Author.Tests.{eq-eqb, ne-eqb, lt-ltb, le-ltb, ltb-false}
 use Rattle.lin_spec.specs.Base.{any}
-use Rattle.lin_spec.specs.Records.{limit, optionOf}
+use Rattle.lin_spec.specs.Records.{limit, endOf, optionOf}
 use Rattle.lin_spec.specs.Refusals.{unless, passesEnd, illSpan}
 use Rattle.lin_spec.specs.Refusals.Answer.{refused, accepted}
+use Rattle.lin_spec.specs.Utf8.{utf8}
 use Rattle.lin_spec.specs.Lent.{rowsOf, callRow, callRows, callIn, Lent, lent, lentBoard, spanIn, callSpans, lentSpans, badFlag, badCards, badNumber, lentChecks}
 use Rattle.lin_spec.specs.declared.Span.{Span}
 use Rattle.lin_spec.specs.declared.MaybeSpan.{MaybeSpan}
@@ -30,8 +31,10 @@ use Rattle.text.proofs.ListLaws.{next-word}
 use Rattle.lent.specs.Calls.{rowAt, callAt, spansOf}
 use Rattle.lent.specs.declared.heads.Head.{Head}
 use Rattle.lent.specs.declared.checks.Faults.{Faults}
+use Rattle.lent.specs.declared.checks.Look.{Look}
+use Rattle.lent.specs.declared.checks.Look.the-variants.{Past, Ill, Torn}
 use Rattle.lent.specs.Heads.{boardOf, headSpans}
-use Rattle.lent.specs.Checks.{verdictOf, checked, RowsFound, Found}
+use Rattle.lent.specs.Checks.{verdictOf, checked, lookOf, WholeIfTorn, NotPast, RowsFound, Found}
 
 pub no-rows : {A : Type 0} (cs : List A) → length cs ≡ 0 → cs ≡ []
 no-rows [] h = refl
@@ -129,6 +132,17 @@ module _ (f : Span → Bool) (x : MaybeSpan) where
   unfolding any
   present-one y e = rw e (sym (or-false (f y)))
 
+-- A look at a span, by the arm that the code is in
+
+pub look-is : (l m : Look) (s : List ℕ) (x : Span) (t : Bool) → l ≡ m → t ≡ lookOf m s x → t ≡ lookOf l s x
+look-is l m s x t e f = f ∙ ap (λ (n : Look). lookOf n s x) (sym e)
+
+pub look-whole : (l : Look) (s : List ℕ) → l ≡ Torn → WholeIfTorn l s → utf8 s ≡ true
+look-whole l s e h = subst (λ (n : Look). WholeIfTorn n s) e h
+
+pub look-within : (s : List ℕ) (x : Span) (t : Bool) → t ≡ passesEnd s x → t ≡ false → endOf x ≤ length s
+look-within s x t e k = ltb-false (length s) (endOf x) (sym e ∙ k)
+
 -- One call: the span of its bid, and that of its annotation where there is one
 
 module _ (f : Span → Bool) (c : Call) where
@@ -172,12 +186,19 @@ pub number-is : (s : List ℕ) (b : Board) (ws cs : List ℕ) → badNumber (len
 unfolding badNumber
 number-is s b ws cs = refl
 
--- what is wrong with the rows, the cards and the heading, taken together
-pub found-all : (s : List ℕ) (h : Head) (ds ws cs : List ℕ) (r : Faults) → RowsFound s ws r
-    → (t : Bool) → t ≡ badCards cs → (u : Bool) → u ≡ any (passesEnd s) (headSpans h) → (w : Bool) → w ≡ any (illSpan s) (headSpans h)
+-- what is wrong with the rows, the cards and the heading, taken together, by either look for 6
+pub found-all : (l : Look) → NotPast l → (s : List ℕ) (h : Head) (ds ws cs : List ℕ) (r : Faults) → RowsFound l s ws r
+    → (t : Bool) → t ≡ badCards cs → (u : Bool) → u ≡ any (passesEnd s) (headSpans h) → (w : Bool) → w ≡ any (lookOf l s) (headSpans h)
     → Found (lent s (boardOf h ds) ws cs) (record { number = t || r .number; past = u || r .past; ill = w || r .ill })
 unfolding badNumber
-found-all s h ds ws cs r f t et u eu w ew =
+found-all Past n s h ds ws cs r f t et u eu w ew = absurd n
+found-all Ill n s h ds ws cs r f t et u eu w ew =
+    record {
+      numbers = rw (et, f .flags) refl;
+      ends = rw (eu, f .ends) (sym (spans-any (passesEnd s) s h ds ws cs));
+      texts = rw (ew, f .texts) (sym (spans-any (illSpan s) s h ds ws cs));
+    }
+found-all Torn n s h ds ws cs r f t et u eu w ew =
     record {
       numbers = rw (et, f .flags) refl;
       ends = rw (eu, f .ends) (sym (spans-any (passesEnd s) s h ds ws cs));

@@ -9,6 +9,8 @@ use lin_spec::Span;
 use lin_spec::Verdict;
 use text::Fault;
 use text::faulty;
+use text::is_utf8;
+use text::torn;
 ghost use mathlib.Core.Path.{_≡_};
 ghost use mathlib.Core.List.{List};
 ghost use Prim.Native.Nat.{ℕ};
@@ -18,7 +20,7 @@ ghost use Rattle.lin_spec.specs.Lent.{lent, spanIn, badFlag, badCards};
 ghost use Rattle.text.specs.Fault.{faultOf};
 ghost use Rattle.lent.specs.Calls.{spansOf};
 ghost use Rattle.lent.specs.Heads.{boardOf, headSpans};
-ghost use Rattle.lent.specs.Checks.{verdictOf, checked, RowsFound, Found};
+ghost use Rattle.lent.specs.Checks.{verdictOf, checked, lookOf, WholeIfTorn, NotPast, RowsFound, Found};
 
 // Whether a card is none of the 52.
 pub fn bad_cards(cards: &[u8]) -> bool
@@ -40,13 +42,52 @@ fn bad_flag(c: Call) -> bool
     (1 < c.alerted) | (1 < c.annotated)
 }
 
-// Whether a name has this fault.
-fn name_faulty(text: &[u8], names: [Span; 4], fault: Fault) -> bool
-    ensures { λ r. ⌜ r ≡ any (faultOf fault (now (text .entry))) names ⌝ }
+// How a span is looked at: by 5; by 6, byte for byte; or by 6 within a text that is UTF-8 as a whole, by the ends of the span.
+enum Look {
+    Past,
+    Ill,
+    Torn,
+}
+
+// Whether a span meets it.
+fn meets(text: &[u8], x: Span, look: Look) -> bool
+    requires { ⌜ WholeIfTorn look (now text) ⌝ }
+    ensures { λ r. ⌜ r ≡ lookOf look (now (text .entry)) x ⌝ }
+{
+    match look {
+        Look::Past => faulty(text, x, Fault::PastEnd),
+        Look::Ill => faulty(text, x, Fault::NotUtf8),
+        Look::Torn => {
+            if faulty(text, x, Fault::PastEnd) {
+                return faulty(text, x, Fault::NotUtf8);
+            }
+            torn(text, x)
+        }
+    }
+}
+
+// How 6 is looked at. A text that is short, or short for its rows, is looked at as a whole first.
+fn look_for(text: &[u8], rows: &[u32]) -> Look
+    ensures { λ r. ⌜ WholeIfTorn r (now (text .entry)) × NotPast r ⌝ }
+{
+    let short = (text.len() <= 256) | (text.len() / 4 <= rows.len());
+    if !short {
+        return Look::Ill;
+    }
+    if is_utf8(text) {
+        return Look::Torn;
+    }
+    Look::Ill
+}
+
+// Whether a name meets it.
+fn name_meets(text: &[u8], names: [Span; 4], look: Look) -> bool
+    requires { ⌜ WholeIfTorn look (now text) ⌝ }
+    ensures { λ r. ⌜ r ≡ any (lookOf look (now (text .entry))) names ⌝ }
 {
     let mut seat = 0;
     while seat < 4 {
-        if faulty(text, names[seat], fault) {
+        if meets(text, names[seat], look) {
             return true;
         }
         seat += 1;
@@ -64,31 +105,44 @@ pub fn present_faulty(text: &[u8], x: MaybeSpan, fault: Fault) -> bool
     }
 }
 
-// Whether a text of a call has this fault. The place of an annotation that is absent is not looked at.
-fn call_faulty(text: &[u8], c: Call, fault: Fault) -> bool
-    ensures { λ r. ⌜ r ≡ any (faultOf fault (now (text .entry))) (spansOf c) ⌝ }
+// Whether a text that is present meets it.
+fn present_meets(text: &[u8], x: MaybeSpan, look: Look) -> bool
+    requires { ⌜ WholeIfTorn look (now text) ⌝ }
+    ensures { λ r. ⌜ r ≡ any (lookOf look (now (text .entry))) (spanIn (optionOf x)) ⌝ }
 {
-    if faulty(text, c.bid, fault) {
+    match x {
+        MaybeSpan::Absent => false,
+        MaybeSpan::Present(s) => meets(text, s, look),
+    }
+}
+
+// Whether a text of a call meets it. The place of an annotation that is absent is not looked at.
+fn call_meets(text: &[u8], c: Call, look: Look) -> bool
+    requires { ⌜ WholeIfTorn look (now text) ⌝ }
+    ensures { λ r. ⌜ r ≡ any (lookOf look (now (text .entry))) (spansOf c) ⌝ }
+{
+    if meets(text, c.bid, look) {
         return true;
     }
     if c.annotated == 0 {
         return false;
     }
-    faulty(text, c.annotation, fault)
+    meets(text, c.annotation, look)
 }
 
-// Whether a text of the heading has this fault.
-fn head_faulty(text: &[u8], head: Head, fault: Fault) -> bool
-    ensures { λ r. ⌜ r ≡ any (faultOf fault (now (text .entry))) (headSpans head) ⌝ }
+// Whether a text of the heading meets it.
+fn head_meets(text: &[u8], head: Head, look: Look) -> bool
+    requires { ⌜ WholeIfTorn look (now text) ⌝ }
+    ensures { λ r. ⌜ r ≡ any (lookOf look (now (text .entry))) (headSpans head) ⌝ }
 {
     let names = head.names;
     let title = head.title;
     let room_board = head.room_board;
     let board_header = head.board_header;
-    let a = name_faulty(text, names, fault);
-    let b = present_faulty(text, title, fault);
-    let c = present_faulty(text, room_board, fault);
-    let d = present_faulty(text, board_header, fault);
+    let a = name_meets(text, names, look);
+    let b = present_meets(text, title, look);
+    let c = present_meets(text, room_board, look);
+    let d = present_meets(text, board_header, look);
     a | (b | (c | d))
 }
 
@@ -100,8 +154,9 @@ pub struct Faults {
 }
 
 // What is wrong with the rows. Each is looked at once.
-fn row_faults(text: &[u8], rows: &[u32]) -> Faults
-    ensures { λ r. ⌜ RowsFound (now (text .entry)) (now (rows .entry)) r ⌝ }
+fn row_faults(text: &[u8], rows: &[u32], look: Look) -> Faults
+    requires { ⌜ WholeIfTorn look (now text) ⌝ }
+    ensures { λ r. ⌜ RowsFound look (now (text .entry)) (now (rows .entry)) r ⌝ }
 {
     let mut number = false;
     let mut past = false;
@@ -110,8 +165,8 @@ fn row_faults(text: &[u8], rows: &[u32]) -> Faults
     while 6 <= rows.len() - i {
         let c = call_at(rows, i);
         number = number | bad_flag(c);
-        past = past | call_faulty(text, c, Fault::PastEnd);
-        ill = ill | call_faulty(text, c, Fault::NotUtf8);
+        past = past | call_meets(text, c, Look::Past);
+        ill = ill | call_meets(text, c, look);
         i += 6;
     }
     Faults { number, past, ill }
@@ -121,10 +176,11 @@ fn row_faults(text: &[u8], rows: &[u32]) -> Faults
 pub fn faults_of(text: &[u8], head: Head, rows: &[u32], cards: &[u8]) -> Faults
     ensures { λ r. ⌜ ((counts : List ℕ) → Found (lent (now (text .entry)) (boardOf head counts) (now (rows .entry)) (now (cards .entry))) r) ⌝ }
 {
-    let row = row_faults(text, rows);
+    let look = look_for(text, rows);
+    let row = row_faults(text, rows, look);
     let number = bad_cards(cards) | row.number;
-    let past = head_faulty(text, head, Fault::PastEnd) | row.past;
-    let ill = head_faulty(text, head, Fault::NotUtf8) | row.ill;
+    let past = head_meets(text, head, Look::Past) | row.past;
+    let ill = head_meets(text, head, look) | row.ill;
     Faults { number, past, ill }
 }
 
