@@ -14,6 +14,8 @@ use Rattle.lin_spec.specs.Append.{writtenForm}
 use Rattle.lin_spec.specs.declared.MaybeClaim.{MaybeClaim}
 use Rattle.lin_spec.specs.declared.MaybeClaim.the-variants.{Claimed}
 use Rattle.lin_spec.specs.declared.Board.{Board}
+use Rattle.lent.specs.declared.heads.Head.{Head}
+use Rattle.lent.specs.Heads.{headOf}
 use Rattle.output.specs.Put.{joined}
 use Rattle.output.proofs.Laws.{sat-sum}
 use Rattle.cleaning.specs.Texts.{emptyOr, headerText, namesText}
@@ -34,10 +36,10 @@ claimed-is n = simp append-nil
 
 -- Lengths
 
-pub heading-long : (p q : ℕ) (s : List ℕ) (b : Board)
-    → length (headingText p q s b) ≡ 16 + length (emptyOr s (b .title)) + length (namesText p q s (b .names)) + length (emptyOr s (b .«room_board»)) + length (headerText p q s (b .«board_header»))
+pub heading-long : (p q : ℕ) (s : List ℕ) (h : Head)
+    → length (headingText p q s h) ≡ 16 + length (emptyOr s (h .title)) + length (namesText p q s (h .names)) + length (emptyOr s (h .«room_board»)) + length (headerText p q s (h .«board_header»))
 unfolding headingText
-heading-long p q s b = simp (length-append, clean-length, append-nil) (omega arith)
+heading-long p q s h = simp (length-append, clean-length, append-nil) (omega arith)
 
 pub dealing-long : (b : Board) → length (dealingText b) ≡ 15 + length (mdText (record { dealer = b .dealer; deal = b .deal .counts }))
 unfolding dealingText
@@ -48,7 +50,7 @@ claim-long x n e = ap (λ (y : MaybeClaim). length (claimText (claimOf y))) e �
 
 pub written-long : (m : Marks) (s : List ℕ) (b : Board) (ws cs : List ℕ)
     → length (writtenForm (filing m s b ws cs))
-    ≡ length (headingText (m .pipe) (m .line) s b) + length (dealingText b) + length (callsBytes (m .pipe) (m .line) s ws) + (5 + length (tricksText cs)) + length (claimText (claimOf (b .claim)))
+    ≡ length (headingText (m .pipe) (m .line) s (headOf b)) + length (dealingText b) + length (callsBytes (m .pipe) (m .line) s ws) + (5 + length (tricksText cs)) + length (claimText (claimOf (b .claim)))
 written-long m s b ws cs = ap length (written-is m s b ws cs) ∙ simp (length-append, append-nil) (omega arith)
 
 -- The sums that the lengths are added up by

@@ -7,25 +7,27 @@ use Rattle.lin_spec.specs.Letters.{svLetter}
 use Rattle.lin_spec.specs.Writer.{clean, mdText, tricksText, claimText}
 use Rattle.lin_spec.specs.Lent.{claimOf}
 use Rattle.lin_spec.specs.declared.Board.{Board}
+use Rattle.lent.specs.declared.heads.Head.{Head}
+use Rattle.lent.specs.Heads.{headOf}
 use Rattle.output.specs.Put.{joined}
 use Rattle.cleaning.specs.Texts.{emptyOr, headerText, namesText}
 use Rattle.cleaning.specs.Calls.{callsBytes}
 
 -- the heading texts of a board
-abbrev pub headingPieces : (p q : ℕ) (text : List ℕ) → Board → List (List ℕ)
-headingPieces p q s b =
+abbrev pub headingPieces : (p q : ℕ) (text : List ℕ) → Head → List (List ℕ)
+headingPieces p q s h =
     ascii "mn|"
-    ∷ clean p q (emptyOr s (b .title))
+    ∷ clean p q (emptyOr s (h .title))
     ∷ ascii "|pn|"
-    ∷ namesText p q s (b .names)
+    ∷ namesText p q s (h .names)
     ∷ ascii "|qx|"
-    ∷ clean p q (emptyOr s (b .«room_board»))
+    ∷ clean p q (emptyOr s (h .«room_board»))
     ∷ ascii "|rh||"
-    ∷ headerText p q s (b .«board_header»)
+    ∷ headerText p q s (h .«board_header»)
     ∷ []
 
-unfoldable pub headingText : (p q : ℕ) (text : List ℕ) → Board → List ℕ
-headingText p q s b = joined (headingPieces p q s b)
+unfoldable pub headingText : (p q : ℕ) (text : List ℕ) → Head → List ℕ
+headingText p q s h = joined (headingPieces p q s h)
 
 -- its deal and vulnerability, and what begins the calls
 abbrev pub dealingPieces : Board → List (List ℕ)
@@ -45,4 +47,4 @@ claimedText n = joined (claimedPieces n)
 -- all of it
 abbrev pub boardPieces : (p q : ℕ) (text : List ℕ) → Board → (words cards : List ℕ) → List (List ℕ)
 boardPieces p q s b ws cs =
-    headingText p q s b ∷ dealingText b ∷ callsBytes p q s ws ∷ ascii "pg||\n" ∷ tricksText cs ∷ claimText (claimOf (b .claim)) ∷ []
+    headingText p q s (headOf b) ∷ dealingText b ∷ callsBytes p q s ws ∷ ascii "pg||\n" ∷ tricksText cs ∷ claimText (claimOf (b .claim)) ∷ []

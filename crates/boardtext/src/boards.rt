@@ -8,7 +8,7 @@ use cardtext::tricks_len;
 use cleaning::Marks;
 use cleaning::calls_len;
 use cleaning::put_calls;
-use lin_spec::Board;
+use lent::Head;
 use lin_spec::MaybeClaim;
 use lin_spec::Vulnerability;
 use output::decimal_len;
@@ -25,6 +25,8 @@ ghost use Rattle.lin_spec.specs.Refusals.{sat};
 ghost use Rattle.lin_spec.specs.Writer.{claimText};
 ghost use Rattle.lin_spec.specs.Lent.{claimOf, badCards};
 ghost use Rattle.lin_spec.specs.Append.{writtenForm};
+ghost use Rattle.lent.specs.Heads.{boardOf};
+ghost use Rattle.lent.specs.declared.heads.Head.{Head};
 ghost use Rattle.output.specs.Put.{Room, Put};
 ghost use Rattle.boardtext.specs.Pieces.{claimedText, dealingText};
 ghost use Rattle.boardtext.specs.Filing.{filing};
@@ -50,26 +52,25 @@ fn put_sv(out: &mut [u8], at: usize, v: Vulnerability) -> usize
 }
 
 // Puts the deal and the vulnerability, and what begins the calls.
-fn put_dealing(out: &mut [u8], at: usize, board: Board) -> usize
-    requires { ⌜ Room (now out) at (dealingText board) ⌝ }
-    ensures { λ r. ⌜ Put (now (out .entry)) at (dealingText board) (now (out .exit)) r ⌝ }
+fn put_dealing(out: &mut [u8], at: usize, head: Head, counts: &[u32; 208]) -> usize
+    requires { ⌜ Room (now out) at (dealingText (boardOf head (now counts))) × (length (now counts) ≡ 208) ⌝ }
+    ensures { λ r. ⌜ Put (now (out .entry)) at (dealingText (boardOf head (now (counts .entry)))) (now (out .exit)) r ⌝ }
 {
-    let dealer = board.dealer;
-    let deal = board.deal;
-    let vulnerability = board.vulnerability;
+    let dealer = head.dealer;
+    let vulnerability = head.vulnerability;
     let a = put_bytes(out, at, &MD);
-    let b = put_md(out, a, dealer, deal);
+    let b = put_md(out, a, dealer, counts);
     let c = put_bytes(out, b, &SV);
     let d = put_sv(out, c, vulnerability);
     put_bytes(out, d, &SA)
 }
 
 // How many bytes they have.
-fn dealing_len(board: Board) -> u64
-    ensures { λ r. ⌜ r ≡ sat (length (dealingText board)) ⌝ }
+fn dealing_len(counts: &[u32; 208]) -> u64
+    requires { ⌜ length (now counts) ≡ 208 ⌝ }
+    ensures { λ r. ⌜ ((head : Head) → r ≡ sat (length (dealingText (boardOf head (now (counts .entry)))))) ⌝ }
 {
-    let deal = board.deal;
-    sat_add(15, md_len(deal))
+    sat_add(15, md_len(counts))
 }
 
 // Puts a claim that is made.
@@ -108,17 +109,18 @@ pub fn put_board(
     out: &mut [u8],
     at: usize,
     text: &[u8],
-    board: Board,
+    head: Head,
+    counts: &[u32; 208],
     rows: &[u32],
     cards: &[u8],
     marks: Marks,
 ) -> usize
-    requires { ⌜ Room (now out) at (writtenForm (filing marks (now text) board (now rows) (now cards))) × (badCards (now cards) ≡ false) ⌝ }
-    ensures { λ r. ⌜ Put (now (out .entry)) at (writtenForm (filing marks (now (text .entry)) board (now (rows .entry)) (now (cards .entry)))) (now (out .exit)) r ⌝ }
+    requires { ⌜ Room (now out) at (writtenForm (filing marks (now text) (boardOf head (now counts)) (now rows) (now cards))) × (badCards (now cards) ≡ false) × (length (now counts) ≡ 208) ⌝ }
+    ensures { λ r. ⌜ Put (now (out .entry)) at (writtenForm (filing marks (now (text .entry)) (boardOf head (now (counts .entry))) (now (rows .entry)) (now (cards .entry)))) (now (out .exit)) r ⌝ }
 {
-    let claim = board.claim;
-    let a = put_heading(out, at, text, board, marks);
-    let b = put_dealing(out, a, board);
+    let claim = head.claim;
+    let a = put_heading(out, at, text, head, marks);
+    let b = put_dealing(out, a, head, counts);
     let c = put_calls(out, b, text, rows, marks);
     let d = put_bytes(out, c, &PG);
     let e = put_tricks(out, d, cards);
@@ -126,11 +128,19 @@ pub fn put_board(
 }
 
 // How many bytes it has.
-pub fn board_len(text: &[u8], board: Board, rows: &[u32], cards: &[u8], marks: Marks) -> u64
-    ensures { λ r. ⌜ r ≡ sat (length (writtenForm (filing marks (now (text .entry)) board (now (rows .entry)) (now (cards .entry))))) ⌝ }
+pub fn board_len(
+    text: &[u8],
+    head: Head,
+    counts: &[u32; 208],
+    rows: &[u32],
+    cards: &[u8],
+    marks: Marks,
+) -> u64
+    requires { ⌜ length (now counts) ≡ 208 ⌝ }
+    ensures { λ r. ⌜ r ≡ sat (length (writtenForm (filing marks (now (text .entry)) (boardOf head (now (counts .entry))) (now (rows .entry)) (now (cards .entry))))) ⌝ }
 {
-    let claim = board.claim;
-    let a = sat_add(heading_len(text, board, marks), dealing_len(board));
+    let claim = head.claim;
+    let a = sat_add(heading_len(text, head, marks), dealing_len(counts));
     let b = sat_add(a, calls_len(text, rows));
     let c = sat_add(b, sat_add(5, tricks_len(cards)));
     sat_add(c, claim_len(claim))

@@ -6,7 +6,7 @@ use cleaning::put_header;
 use cleaning::put_names;
 use cleaning::put_text;
 use cleaning::text_len;
-use lin_spec::Board;
+use lent::Head;
 use output::put_bytes;
 use output::sat_add;
 ghost use mathlib.Core.Path.{_≡_};
@@ -24,20 +24,14 @@ const QX: [u8; 4] = *b"|qx|";
 const RH: [u8; 5] = *b"|rh||";
 
 // Puts the heading texts.
-pub(crate) fn put_heading(
-    out: &mut [u8],
-    at: usize,
-    text: &[u8],
-    board: Board,
-    marks: Marks,
-) -> usize
-    requires { ⌜ Room (now out) at (headingText (marks .pipe) (marks .line) (now text) board) ⌝ }
-    ensures { λ r. ⌜ Put (now (out .entry)) at (headingText (marks .pipe) (marks .line) (now (text .entry)) board) (now (out .exit)) r ⌝ }
+pub(crate) fn put_heading(out: &mut [u8], at: usize, text: &[u8], head: Head, marks: Marks) -> usize
+    requires { ⌜ Room (now out) at (headingText (marks .pipe) (marks .line) (now text) head) ⌝ }
+    ensures { λ r. ⌜ Put (now (out .entry)) at (headingText (marks .pipe) (marks .line) (now (text .entry)) head) (now (out .exit)) r ⌝ }
 {
-    let names = board.names;
-    let title = board.title;
-    let room_board = board.room_board;
-    let board_header = board.board_header;
+    let names = head.names;
+    let title = head.title;
+    let room_board = head.room_board;
+    let board_header = head.board_header;
     let a = put_bytes(out, at, &MN);
     let b = put_text(out, a, text, title, marks);
     let c = put_bytes(out, b, &PN);
@@ -49,13 +43,13 @@ pub(crate) fn put_heading(
 }
 
 // How many bytes they have.
-pub(crate) fn heading_len(text: &[u8], board: Board, marks: Marks) -> u64
-    ensures { λ r. ⌜ r ≡ sat (length (headingText (marks .pipe) (marks .line) (now (text .entry)) board)) ⌝ }
+pub(crate) fn heading_len(text: &[u8], head: Head, marks: Marks) -> u64
+    ensures { λ r. ⌜ r ≡ sat (length (headingText (marks .pipe) (marks .line) (now (text .entry)) head)) ⌝ }
 {
-    let names = board.names;
-    let title = board.title;
-    let room_board = board.room_board;
-    let board_header = board.board_header;
+    let names = head.names;
+    let title = head.title;
+    let room_board = head.room_board;
+    let board_header = head.board_header;
     let a = sat_add(16, text_len(text, title));
     let b = sat_add(a, names_len(text, names, marks));
     let c = sat_add(b, text_len(text, room_board));

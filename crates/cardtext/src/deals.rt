@@ -110,26 +110,27 @@ fn east_len(counts: &[u32; 208]) -> u64
 }
 
 // Puts the value of md.
-pub fn put_md(out: &mut [u8], at: usize, dealer: Seat, deal: Deal) -> usize
-    requires { ⌜ Room (now out) at (mdText (record { dealer = dealer; deal = deal .counts })) ⌝ }
-    ensures { λ r. ⌜ Put (now (out .entry)) at (mdText (record { dealer = dealer; deal = deal .counts })) (now (out .exit)) r ⌝ }
+pub fn put_md(out: &mut [u8], at: usize, dealer: Seat, counts: &[u32; 208]) -> usize
+    requires { ⌜ Room (now out) at (mdText (record { dealer = dealer; deal = now counts })) × (length (now counts) ≡ 208) ⌝ }
+    ensures { λ r. ⌜ Put (now (out .entry)) at (mdText (record { dealer = dealer; deal = now (counts .entry) })) (now (out .exit)) r ⌝ }
 {
     let a = put_byte(out, at, dealer_digit(dealer));
-    let b = put_hand(out, a, &deal.counts, Seat::South);
+    let b = put_hand(out, a, counts, Seat::South);
     let c = put_byte(out, b, b',');
-    let d = put_hand(out, c, &deal.counts, Seat::West);
+    let d = put_hand(out, c, counts, Seat::West);
     let e = put_byte(out, d, b',');
-    let f = put_hand(out, e, &deal.counts, Seat::North);
-    put_east(out, f, &deal.counts)
+    let f = put_hand(out, e, counts, Seat::North);
+    put_east(out, f, counts)
 }
 
 // How many bytes it has, whoever deals.
-pub fn md_len(deal: Deal) -> u64
-    ensures { λ r. ⌜ ((x : Seat) → r ≡ length (mdText (record { dealer = x; deal = deal .counts }))) ⌝ }
+pub fn md_len(counts: &[u32; 208]) -> u64
+    requires { ⌜ length (now counts) ≡ 208 ⌝ }
+    ensures { λ r. ⌜ ((x : Seat) → r ≡ length (mdText (record { dealer = x; deal = now (counts .entry) }))) ⌝ }
 {
-    let s = hand_text_len(&deal.counts, Seat::South);
-    let w = hand_text_len(&deal.counts, Seat::West);
-    let n = hand_text_len(&deal.counts, Seat::North);
-    let e = east_len(&deal.counts);
+    let s = hand_text_len(counts, Seat::South);
+    let w = hand_text_len(counts, Seat::West);
+    let n = hand_text_len(counts, Seat::North);
+    let e = east_len(counts);
     s + w + n + e + 3
 }

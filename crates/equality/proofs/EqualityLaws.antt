@@ -4,21 +4,21 @@ use Prim.Native.Nat.{ℕ, zero, suc, _+_, _-_, _/_, _≤_, _<_}
 use native.Mathlib.Numerals.{add-one}
 use native.Mathlib.Omega.{arith}
 use mathlib.Core.Path.{_≡_, refl, ap, sym, _∙_}
-use mathlib.Core.Bool.{Bool, true, false, _&&_, _||_, not, false≢true, and-false, and-assoc, or-false}
+use mathlib.Core.Bool.{Bool, true, false, _&&_, _||_, not, false≢true, and-true, and-false, and-assoc, or-false}
 use mathlib.Core.List.{List, [], _∷_, map}
 use mathlib.Core.Option.{none, some}
 use lib.ListN.{length, getD, drop, drop-of-length-le, length-map}
 use lib.Seq.{drop-cons, drop-nil}
-use lib.Dec.{eqb}
+use lib.Dec.{T, eqb, ltb, ltb→lt}
 use borrow.Author.Tests.{eq-eqb, ne-eqb, lt-ltb, le-ltb}
 use Rattle.lin_spec.specs.Base.{pick, any, eqAll, eqList}
 use Rattle.lin_spec.specs.Records.{span, limit, bytesAt}
-use Rattle.lin_spec.specs.Refusals.{unless, passesEnd, illSpan}
+use Rattle.lin_spec.specs.Refusals.{Answer, refuseIf, unless}
 use Rattle.lin_spec.specs.Refusals.Answer.{refused, accepted}
 use Rattle.lin_spec.specs.Board.{mapOption, mapCall, mapBoard}
 use Rattle.lin_spec.specs.Writer.{heldIn}
 use Rattle.lin_spec.specs.Lent.{callRows, callIn, Lent, lent, lentBoard, meaning, lentSpans, badFlag, badCards, badNumber}
-use Rattle.lin_spec.specs.Equality.{eqOption, eqFlag, eqCall, equal, sameBoards}
+use Rattle.lin_spec.specs.Equality.{eqOption, eqFlag, eqCall, sameDeal, equal, sameBoards}
 use Rattle.lin_spec.specs.declared.Span.{Span}
 use Rattle.lin_spec.specs.declared.Call.{Call}
 use Rattle.lin_spec.specs.declared.Board.{Board}
@@ -26,12 +26,14 @@ use Rattle.lin_spec.specs.declared.Verdict.{Verdict}
 use Rattle.lin_spec.specs.declared.Verdict.the-variants.{Accepted, Refused}
 use Rattle.lin_spec.specs.declared.Refusal.{Refusal}
 use Rattle.lin_spec.specs.declared.Refusal.the-variants.{TextTooLong, OutOfRange, SpanPastEnd, SpanNotUtf8}
-use Rattle.lin_spec.proofs.Base.{split}
+use Rattle.lin_spec.proofs.Base.{split, eq-list, and-left, and-right}
 use Rattle.lin_spec.proofs.Checks.{unless-refused, unless-passed}
 use Rattle.lent.specs.Calls.{callAt}
-use Rattle.lent.specs.Checks.{verdictOf}
-use Rattle.lent.proofs.LentLaws.{rows-cons, rows-count, no-rows, rows-end, spans-alike}
-use Rattle.equality.specs.Parts.{callBytes, callsBytes, sameDealt, sameTexts, samePlay, bothChecks, bothChecked}
+use Rattle.lent.specs.declared.checks.Faults.{Faults}
+use Rattle.lent.specs.Checks.{verdictOf, Found}
+use Rattle.lent.proofs.LentLaws.{rows-cons, rows-count, no-rows, rows-end}
+use Rattle.equality.proofs.EqualityMeaning.{deal-self}
+use Rattle.equality.specs.Parts.{callBytes, callsBytes, sameDealt, sameTexts, samePlay, bothChecks, bothChecked, Sixteen}
 
 -- One part, and those after it: a part that differs decides, one that is the same leaves it to the others
 
@@ -61,6 +63,47 @@ module _ (left whole t next : Bool) (v : left ≡ whole) (e : left ≡ (t && nex
 
   pub turn-on : not t ≡ false → next ≡ whole
   turn-on h = and-pass t next next t refl h refl ∙ sym e ∙ v
+
+-- Numbers, one by one, all being looked at: t says whether those before i are the same
+
+module _ (a b : List ℕ) (l : length a ≡ length b) (i : ℕ) (t : Bool) (v : (t && eqList (drop i a) (drop i b)) ≡ eqList a b) where
+  pub like-end : length a ≤ i → t ≡ eqList a b
+  unfolding eqAll
+  like-end h = sym (and-true t) ∙ (let z = rw (drop-of-length-le a h, drop-of-length-le b (let k : length b ≤ i = omega arith in k)) at v in z)
+
+  pub like-next : i < length a → ((t && eqb (getD a i 0) (getD b i 0)) && eqList (drop (i + 1) a) (drop (i + 1) b)) ≡ eqList a b
+  unfolding eqAll
+  like-next h =
+      and-assoc t (eqb (getD a i 0) (getD b i 0)) (eqList (drop (i + 1) a) (drop (i + 1) b))
+      ∙ (let z : (t && eqList (drop i a) (drop i b)) ≡ (t && (eqb (getD a i 0) (getD b i 0) && eqList (drop (i + 1) a) (drop (i + 1) b))) = rw (add-one, drop-cons a i 0 h, drop-cons b i 0 (let k : i < length b = omega arith in k)) refl in sym z)
+      ∙ v
+
+-- Bytes, by sixteens
+
+abbrev like : (a b : List ℕ) (i : ℕ) → Bool
+like a b i = eqb (getD a i 0) (getD b i 0)
+
+module _ (a b : List ℕ) (l : length a ≡ length b) where
+  like-one : (i : ℕ) → i < length a → like a b i ≡ true → eqList (drop (i + 1) a) (drop (i + 1) b) ≡ eqList (drop i a) (drop i b)
+  unfolding eqAll
+  like-one i h e = rw (add-one, drop-cons a i 0 h, drop-cons b i 0 (let k : i < length b = omega arith in k), e) refl
+
+  pub sixteen-same : (i : ℕ) → i + 16 ≤ length a → (like a b i && like a b (i + 1) && like a b (i + 2) && like a b (i + 3) && like a b (i + 4) && like a b (i + 5) && like a b (i + 6) && like a b (i + 7) && like a b (i + 8) && like a b (i + 9) && like a b (i + 10) && like a b (i + 11) && like a b (i + 12) && like a b (i + 13) && like a b (i + 14) && like a b (i + 15)) ≡ true → Sixteen a b i
+  sixteen-same i h e = record { within = h; after = to 15 tt (to 14 tt (to 13 tt (to 12 tt (to 11 tt (to 10 tt (to 9 tt (to 8 tt (to 7 tt (to 6 tt (to 5 tt (to 4 tt (to 3 tt (to 2 tt (to 1 tt one)))))))))))))) e }
+    where
+      one : like a b i ≡ true → eqList (drop (i + 1) a) (drop (i + 1) b) ≡ eqList (drop i a) (drop i b)
+      one f = like-one i (omega arith) f
+
+      to : (k : ℕ) → T (ltb k 16) → {t : Bool} → (t ≡ true → eqList (drop (i + k) a) (drop (i + k) b) ≡ eqList (drop i a) (drop i b)) → (t && like a b (i + k)) ≡ true
+          → eqList (drop (i + suc k) a) (drop (i + suc k) b) ≡ eqList (drop i a) (drop i b)
+      to k m {t} f e =
+          let d : i + suc k ≡ i + k + 1 = omega arith in
+          let n = ltb→lt k 16 m in
+          rw d (like-one (i + k) (omega arith) (and-right t (like a b (i + k)) e) ∙ f (and-left t (like a b (i + k)) e))
+
+-- two deals with the same counts are the same
+pub same-counts : (d e : List ℕ) → true ≡ eqList d e → true ≡ sameDeal d e
+same-counts d e h = sym (ap (λ (x : List ℕ). sameDeal d x) (sym (eq-list d e (sym h))) ∙ deal-self d)
 
 -- Hands, card by card: no count is looked for past the end of a list
 
@@ -239,61 +282,57 @@ module _ (s : List ℕ) (b : Board) (ws cs t : List ℕ) (c : Board) (us ds : Li
           pub like-calls : not l ≡ false → (r : Bool) → r ≡ samePlay cs b ds c → r ≡ equal (meaning (lent s b ws cs)) (meaning (lent t c us ds))
           like-calls h r e = and-pass _ _ _ i ei hi (and-pass _ _ _ j ej hj (and-pass _ _ _ k ek hk (and-pass _ _ _ l el h e))) ∙ sym equal-is
 
--- The checks, by the tests that led there
+-- The checks, by the tests that led there: 5 and 6 meet both boards or neither
 
-module _ (other : Bool) (s : List ℕ) (b : Board) (ws cs t : List ℕ) (c : Board) (us ds : List ℕ) where
-  pub both-long : limit < length s → refused TextTooLong ≡ bothChecked other (lent s b ws cs) (lent t c us ds)
+both-of : (t a b c d : Bool) → _≡_ {A = Answer Unit} (unless (refuseIf t OutOfRange ∷ refuseIf a SpanPastEnd ∷ refuseIf b SpanPastEnd ∷ refuseIf c SpanNotUtf8 ∷ refuseIf d SpanNotUtf8 ∷ []) tt)
+    (unless (refuseIf t OutOfRange ∷ refuseIf (a || b) SpanPastEnd ∷ refuseIf (c || d) SpanNotUtf8 ∷ []) tt)
+unfolding unless
+both-of true a b c d = refl
+both-of false true b c d = refl
+both-of false false true c d = refl
+both-of false false false true d = refl
+both-of false false false false true = refl
+both-of false false false false false = refl
+
+module _ (other : Bool) (x y : Lent) where
+  pub both-long : limit < length (x .text) → refused TextTooLong ≡ bothChecked other x y
   unfolding unless bothChecks
-  both-long h = simp (lt-ltb limit (length s) h)
+  both-long h = simp (lt-ltb limit (length (x .text)) h)
 
-  module _ (h : length s ≤ limit) where
-    pub both-long-2 : limit < length t → refused TextTooLong ≡ bothChecked other (lent s b ws cs) (lent t c us ds)
+  module _ (h : length (x .text) ≤ limit) where
+    pub both-long-2 : limit < length (y .text) → refused TextTooLong ≡ bothChecked other x y
     unfolding unless bothChecks
-    both-long-2 k = simp (le-ltb limit (length s) h, lt-ltb limit (length t) k)
+    both-long-2 k = simp (le-ltb limit (length (x .text)) h, lt-ltb limit (length (y .text)) k)
 
-    module _ (k : length t ≤ limit) where
-      pub both-other : other ≡ true → refused OutOfRange ≡ bothChecked other (lent s b ws cs) (lent t c us ds)
+    module _ (k : length (y .text) ≤ limit) where
+      pub both-other : other ≡ true → refused OutOfRange ≡ bothChecked other x y
       unfolding unless bothChecks
-      both-other o = simp (le-ltb limit (length s) h, le-ltb limit (length t) k, o)
+      both-other o = simp (le-ltb limit (length (x .text)) h, le-ltb limit (length (y .text)) k, o)
 
-      module _ (o : other ≡ false) (n : Bool) (en : n ≡ (badCards cs || any badFlag (callRows ws))) where
-        pub both-number : n ≡ true → refused OutOfRange ≡ bothChecked other (lent s b ws cs) (lent t c us ds)
-        unfolding unless bothChecks badNumber
-        both-number f = simp (le-ltb limit (length s) h, le-ltb limit (length t) k, o, ← en, f)
+      module _ (o : other ≡ false) (p q : Faults) (f : Found x p) (g : Found y q) where
+        both-found : bothChecked other x y ≡ unless (refuseIf (p .number || q .number) OutOfRange ∷ refuseIf (p .past || q .past) SpanPastEnd ∷ refuseIf (p .ill || q .ill) SpanNotUtf8 ∷ []) tt
+        unfolding unless bothChecks
+        both-found =
+            simp (le-ltb limit (length (x .text)) h, le-ltb limit (length (y .text)) k, o, ← f .numbers, ← g .numbers, ← f .ends, ← g .ends, ← f .texts, ← g .texts)
+            (both-of (p .number || q .number) (p .past) (q .past) (p .ill) (q .ill))
 
-        module _ (hn : n ≡ false) (m : Bool) (em : m ≡ (badCards ds || any badFlag (callRows us))) where
-          pub both-number-2 : m ≡ true → refused OutOfRange ≡ bothChecked other (lent s b ws cs) (lent t c us ds)
-          unfolding unless bothChecks badNumber
-          both-number-2 f = simp (le-ltb limit (length s) h, le-ltb limit (length t) k, o, ← en, hn, ← em, f)
+        pub both-number : (p .number || q .number) ≡ true → refused OutOfRange ≡ bothChecked other x y
+        unfolding unless
+        both-number e = sym (both-found ∙ simp e)
 
-          module _ (hm : m ≡ false) where
-            numbers-fine : (other || (badNumber (lent s b ws cs) || badNumber (lent t c us ds))) ≡ false
-            unfolding badNumber
-            numbers-fine = simp (o, ← en, hn, ← em, hm)
+        module _ (e : (p .number || q .number) ≡ false) where
+          pub both-past : (p .past || q .past) ≡ true → refused SpanPastEnd ≡ bothChecked other x y
+          unfolding unless
+          both-past i = sym (both-found ∙ simp (e, i))
 
-            module _ (p : Bool) (ep : p ≡ any (passesEnd s) (lentSpans (lent s b ws []))) where
-              pub both-past : p ≡ true → refused SpanPastEnd ≡ bothChecked other (lent s b ws cs) (lent t c us ds)
-              unfolding unless bothChecks
-              both-past f = simp (le-ltb limit (length s) h, le-ltb limit (length t) k, numbers-fine, spans-alike s b ws cs [], ← ep, f)
+          module _ (i : (p .past || q .past) ≡ false) where
+            pub both-ill : (p .ill || q .ill) ≡ true → refused SpanNotUtf8 ≡ bothChecked other x y
+            unfolding unless
+            both-ill j = sym (both-found ∙ simp (e, i, j))
 
-              module _ (hp : p ≡ false) (q : Bool) (eq : q ≡ any (passesEnd t) (lentSpans (lent t c us []))) where
-                pub both-past-2 : q ≡ true → refused SpanPastEnd ≡ bothChecked other (lent s b ws cs) (lent t c us ds)
-                unfolding unless bothChecks
-                both-past-2 f = simp (le-ltb limit (length s) h, le-ltb limit (length t) k, numbers-fine, spans-alike s b ws cs [], ← ep, hp, spans-alike t c us ds [], ← eq, f)
-
-                module _ (hq : q ≡ false) (u : Bool) (eu : u ≡ any (illSpan s) (lentSpans (lent s b ws []))) where
-                  pub both-ill : u ≡ true → refused SpanNotUtf8 ≡ bothChecked other (lent s b ws cs) (lent t c us ds)
-                  unfolding unless bothChecks
-                  both-ill f = simp (le-ltb limit (length s) h, le-ltb limit (length t) k, numbers-fine, spans-alike s b ws cs [], ← ep, hp, spans-alike t c us ds [], ← eq, hq, ← eu, f)
-
-                  module _ (hu : u ≡ false) (w : Bool) (ew : w ≡ any (illSpan t) (lentSpans (lent t c us []))) where
-                    pub both-ill-2 : w ≡ true → refused SpanNotUtf8 ≡ bothChecked other (lent s b ws cs) (lent t c us ds)
-                    unfolding unless bothChecks
-                    both-ill-2 f = simp (le-ltb limit (length s) h, le-ltb limit (length t) k, numbers-fine, spans-alike s b ws cs [], ← ep, hp, spans-alike t c us ds [], ← eq, hq, ← eu, hu, ← ew, f)
-
-                    pub both-good : w ≡ false → accepted tt ≡ bothChecked other (lent s b ws cs) (lent t c us ds)
-                    unfolding unless bothChecks
-                    both-good f = simp (le-ltb limit (length s) h, le-ltb limit (length t) k, numbers-fine, spans-alike s b ws cs [], ← ep, hp, spans-alike t c us ds [], ← eq, hq, ← eu, hu, ← ew, f)
+            pub both-good : (p .ill || q .ill) ≡ false → accepted tt ≡ bothChecked other x y
+            unfolding unless
+            both-good j = sym (both-found ∙ simp (e, i, j))
 
 -- The answer
 

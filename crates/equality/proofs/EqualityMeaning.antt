@@ -54,7 +54,7 @@ held-self (n ∷ x) = simp (either (eqb n 0), held-self x)
     either true = refl
     either false = refl
 
-deal-self : (d : List ℕ) → sameDeal d d ≡ true
+pub deal-self : (d : List ℕ) → sameDeal d d ≡ true
 unfolding sameDeal
 deal-self d = simp (number-self, held-self)
 

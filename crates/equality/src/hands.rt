@@ -1,20 +1,22 @@
-// Hands and deals compared: `same_cards`, which is lopsided for repeated cards. (01: equality)
-use cards::seat_len;
+// Hands and deals compared by their counts: `same_cards`, which is lopsided for repeated cards. (01: equality)
+use cards::seat_sum;
 use lin_spec::Deal;
 use lin_spec::Seat;
 ghost use mathlib.Core.Path.{_≡_};
+ghost use lib.ListN.{length};
+ghost use Rattle.lin_spec.specs.Base.{eqList};
 ghost use Rattle.lin_spec.specs.Letters.{handAt};
 ghost use Rattle.lin_spec.specs.Writer.{heldIn, sameCards};
 ghost use Rattle.lin_spec.specs.Equality.{sameDeal};
 
 // Whether a seat of the other deal holds each card that the seat of this one holds.
-fn held_in(deal: Deal, other: Deal, seat: Seat) -> bool
-    ensures { λ r. ⌜ r ≡ heldIn (handAt (deal .counts) seat) (handAt (other .counts) seat) ⌝ }
+fn held_in(counts: &[u32; 208], other: &[u32; 208], seat: Seat) -> bool
+    ensures { λ r. ⌜ r ≡ heldIn (handAt (now (counts .entry)) seat) (handAt (now (other .entry)) seat) ⌝ }
 {
     let first = seat.number() * Deal::CARDS;
     let mut c = 0;
     while c < Deal::CARDS {
-        if (deal.counts[first + c] != 0) & (other.counts[first + c] == 0) {
+        if (counts[first + c] != 0) & (other[first + c] == 0) {
             return false;
         }
         c += 1;
@@ -23,27 +25,52 @@ fn held_in(deal: Deal, other: Deal, seat: Seat) -> bool
 }
 
 // Whether a seat's hands are as long, and the other holds each card of this one.
-fn same_cards(deal: Deal, other: Deal, seat: Seat) -> bool
-    ensures { λ r. ⌜ r ≡ sameCards (handAt (deal .counts) seat) (handAt (other .counts) seat) ⌝ }
+fn same_cards(counts: &[u32; 208], other: &[u32; 208], seat: Seat) -> bool
+    ensures { λ r. ⌜ r ≡ sameCards (handAt (now (counts .entry)) seat) (handAt (now (other .entry)) seat) ⌝ }
 {
-    if seat_len(deal, seat) != seat_len(other, seat) {
+    if seat_sum(counts, seat) != seat_sum(other, seat) {
         return false;
     }
-    held_in(deal, other, seat)
+    held_in(counts, other, seat)
 }
 
 // Whether each seat's hands are so.
-pub(crate) fn same_deal(deal: Deal, other: Deal) -> bool
-    ensures { λ r. ⌜ r ≡ sameDeal (deal .counts) (other .counts) ⌝ }
+fn same_hands(counts: &[u32; 208], other: &[u32; 208]) -> bool
+    ensures { λ r. ⌜ r ≡ sameDeal (now (counts .entry)) (now (other .entry)) ⌝ }
 {
-    if !same_cards(deal, other, Seat::South) {
+    if !same_cards(counts, other, Seat::South) {
         return false;
     }
-    if !same_cards(deal, other, Seat::West) {
+    if !same_cards(counts, other, Seat::West) {
         return false;
     }
-    if !same_cards(deal, other, Seat::North) {
+    if !same_cards(counts, other, Seat::North) {
         return false;
     }
-    same_cards(deal, other, Seat::East)
+    same_cards(counts, other, Seat::East)
+}
+
+// Whether all counts are the same.
+fn same_counts(counts: &[u32; 208], other: &[u32; 208]) -> bool
+    requires { ⌜ (length (now counts) ≡ 208) × (length (now other) ≡ 208) ⌝ }
+    ensures { λ r. ⌜ r ≡ eqList (now (counts .entry)) (now (other .entry)) ⌝ }
+{
+    let mut same = true;
+    let mut c = 0;
+    while c < 208 {
+        same = same & (counts[c] == other[c]);
+        c += 1;
+    }
+    same
+}
+
+// Whether each seat's hands are so. Most deals that are have the same counts.
+pub(crate) fn same_deal(counts: &[u32; 208], other: &[u32; 208]) -> bool
+    requires { ⌜ (length (now counts) ≡ 208) × (length (now other) ≡ 208) ⌝ }
+    ensures { λ r. ⌜ r ≡ sameDeal (now (counts .entry)) (now (other .entry)) ⌝ }
+{
+    if same_counts(counts, other) {
+        return true;
+    }
+    same_hands(counts, other)
 }

@@ -1,7 +1,8 @@
 // Whether a board equals another, as `LinData` compares them. (01: equality; upstream's mod.rs)
 mod boards;
+mod bytes;
 mod hands;
 mod texts;
 
 pub use boards::same_board;
-pub use boards::same_boards;
+pub use boards::same_heads;

@@ -1,9 +1,9 @@
 // Texts and calls compared by bytes, each span out of its own text. (01: equality)
+use crate::bytes::same_bytes;
 use lent::call_at;
 use lin_spec::Call;
 use lin_spec::MaybeSpan;
 use lin_spec::Span;
-use text::same_bytes;
 use text::shown;
 ghost use mathlib.Core.Path.{_≡_};
 ghost use mathlib.Core.Bool.{not};

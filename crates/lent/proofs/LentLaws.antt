@@ -1,17 +1,20 @@
 -- Laws of a lent board: one call off the front of the rows, the spans that it names, the checks. (01: Records; Eight refusals)
 -- Assumes nothing.
 use Prim.Native.Nat.{ℕ, _+_, _-_, _/_, _≤_, _<_}
+use native.Mathlib.Numerals.{add-one}
 use native.Mathlib.Omega.{arith}
-use mathlib.Core.Path.{_≡_, refl, ap, sym, _∙_}
+use mathlib.Core.Path.{_≡_, refl, ap, sym, _∙_, subst}
 use mathlib.Core.Bool.{Bool, true, false, _||_, or-assoc, or-false}
 use mathlib.Core.List.{List, [], _∷_, _++_, map}
 use mathlib.Core.Option.{Option}
-use lib.ListN.{length, drop, length-drop}
+use lib.ListN.{length, getD, drop, drop-of-length-le, length-drop}
+use lib.Seq.{drop-cons}
 use borrow.Author.Tests.{eq-eqb, ne-eqb, lt-ltb, le-ltb, ltb-false}
 use Rattle.lin_spec.specs.Base.{any}
-use Rattle.lin_spec.specs.Records.{limit, optionOf}
+use Rattle.lin_spec.specs.Records.{limit, endOf, optionOf}
 use Rattle.lin_spec.specs.Refusals.{unless, passesEnd, illSpan}
 use Rattle.lin_spec.specs.Refusals.Answer.{refused, accepted}
+use Rattle.lin_spec.specs.Utf8.{utf8}
 use Rattle.lin_spec.specs.Lent.{rowsOf, callRow, callRows, callIn, Lent, lent, lentBoard, spanIn, callSpans, lentSpans, badFlag, badCards, badNumber, lentChecks}
 use Rattle.lin_spec.specs.declared.Span.{Span}
 use Rattle.lin_spec.specs.declared.MaybeSpan.{MaybeSpan}
@@ -26,7 +29,12 @@ use Rattle.lin_spec.proofs.Base.{or-none}
 use Rattle.lin_spec.proofs.Checks.{unmet, unless-refused, unless-passed}
 use Rattle.text.proofs.ListLaws.{next-word}
 use Rattle.lent.specs.Calls.{rowAt, callAt, spansOf}
-use Rattle.lent.specs.Checks.{verdictOf, checked}
+use Rattle.lent.specs.declared.heads.Head.{Head}
+use Rattle.lent.specs.declared.checks.Faults.{Faults}
+use Rattle.lent.specs.declared.checks.Look.{Look}
+use Rattle.lent.specs.declared.checks.Look.the-variants.{Past, Ill, Torn}
+use Rattle.lent.specs.Heads.{boardOf, headSpans}
+use Rattle.lent.specs.Checks.{verdictOf, checked, lookOf, WholeIfTorn, NotPast, RowsFound, Found}
 
 pub no-rows : {A : Type 0} (cs : List A) → length cs ≡ 0 → cs ≡ []
 no-rows [] h = refl
@@ -91,6 +99,28 @@ module _ {A : Type 0} (g : ℕ → ℕ → ℕ → ℕ → ℕ → ℕ → A) (f
     pub next-row : t ≡ false → any f (rowsOf g (drop (i + 6) ws)) ≡ any f (rowsOf g ws)
     next-row k = (let z : any f (rowsOf g (drop (i + 6) ws)) ≡ (t || any f (rowsOf g (drop (i + 6) ws))) = simp k in z) ∙ sym row-cons ∙ v
 
+-- Whether a row passes it, every row being looked at: t says whether one before word i does
+
+module _ {A : Type 0} (g : ℕ → ℕ → ℕ → ℕ → ℕ → ℕ → A) (f : A → Bool) (ws : List ℕ) (i : ℕ) (t : Bool) (v : (t || any f (rowsOf g (drop i ws))) ≡ any f (rowsOf g ws)) where
+  pub all-rows : length ws - i < 6 → t ≡ any f (rowsOf g ws)
+  unfolding any
+  all-rows h = sym (or-false t) ∙ (let z = rw (rows-rest g ws i h) at v in z)
+
+  pub or-row : 6 ≤ length ws - i → (c : A) → c ≡ rowAt g ws i → (u : Bool) → u ≡ f c → ((t || u) || any f (rowsOf g (drop (i + 6) ws))) ≡ any f (rowsOf g ws)
+  unfolding any
+  or-row h c q u e = or-assoc t u (any f (rowsOf g (drop (i + 6) ws))) ∙ (let z : (t || any f (rowsOf g (drop i ws))) ≡ (t || (u || any f (rowsOf g (drop (i + 6) ws)))) = rw (rows-front g ws i h, ← q, e) refl in sym z) ∙ v
+
+-- The same of cards
+
+module _ (f : ℕ → Bool) (xs : List ℕ) (i : ℕ) (t : Bool) (v : (t || any f (drop i xs)) ≡ any f xs) where
+  pub all-cards : length xs ≤ i → t ≡ any f xs
+  unfolding any
+  all-cards h = sym (or-false t) ∙ (let z = rw (drop-of-length-le xs h) at v in z)
+
+  pub or-card : i < length xs → ((t || f (getD xs i 0)) || any f (drop (i + 1) xs)) ≡ any f xs
+  unfolding any
+  or-card h = or-assoc t (f (getD xs i 0)) (any f (drop (i + 1) xs)) ∙ (let z : (t || any f (drop i xs)) ≡ (t || (f (getD xs i 0) || any f (drop (i + 1) xs))) = rw (add-one, drop-cons xs i 0 h) refl in sym z) ∙ v
+
 -- A text that may be absent
 
 module _ (f : Span → Bool) (x : MaybeSpan) where
@@ -101,6 +131,17 @@ module _ (f : Span → Bool) (x : MaybeSpan) where
   pub present-one : (y : Span) → x ≡ Present y → f y ≡ any f (spanIn (optionOf x))
   unfolding any
   present-one y e = rw e (sym (or-false (f y)))
+
+-- A look at a span, by the arm that the code is in
+
+pub look-is : (l m : Look) (s : List ℕ) (x : Span) (t : Bool) → l ≡ m → t ≡ lookOf m s x → t ≡ lookOf l s x
+look-is l m s x t e f = f ∙ ap (λ (n : Look). lookOf n s x) (sym e)
+
+pub look-whole : (l : Look) (s : List ℕ) → l ≡ Torn → WholeIfTorn l s → utf8 s ≡ true
+look-whole l s e h = subst (λ (n : Look). WholeIfTorn n s) e h
+
+pub look-within : (s : List ℕ) (x : Span) (t : Bool) → t ≡ passesEnd s x → t ≡ false → endOf x ≤ length s
+look-within s x t e k = ltb-false (length s) (endOf x) (sym e ∙ k)
 
 -- One call: the span of its bid, and that of its annotation where there is one
 
@@ -130,74 +171,70 @@ unfolding any callSpans
 calls-any f [] = refl
 calls-any f (c ∷ cs) = any-append f (spansOf c) (callSpans (map callIn cs)) ∙ ap (λ (t : Bool). any f (spansOf c) || t) (calls-any f cs)
 
--- the cards name none
-pub spans-alike : (s : List ℕ) (b : Board) (ws cs ds : List ℕ) → lentSpans (lent s b ws cs) ≡ lentSpans (lent s b ws ds)
-unfolding lentSpans lentBoard
-spans-alike s b ws cs ds = refl
-
-module _ (f : Span → Bool) (s : List ℕ) (b : Board) (ws cs : List ℕ) where
-  spans-any : any f (lentSpans (lent s b ws cs))
-      ≡ (any f (b .names)
-      || (any f (spanIn (optionOf (b .title)))
-      || (any f (spanIn (optionOf (b .«room_board»)))
-      || (any f (spanIn (optionOf (b .«board_header»))) || any (λ c. any f (spansOf c)) (callRows ws)))))
+-- whatever the deal
+module _ (f : Span → Bool) (s : List ℕ) (h : Head) (ds ws cs : List ℕ) where
+  pub spans-any : any f (lentSpans (lent s (boardOf h ds) ws cs)) ≡ (any f (headSpans h) || any (λ c. any f (spansOf c)) (callRows ws))
   unfolding lentSpans lentBoard
-  spans-any = simp (any-append, calls-any)
+  spans-any = simp (any-append, calls-any, or-assoc)
 
-  module _ (t : Bool) (et : t ≡ any f (b .names)) where
-    pub in-names : t ≡ true → true ≡ any f (lentSpans (lent s b ws cs))
-    in-names h = sym (spans-any ∙ simp (← et, h))
-
-    module _ (ht : t ≡ false) (u : Bool) (eu : u ≡ any f (spanIn (optionOf (b .title)))) where
-      pub in-title : u ≡ true → true ≡ any f (lentSpans (lent s b ws cs))
-      in-title h = sym (spans-any ∙ simp (← et, ht, ← eu, h))
-
-      module _ (hu : u ≡ false) (w : Bool) (ew : w ≡ any f (spanIn (optionOf (b .«room_board»)))) where
-        pub in-room : w ≡ true → true ≡ any f (lentSpans (lent s b ws cs))
-        in-room h = sym (spans-any ∙ simp (← et, ht, ← eu, hu, ← ew, h))
-
-        module _ (hw : w ≡ false) (x : Bool) (ex : x ≡ any f (spanIn (optionOf (b .«board_header»)))) where
-          pub in-header : x ≡ true → true ≡ any f (lentSpans (lent s b ws cs))
-          in-header h = sym (spans-any ∙ simp (← et, ht, ← eu, hu, ← ew, hw, ← ex, h))
-
-          pub in-calls : x ≡ false → (y : Bool) → y ≡ any (λ c. any f (spansOf c)) (callRows ws) → y ≡ any f (lentSpans (lent s b ws cs))
-          in-calls h y ey = sym (spans-any ∙ simp (← et, ht, ← eu, hu, ← ew, hw, ← ex, h, ← ey))
+pub head-any : (f : Span → Bool) (h : Head) → any f (headSpans h)
+    ≡ (any f (h .names) || (any f (spanIn (optionOf (h .title))) || (any f (spanIn (optionOf (h .«room_board»))) || any f (spanIn (optionOf (h .«board_header»))))))
+head-any f h = simp any-append
 
 -- a card or a flag outside its range, whatever the board
 pub number-is : (s : List ℕ) (b : Board) (ws cs : List ℕ) → badNumber (lent s b ws cs) ≡ (badCards cs || any badFlag (callRows ws))
 unfolding badNumber
 number-is s b ws cs = refl
 
+-- what is wrong with the rows, the cards and the heading, taken together, by either look for 6
+pub found-all : (l : Look) → NotPast l → (s : List ℕ) (h : Head) (ds ws cs : List ℕ) (r : Faults) → RowsFound l s ws r
+    → (t : Bool) → t ≡ badCards cs → (u : Bool) → u ≡ any (passesEnd s) (headSpans h) → (w : Bool) → w ≡ any (lookOf l s) (headSpans h)
+    → Found (lent s (boardOf h ds) ws cs) (record { number = t || r .number; past = u || r .past; ill = w || r .ill })
+unfolding badNumber
+found-all Past n s h ds ws cs r f t et u eu w ew = absurd n
+found-all Ill n s h ds ws cs r f t et u eu w ew =
+    record {
+      numbers = rw (et, f .flags) refl;
+      ends = rw (eu, f .ends) (sym (spans-any (passesEnd s) s h ds ws cs));
+      texts = rw (ew, f .texts) (sym (spans-any (illSpan s) s h ds ws cs));
+    }
+found-all Torn n s h ds ws cs r f t et u eu w ew =
+    record {
+      numbers = rw (et, f .flags) refl;
+      ends = rw (eu, f .ends) (sym (spans-any (passesEnd s) s h ds ws cs));
+      texts = rw (ew, f .texts) (sym (spans-any (illSpan s) s h ds ws cs));
+    }
+
 -- The verdict, by the tests that led there
 
-module _ (other : Bool) (s : List ℕ) (b : Board) (ws cs : List ℕ) where
-  pub check-long : limit < length s → refused TextTooLong ≡ checked other (lent s b ws cs)
+module _ (other : Bool) (x : Lent) where
+  pub check-long : limit < length (x .text) → refused TextTooLong ≡ checked other x
   unfolding unless lentChecks
-  check-long h = simp (lt-ltb limit (length s) h)
+  check-long h = simp (lt-ltb limit (length (x .text)) h)
 
-  module _ (h : length s ≤ limit) where
-    pub check-other : other ≡ true → refused OutOfRange ≡ checked other (lent s b ws cs)
+  module _ (h : length (x .text) ≤ limit) where
+    pub check-other : other ≡ true → refused OutOfRange ≡ checked other x
     unfolding unless lentChecks
-    check-other o = simp (le-ltb limit (length s) h, o)
+    check-other o = simp (le-ltb limit (length (x .text)) h, o)
 
-    module _ (o : other ≡ false) (t : Bool) (et : t ≡ (badCards cs || any badFlag (callRows ws))) where
-      pub check-number : t ≡ true → refused OutOfRange ≡ checked other (lent s b ws cs)
-      unfolding unless lentChecks badNumber
-      check-number k = simp (le-ltb limit (length s) h, o, ← et, k)
+    module _ (o : other ≡ false) (r : Faults) (f : Found x r) where
+      pub check-number : r .number ≡ true → refused OutOfRange ≡ checked other x
+      unfolding unless lentChecks
+      check-number k = simp (le-ltb limit (length (x .text)) h, o, ← f .numbers, k)
 
-      module _ (k : t ≡ false) (u : Bool) (eu : u ≡ any (passesEnd s) (lentSpans (lent s b ws []))) where
-        pub check-past : u ≡ true → refused SpanPastEnd ≡ checked other (lent s b ws cs)
-        unfolding unless lentChecks badNumber
-        check-past l = simp (le-ltb limit (length s) h, o, ← et, k, spans-alike s b ws cs [], ← eu, l)
+      module _ (k : r .number ≡ false) where
+        pub check-past : r .past ≡ true → refused SpanPastEnd ≡ checked other x
+        unfolding unless lentChecks
+        check-past l = simp (le-ltb limit (length (x .text)) h, o, ← f .numbers, k, ← f .ends, l)
 
-        module _ (l : u ≡ false) (w : Bool) (ew : w ≡ any (illSpan s) (lentSpans (lent s b ws []))) where
-          pub check-ill : w ≡ true → refused SpanNotUtf8 ≡ checked other (lent s b ws cs)
-          unfolding unless lentChecks badNumber
-          check-ill m = simp (le-ltb limit (length s) h, o, ← et, k, spans-alike s b ws cs [], ← eu, l, ← ew, m)
+        module _ (l : r .past ≡ false) where
+          pub check-ill : r .ill ≡ true → refused SpanNotUtf8 ≡ checked other x
+          unfolding unless lentChecks
+          check-ill m = simp (le-ltb limit (length (x .text)) h, o, ← f .numbers, k, ← f .ends, l, ← f .texts, m)
 
-          pub check-good : w ≡ false → accepted tt ≡ checked other (lent s b ws cs)
-          unfolding unless lentChecks badNumber
-          check-good m = simp (le-ltb limit (length s) h, o, ← et, k, spans-alike s b ws cs [], ← eu, l, ← ew, m)
+          pub check-good : r .ill ≡ false → accepted tt ≡ checked other x
+          unfolding unless lentChecks
+          check-good m = simp (le-ltb limit (length (x .text)) h, o, ← f .numbers, k, ← f .ends, l, ← f .texts, m)
 
 -- What a caller has of it
 

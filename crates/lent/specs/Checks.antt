@@ -1,10 +1,20 @@
 -- What the checks of a lent board answer. (01: Eight refusals)
-use mathlib.Core.Bool.{Bool}
-use Rattle.lin_spec.specs.Refusals.{Answer, unless}
+use Prim.Native.Nat.{ℕ}
+use mathlib.Core.Path.{_≡_}
+use mathlib.Core.Bool.{Bool, true}
+use mathlib.Core.List.{List}
+use Rattle.lin_spec.specs.Base.{any}
+use Rattle.lin_spec.specs.Refusals.{Answer, unless, passesEnd, illSpan}
 use Rattle.lin_spec.specs.Refusals.Answer.{refused, accepted}
-use Rattle.lin_spec.specs.Lent.{Lent, lentChecks}
+use Rattle.lin_spec.specs.Utf8.{utf8}
+use Rattle.lin_spec.specs.declared.Span.{Span}
+use Rattle.lin_spec.specs.Lent.{callRows, Lent, lentSpans, badFlag, badNumber, lentChecks}
 use Rattle.lin_spec.specs.declared.Verdict.{Verdict}
 use Rattle.lin_spec.specs.declared.Verdict.the-variants.{Accepted, Refused}
+use Rattle.lent.specs.declared.checks.Faults.{Faults}
+use Rattle.lent.specs.declared.checks.Look.{Look}
+use Rattle.lent.specs.declared.checks.Look.the-variants.{Past, Ill, Torn}
+use Rattle.lent.specs.Calls.{spansOf}
 
 -- a verdict as an answer that has no result
 abbrev pub verdictOf : Verdict → Answer Unit
@@ -14,3 +24,33 @@ verdictOf (Refused r) = refused r
 -- the refusal of the first check that meets the board, if one does
 abbrev pub checked : (other : Bool) → Lent → Answer Unit
 checked other x = unless (lentChecks other x) tt
+
+-- what a look at a span says
+abbrev pub lookOf : Look → List ℕ → Span → Bool
+lookOf Past s x = passesEnd s x
+lookOf Ill s x = illSpan s x
+lookOf Torn s x = illSpan s x
+
+-- a look at the ends of a span is for a text that is UTF-8 as a whole
+abbrev pub WholeIfTorn : Look → List ℕ → Type 0
+WholeIfTorn Past s = Unit
+WholeIfTorn Ill s = Unit
+WholeIfTorn Torn s = utf8 s ≡ true
+
+-- a look for 6
+abbrev pub NotPast : Look → Type 0
+NotPast Past = ⊥
+NotPast Ill = Unit
+NotPast Torn = Unit
+
+-- what is wrong with the rows ws over the text s
+pub record RowsFound (l : Look) (s ws : List ℕ) (r : Faults) : Type 0 where
+  pub flags : r .number ≡ any badFlag (callRows ws)
+  pub ends : r .past ≡ any (λ c. any (passesEnd s) (spansOf c)) (callRows ws)
+  pub texts : r .ill ≡ any (λ c. any (lookOf l s) (spansOf c)) (callRows ws)
+
+-- and with all that is lent
+pub record Found (x : Lent) (r : Faults) : Type 0 where
+  pub numbers : r .number ≡ badNumber x
+  pub ends : r .past ≡ any (passesEnd (x .text)) (lentSpans x)
+  pub texts : r .ill ≡ any (illSpan (x .text)) (lentSpans x)

@@ -1,6 +1,6 @@
 // The checks of a lent board: 1, 8, 5 and 6, each over all that is lent before the next. (01: Eight refusals)
 use crate::calls::call_at;
-use lin_spec::Board;
+use crate::heads::Head;
 use lin_spec::Call;
 use lin_spec::LIMIT;
 use lin_spec::MaybeSpan;
@@ -9,28 +9,30 @@ use lin_spec::Span;
 use lin_spec::Verdict;
 use text::Fault;
 use text::faulty;
+use text::is_utf8;
+use text::torn;
 ghost use mathlib.Core.Path.{_≡_};
-ghost use mathlib.Core.Bool.{_||_};
-ghost use mathlib.Core.List.{[]};
+ghost use mathlib.Core.List.{List};
+ghost use Prim.Native.Nat.{ℕ};
 ghost use Rattle.lin_spec.specs.Base.{any};
 ghost use Rattle.lin_spec.specs.Records.{optionOf};
-ghost use Rattle.lin_spec.specs.Lent.{callRows, lent, spanIn, lentSpans, badFlag, badCards};
+ghost use Rattle.lin_spec.specs.Lent.{lent, spanIn, badFlag, badCards};
 ghost use Rattle.text.specs.Fault.{faultOf};
 ghost use Rattle.lent.specs.Calls.{spansOf};
-ghost use Rattle.lent.specs.Checks.{verdictOf, checked};
+ghost use Rattle.lent.specs.Heads.{boardOf, headSpans};
+ghost use Rattle.lent.specs.Checks.{verdictOf, checked, lookOf, WholeIfTorn, NotPast, RowsFound, Found};
 
 // Whether a card is none of the 52.
 pub fn bad_cards(cards: &[u8]) -> bool
     ensures { λ r. ⌜ r ≡ badCards (now (cards .entry)) ⌝ }
 {
+    let mut bad = false;
     let mut i = 0;
     while i < cards.len() {
-        if 51 < cards[i] {
-            return true;
-        }
+        bad = bad | (51 < cards[i]);
         i += 1;
     }
-    false
+    bad
 }
 
 // Whether a flag of a call is neither 0 nor 1.
@@ -40,37 +42,52 @@ fn bad_flag(c: Call) -> bool
     (1 < c.alerted) | (1 < c.annotated)
 }
 
-// Whether a flag of a row is neither 0 nor 1.
-fn bad_flags(rows: &[u32]) -> bool
-    ensures { λ r. ⌜ r ≡ any badFlag (callRows (now (rows .entry))) ⌝ }
+// How a span is looked at: by 5; by 6, byte for byte; or by 6 within a text that is UTF-8 as a whole, by the ends of the span.
+enum Look {
+    Past,
+    Ill,
+    Torn,
+}
+
+// Whether a span meets it.
+fn meets(text: &[u8], x: Span, look: Look) -> bool
+    requires { ⌜ WholeIfTorn look (now text) ⌝ }
+    ensures { λ r. ⌜ r ≡ lookOf look (now (text .entry)) x ⌝ }
 {
-    let mut i = 0;
-    while 6 <= rows.len() - i {
-        if bad_flag(call_at(rows, i)) {
-            return true;
+    match look {
+        Look::Past => faulty(text, x, Fault::PastEnd),
+        Look::Ill => faulty(text, x, Fault::NotUtf8),
+        Look::Torn => {
+            if faulty(text, x, Fault::PastEnd) {
+                return faulty(text, x, Fault::NotUtf8);
+            }
+            torn(text, x)
         }
-        i += 6;
     }
-    false
 }
 
-// Whether a card or a flag is outside its range.
-pub fn bad_number(rows: &[u32], cards: &[u8]) -> bool
-    ensures { λ r. ⌜ r ≡ (badCards (now (cards .entry)) || any badFlag (callRows (now (rows .entry)))) ⌝ }
+// How 6 is looked at. A text that is short, or short for its rows, is looked at as a whole first.
+fn look_for(text: &[u8], rows: &[u32]) -> Look
+    ensures { λ r. ⌜ WholeIfTorn r (now (text .entry)) × NotPast r ⌝ }
 {
-    if bad_cards(cards) {
-        return true;
+    let short = (text.len() <= 256) | (text.len() / 4 <= rows.len());
+    if !short {
+        return Look::Ill;
     }
-    bad_flags(rows)
+    if is_utf8(text) {
+        return Look::Torn;
+    }
+    Look::Ill
 }
 
-// Whether a name has this fault.
-fn name_faulty(text: &[u8], names: [Span; 4], fault: Fault) -> bool
-    ensures { λ r. ⌜ r ≡ any (faultOf fault (now (text .entry))) names ⌝ }
+// Whether a name meets it.
+fn name_meets(text: &[u8], names: [Span; 4], look: Look) -> bool
+    requires { ⌜ WholeIfTorn look (now text) ⌝ }
+    ensures { λ r. ⌜ r ≡ any (lookOf look (now (text .entry))) names ⌝ }
 {
     let mut seat = 0;
     while seat < 4 {
-        if faulty(text, names[seat], fault) {
+        if meets(text, names[seat], look) {
             return true;
         }
         seat += 1;
@@ -88,59 +105,88 @@ pub fn present_faulty(text: &[u8], x: MaybeSpan, fault: Fault) -> bool
     }
 }
 
-// Whether a text of a call has this fault. The place of an annotation that is absent is not looked at.
-fn call_faulty(text: &[u8], c: Call, fault: Fault) -> bool
-    ensures { λ r. ⌜ r ≡ any (faultOf fault (now (text .entry))) (spansOf c) ⌝ }
+// Whether a text that is present meets it.
+fn present_meets(text: &[u8], x: MaybeSpan, look: Look) -> bool
+    requires { ⌜ WholeIfTorn look (now text) ⌝ }
+    ensures { λ r. ⌜ r ≡ any (lookOf look (now (text .entry))) (spanIn (optionOf x)) ⌝ }
 {
-    if faulty(text, c.bid, fault) {
+    match x {
+        MaybeSpan::Absent => false,
+        MaybeSpan::Present(s) => meets(text, s, look),
+    }
+}
+
+// Whether a text of a call meets it. The place of an annotation that is absent is not looked at.
+fn call_meets(text: &[u8], c: Call, look: Look) -> bool
+    requires { ⌜ WholeIfTorn look (now text) ⌝ }
+    ensures { λ r. ⌜ r ≡ any (lookOf look (now (text .entry))) (spansOf c) ⌝ }
+{
+    if meets(text, c.bid, look) {
         return true;
     }
     if c.annotated == 0 {
         return false;
     }
-    faulty(text, c.annotation, fault)
+    meets(text, c.annotation, look)
 }
 
-// Whether a text of a row has this fault.
-fn row_faulty(text: &[u8], rows: &[u32], fault: Fault) -> bool
-    ensures { λ r. ⌜ r ≡ any (λ c. any (faultOf fault (now (text .entry))) (spansOf c)) (callRows (now (rows .entry))) ⌝ }
+// Whether a text of the heading meets it.
+fn head_meets(text: &[u8], head: Head, look: Look) -> bool
+    requires { ⌜ WholeIfTorn look (now text) ⌝ }
+    ensures { λ r. ⌜ r ≡ any (lookOf look (now (text .entry))) (headSpans head) ⌝ }
 {
+    let names = head.names;
+    let title = head.title;
+    let room_board = head.room_board;
+    let board_header = head.board_header;
+    let a = name_meets(text, names, look);
+    let b = present_meets(text, title, look);
+    let c = present_meets(text, room_board, look);
+    let d = present_meets(text, board_header, look);
+    a | (b | (c | d))
+}
+
+// What is wrong with what is lent: whether 8 meets a card or a flag, and 5 and 6 a span.
+pub struct Faults {
+    pub number: bool,
+    pub past: bool,
+    pub ill: bool,
+}
+
+// What is wrong with the rows. Each is looked at once.
+fn row_faults(text: &[u8], rows: &[u32], look: Look) -> Faults
+    requires { ⌜ WholeIfTorn look (now text) ⌝ }
+    ensures { λ r. ⌜ RowsFound look (now (text .entry)) (now (rows .entry)) r ⌝ }
+{
+    let mut number = false;
+    let mut past = false;
+    let mut ill = false;
     let mut i = 0;
     while 6 <= rows.len() - i {
-        if call_faulty(text, call_at(rows, i), fault) {
-            return true;
-        }
+        let c = call_at(rows, i);
+        number = number | bad_flag(c);
+        past = past | call_meets(text, c, Look::Past);
+        ill = ill | call_meets(text, c, look);
         i += 6;
     }
-    false
+    Faults { number, past, ill }
 }
 
-// Whether a text that the board or its rows name has this fault.
-pub fn any_faulty(text: &[u8], board: Board, rows: &[u32], fault: Fault) -> bool
-    ensures { λ r. ⌜ r ≡ any (faultOf fault (now (text .entry))) (lentSpans (lent (now (text .entry)) board (now (rows .entry)) [])) ⌝ }
+// What is wrong with a lent board, whatever its deal.
+pub fn faults_of(text: &[u8], head: Head, rows: &[u32], cards: &[u8]) -> Faults
+    ensures { λ r. ⌜ ((counts : List ℕ) → Found (lent (now (text .entry)) (boardOf head counts) (now (rows .entry)) (now (cards .entry))) r) ⌝ }
 {
-    let names = board.names;
-    let title = board.title;
-    let room_board = board.room_board;
-    let board_header = board.board_header;
-    if name_faulty(text, names, fault) {
-        return true;
-    }
-    if present_faulty(text, title, fault) {
-        return true;
-    }
-    if present_faulty(text, room_board, fault) {
-        return true;
-    }
-    if present_faulty(text, board_header, fault) {
-        return true;
-    }
-    row_faulty(text, rows, fault)
+    let look = look_for(text, rows);
+    let row = row_faults(text, rows, look);
+    let number = bad_cards(cards) | row.number;
+    let past = head_meets(text, head, Look::Past) | row.past;
+    let ill = head_meets(text, head, look) | row.ill;
+    Faults { number, past, ill }
 }
 
-// The first of the checks that meets the call. `other` says whether another number of the call is outside its range.
-pub fn check(other: bool, text: &[u8], board: Board, rows: &[u32], cards: &[u8]) -> Verdict
-    ensures { λ r. ⌜ verdictOf r ≡ checked other (lent (now (text .entry)) board (now (rows .entry)) (now (cards .entry))) ⌝ }
+// The first of the checks that meets the call, whatever the deal. `other` says whether another number of the call is outside its range.
+pub fn check(other: bool, text: &[u8], head: Head, rows: &[u32], cards: &[u8]) -> Verdict
+    ensures { λ r. ⌜ ((counts : List ℕ) → verdictOf r ≡ checked other (lent (now (text .entry)) (boardOf head counts) (now (rows .entry)) (now (cards .entry)))) ⌝ }
 {
     if LIMIT < text.len() {
         return Verdict::Refused(Refusal::TextTooLong);
@@ -148,13 +194,14 @@ pub fn check(other: bool, text: &[u8], board: Board, rows: &[u32], cards: &[u8])
     if other {
         return Verdict::Refused(Refusal::OutOfRange);
     }
-    if bad_number(rows, cards) {
+    let found = faults_of(text, head, rows, cards);
+    if found.number {
         return Verdict::Refused(Refusal::OutOfRange);
     }
-    if any_faulty(text, board, rows, Fault::PastEnd) {
+    if found.past {
         return Verdict::Refused(Refusal::SpanPastEnd);
     }
-    if any_faulty(text, board, rows, Fault::NotUtf8) {
+    if found.ill {
         return Verdict::Refused(Refusal::SpanNotUtf8);
     }
     Verdict::Accepted

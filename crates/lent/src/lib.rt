@@ -1,10 +1,13 @@
-// A board that is lent to a call: the calls of its rows, and the checks that it is put to. (01: Records; Eight refusals)
+// A board that is lent to a call: the board without its deal, the calls of its rows, and the checks that it is put to. (01: Records; Eight refusals)
 mod calls;
 mod checks;
+mod heads;
 
 pub use calls::call_at;
-pub use checks::any_faulty;
+pub use checks::Faults;
 pub use checks::bad_cards;
-pub use checks::bad_number;
 pub use checks::check;
+pub use checks::faults_of;
 pub use checks::present_faulty;
+pub use heads::Head;
+pub use heads::head_of;

@@ -18,20 +18,27 @@ use Rattle.lin_spec.specs.Equality.{sameBoards, sameBoard}
 use Rattle.lin_spec.specs.declared.Board.{Board}
 use Rattle.lin_spec.specs.declared.Refusal.{Refusal}
 use Rattle.lin_spec.specs.declared.Refusal.the-variants.{TextTooLong, OutOfRange}
+use Rattle.lent.specs.declared.heads.Head.{Head}
+use Rattle.lent.specs.Heads.{headOf, boardOf as withDeal}
 use Rattle.lin_host.specs.Answers.{outcomeNumbers}
 use Rattle.lin_host.specs.Codes.{boardOf, badCodes}
 use Rattle.lin_host.specs.Writing.{lentNumbers, appendNumbers, equalityNumbers, sameNumbers}
 use Rattle.lin_host.specs.declared.boards.LinBoard.{LinBoard}
 
--- the answer for a board and a test that are those of the numbers
-pub appending : (s : List ℕ) (b : LinBoard) (ws cs o : List ℕ) (used : ℕ) {t : Bool} {x : Board} → t ≡ badCodes b → x ≡ boardOf b
-    → outcomeNumbers (appended t (plain (lent s x ws cs)) o used) ≡ appendNumbers s b ws cs o used
-appending s b ws cs o used e f = rw (e, f)
+-- the board of the numbers is what it is without its deal, and the counts
+whole : (b : LinBoard) {h : Head} → h ≡ headOf (boardOf b) → withDeal h (b .counts) ≡ boardOf b
+unfolding boardOf
+whole b e = ap (λ (h : Head). withDeal h (b .counts)) e
 
-pub comparing : (s : List ℕ) (b : LinBoard) (ws cs : List ℕ) (s2 : List ℕ) (b2 : LinBoard) (ws2 cs2 : List ℕ) {t u : Bool} {x y : Board}
-    → t ≡ badCodes b → u ≡ badCodes b2 → x ≡ boardOf b → y ≡ boardOf b2
-    → equalityNumbers (sameBoards (t || u) (lent s x ws cs) (lent s2 y ws2 cs2)) ≡ sameNumbers s b ws cs s2 b2 ws2 cs2
-comparing s b ws cs s2 b2 ws2 cs2 e f g h = rw (e, f, g, h)
+-- the answer for a board and a test that are those of the numbers
+pub appending : (s : List ℕ) (b : LinBoard) (ws cs o : List ℕ) (used : ℕ) {t : Bool} {h : Head} → t ≡ badCodes b → h ≡ headOf (boardOf b)
+    → outcomeNumbers (appended t (plain (lent s (withDeal h (b .counts)) ws cs)) o used) ≡ appendNumbers s b ws cs o used
+appending s b ws cs o used e f = let z = whole b f in rw (e, z)
+
+pub comparing : (s : List ℕ) (b : LinBoard) (ws cs : List ℕ) (s2 : List ℕ) (b2 : LinBoard) (ws2 cs2 : List ℕ) {t u : Bool} {x y : Head}
+    → t ≡ badCodes b → u ≡ badCodes b2 → x ≡ headOf (boardOf b) → y ≡ headOf (boardOf b2)
+    → equalityNumbers (sameBoards (t || u) (lent s (withDeal x (b .counts)) ws cs) (lent s2 (withDeal y (b2 .counts)) ws2 cs2)) ≡ sameNumbers s b ws cs s2 b2 ws2 cs2
+comparing s b ws cs s2 b2 ws2 cs2 e f g h = let z = whole b g in let w = whole b2 h in rw (e, f, z, w)
 
 -- With codes in their ranges the exports are the entries
 

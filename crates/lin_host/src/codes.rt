@@ -1,14 +1,14 @@
 // A board that is lent as numbers: the board that they are, and whether a code is outside its range. (01: Records; Eight refusals, 8)
 use crate::boards::LinBoard;
 use crate::boards::LinText;
-use lin_spec::Board;
-use lin_spec::Deal;
+use lent::Head;
 use lin_spec::MaybeClaim;
 use lin_spec::MaybeSpan;
 use lin_spec::Seat;
 use lin_spec::Span;
 use lin_spec::Vulnerability;
 ghost use mathlib.Core.Path.{_≡_};
+ghost use Rattle.lent.specs.Heads.{headOf};
 ghost use Rattle.lin_host.specs.Codes.{seatOf, vulnerabilityOf, spansOf, textOf, claimOf, boardOf, badThree, badGiven, badCodes};
 
 // The parts of a board, each for any number.
@@ -83,21 +83,18 @@ fn claim_of(claimed: u32, claim: u32) -> MaybeClaim
     MaybeClaim::Claimed(claim as u8)
 }
 
-// The board of these numbers.
-pub(crate) fn board_of(b: LinBoard) -> Board
-    ensures { λ r. ⌜ r ≡ boardOf b ⌝ }
+// The board of these numbers, without its deal.
+pub(crate) fn head_of(b: LinBoard) -> Head
+    ensures { λ r. ⌜ r ≡ headOf (boardOf b) ⌝ }
 {
     let words = b.names;
     let title = b.title;
     let room_board = b.room_board;
     let board_header = b.board_header;
-    let counts = b.counts;
     let names = names_of(words);
-    let deal = Deal { counts };
-    Board {
+    Head {
         names,
         dealer: seat_of(b.dealer),
-        deal,
         vulnerability: vulnerability_of(b.vulnerability),
         title: text_of(title),
         room_board: text_of(room_board),

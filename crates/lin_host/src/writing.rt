@@ -4,12 +4,12 @@ use crate::answers::refusal;
 use crate::answers::written;
 use crate::boards::LinBoard;
 use crate::codes::bad_codes;
-use crate::codes::board_of;
+use crate::codes::head_of;
 use cardtext::format_cardplay_by_trick;
 use cleaning::Marks;
-use equality::same_boards;
+use equality::same_heads;
 use lin_spec::Equality;
-use writer::append_with;
+use writer::append_head;
 ghost use mathlib.Core.Path.{_≡_};
 ghost use Rattle.lin_spec.specs.Play.{formatCardplay};
 ghost use Rattle.lin_spec.specs.Equality.{equalityOf};
@@ -54,8 +54,18 @@ pub extern "C" fn lin_append(
         pipe: b'/',
         line: b' ',
     };
-    let b = board_of(board);
-    written(append_with(other, marks, text, b, rows, cards, out, used as usize))
+    let head = head_of(board);
+    written(append_head(
+        other,
+        marks,
+        text,
+        head,
+        &board.counts,
+        rows,
+        cards,
+        out,
+        used as usize,
+    ))
 }
 
 // Writes a board from the first byte of the output on, and gives its length.
@@ -96,7 +106,19 @@ pub extern "C" fn lin_same_board(
 {
     let bad = bad_codes(board);
     let bad2 = bad_codes(board2);
-    let b = board_of(board);
-    let b2 = board_of(board2);
-    compared(same_boards(bad | bad2, text, b, rows, cards, text2, b2, rows2, cards2))
+    let head = head_of(board);
+    let head2 = head_of(board2);
+    compared(same_heads(
+        bad | bad2,
+        text,
+        head,
+        &board.counts,
+        rows,
+        cards,
+        text2,
+        head2,
+        &board2.counts,
+        rows2,
+        cards2,
+    ))
 }

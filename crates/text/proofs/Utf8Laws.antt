@@ -17,7 +17,7 @@ use Rattle.lin_spec.specs.Utf8.{Utf, first, tails, utfStep, utf, isWhole, utf8,
 use Rattle.lin_spec.specs.Utf8.Utf.{whole, needs, ill}
 use Rattle.lin_spec.proofs.Base.{and-left, and-right, allBelow, same-below}
 use Rattle.lin_spec.proofs.Utf8.{utf-append, whole-utf8, utf8-ascii, utf8-longest, longest-within, longest-after}
-use Rattle.text.specs.Utf8.{bytesOf, lowOf, highOf, Front, Past, Sixteen}
+use Rattle.text.specs.Utf8.{bytesOf, lowOf, highOf, Front, Past}
 
 -- From place to place
 
@@ -52,8 +52,8 @@ isAscii s i = leb (getD s i 0) 0x7F
 -- sixteen bytes are passed, each by its test
 pub sixteen-past : (s : List ℕ) (i : ℕ) → i + 16 ≤ length s
     → (isAscii s i && isAscii s (i + 1) && isAscii s (i + 2) && isAscii s (i + 3) && isAscii s (i + 4) && isAscii s (i + 5) && isAscii s (i + 6) && isAscii s (i + 7) && isAscii s (i + 8) && isAscii s (i + 9) && isAscii s (i + 10) && isAscii s (i + 11) && isAscii s (i + 12) && isAscii s (i + 13) && isAscii s (i + 14) && isAscii s (i + 15)) ≡ true
-    → Sixteen s i
-sixteen-past s i h e = record { within = h; past = to 15 tt (to 14 tt (to 13 tt (to 12 tt (to 11 tt (to 10 tt (to 9 tt (to 8 tt (to 7 tt (to 6 tt (to 5 tt (to 4 tt (to 3 tt (to 2 tt (to 1 tt one)))))))))))))) e }
+    → Past s i (i + 16)
+sixteen-past s i h e = to 15 tt (to 14 tt (to 13 tt (to 12 tt (to 11 tt (to 10 tt (to 9 tt (to 8 tt (to 7 tt (to 6 tt (to 5 tt (to 4 tt (to 3 tt (to 2 tt (to 1 tt one)))))))))))))) e
   where
     one : isAscii s i ≡ true → Past s i (i + 1)
     one f = past-next s i i (past-here s i) (omega arith) (leb-true (getD s i 0) 0x7F f)
@@ -64,6 +64,27 @@ sixteen-past s i h e = record { within = h; past = to 15 tt (to 14 tt (to 13 tt 
         let d : i + suc k ≡ i + k + 1 = omega arith in
         let m = ltb→lt k 16 l in
         rw d (past-next s i (i + k) (f (and-left t (isAscii s (i + k)) e)) (omega arith) b)
+
+-- four times sixteen
+pub four-past : (s : List ℕ) (i : ℕ) (a b c d : Bool) → (a ≡ true → Past s i (i + 16)) → (b ≡ true → Past s (i + 16) (i + 16 + 16)) → (c ≡ true → Past s (i + 32) (i + 32 + 16))
+    → (d ≡ true → Past s (i + 48) (i + 48 + 16)) → ((a && b) && (c && d)) ≡ true → Past s i (i + 64)
+four-past s i a b c d f g h k e =
+    let ab = and-left (a && b) (c && d) e in
+    let cd = and-right (a && b) (c && d) e in
+    let p = f (and-left a b ab) in
+    let q = g (and-right a b ab) in
+    let r = h (and-left c d cd) in
+    let t = k (and-right c d cd) in
+    record { order = omega arith; after = omega (arith, p .after, q .after, r .after, t .after, at-32, at-48, at-64) }
+  where
+    at-32 : longest (drop (i + 16 + 16) s) ≡ longest (drop (i + 32) s)
+    at-32 = ap (λ (n : ℕ). longest (drop n s)) (let z : i + 16 + 16 ≡ i + 32 = omega arith in z)
+
+    at-48 : longest (drop (i + 32 + 16) s) ≡ longest (drop (i + 48) s)
+    at-48 = ap (λ (n : ℕ). longest (drop n s)) (let z : i + 32 + 16 ≡ i + 48 = omega arith in z)
+
+    at-64 : longest (drop (i + 48 + 16) s) ≡ longest (drop (i + 64) s)
+    at-64 = ap (λ (n : ℕ). longest (drop n s)) (let z : i + 48 + 16 ≡ i + 64 = omega arith in z)
 
 -- the end of the text is the end of its longest start, where it is reached
 pub past-end : (s : List ℕ) (i : ℕ) → Past s 0 i → length s ≤ i → i ≡ longest s

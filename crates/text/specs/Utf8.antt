@@ -45,7 +45,7 @@ pub record Past (s : List ℕ) (a b : ℕ) : Type 0 where
   pub order : a ≤ b
   pub after : a + longest (drop a s) ≡ b + longest (drop b s)
 
--- s has sixteen bytes from the place i on, all of them whole characters
-pub record Sixteen (s : List ℕ) (i : ℕ) : Type 0 where
-  pub within : i + 16 ≤ length s
-  pub past : Past s i (i + 16)
+-- s has n bytes from the place i on, all of them whole characters
+pub record Block (s : List ℕ) (i n : ℕ) : Type 0 where
+  pub within : i + n ≤ length s
+  pub past : Past s i (i + n)

@@ -1,9 +1,11 @@
 // UTF-8 by RFC 3629: how much of a text is well formed, in one pass. (01: Eight refusals, 2 and 6)
 ghost use mathlib.Core.Path.{_≡_};
 ghost use mathlib.Core.Bool.{true, _&&_};
+ghost use Prim.Native.Nat.{_+_, _≤_};
+ghost use lib.ListN.{length};
 ghost use lib.Dec.{leb};
 ghost use Rattle.lin_spec.specs.Utf8.{first, utf8, longest};
-ghost use Rattle.text.specs.Utf8.{bytesOf, lowOf, highOf, Front, Past, Sixteen};
+ghost use Rattle.text.specs.Utf8.{bytesOf, lowOf, highOf, Front, Past, Block};
 
 // How many bytes a character has that begins with `a`, 0 where none does. RFC 3629, 4: UTF8-1 to UTF8-4
 pub fn width(a: u8) -> usize
@@ -90,16 +92,11 @@ fn char_len(t: &[u8]) -> usize
     n
 }
 
-// Tests sixteen bytes from `i` on for ASCII. Promised is what the loop needs: where it says true, they are there and are whole characters.
-fn ascii_sixteen(s: &[u8], i: usize) -> bool
-    ensures { λ r. ⌜ (r ≡ true → Sixteen (now (s .entry)) i) ⌝ }
+// Whether the sixteen bytes from `i` on are ASCII. Promised is that they are whole characters then.
+fn sixteen_ascii(s: &[u8], i: usize) -> bool
+    requires { ⌜ i + 16 ≤ length (now s) ⌝ }
+    ensures { λ r. ⌜ (r ≡ true → Past (now (s .entry)) i (i + 16)) ⌝ }
 {
-    if s.len() < 16 {
-        return false;
-    }
-    if s.len() - 16 < i {
-        return false;
-    }
     (s[i] <= 0x7F)
         & (s[i + 1] <= 0x7F)
         & (s[i + 2] <= 0x7F)
@@ -118,11 +115,56 @@ fn ascii_sixteen(s: &[u8], i: usize) -> bool
         & (s[i + 15] <= 0x7F)
 }
 
-// Passes bytes of ASCII from `from` on, by sixteens, and gives the place after them. Promised is that whole characters were passed.
-fn sixteens_end(s: &[u8], from: usize) -> usize
+// Tests sixteen bytes from `i` on for ASCII. Promised is what the loop needs: where it says true, they are there and are whole characters.
+fn ascii_sixteen(s: &[u8], i: usize) -> bool
+    ensures { λ r. ⌜ (r ≡ true → Block (now (s .entry)) i 16) ⌝ }
+{
+    if s.len() < 16 {
+        return false;
+    }
+    if s.len() - 16 < i {
+        return false;
+    }
+    sixteen_ascii(s, i)
+}
+
+// The same of sixty-four bytes.
+fn ascii_sixty_four(s: &[u8], i: usize) -> bool
+    ensures { λ r. ⌜ (r ≡ true → Block (now (s .entry)) i 64) ⌝ }
+{
+    if s.len() < 64 {
+        return false;
+    }
+    if s.len() - 64 < i {
+        return false;
+    }
+    let a = sixteen_ascii(s, i);
+    let b = sixteen_ascii(s, i + 16);
+    let c = sixteen_ascii(s, i + 32);
+    let d = sixteen_ascii(s, i + 48);
+    (a & b) & (c & d)
+}
+
+// Passes bytes of ASCII from `from` on, by sixty-fours, and gives the place after them. Promised is that whole characters were passed.
+fn sixty_fours_end(s: &[u8], from: usize) -> usize
     ensures { λ r. ⌜ Past (now (s .entry)) from r ⌝ }
 {
     let mut i = from;
+    while ascii_sixty_four(s, i) {
+        i += 64;
+    }
+    i
+}
+
+// Passes bytes of ASCII from `from` on, by sixteens and, where there are many, by sixty-fours, and gives the place after them. Promised is that
+// whole characters were passed.
+fn sixteens_end(s: &[u8], from: usize) -> usize
+    ensures { λ r. ⌜ Past (now (s .entry)) from r ⌝ }
+{
+    if !ascii_sixteen(s, from) {
+        return from;
+    }
+    let mut i = sixty_fours_end(s, from + 16);
     while ascii_sixteen(s, i) {
         i += 16;
     }

@@ -2,7 +2,9 @@
 use boardtext::board_len;
 use boardtext::put_board;
 use cleaning::Marks;
+use lent::Head;
 use lent::check;
+use lent::head_of;
 use lin_spec::Board;
 use lin_spec::Refusal;
 use lin_spec::Verdict;
@@ -11,36 +13,60 @@ use lin_spec::room;
 ghost use mathlib.Core.Path.{_≡_};
 ghost use mathlib.Core.Bool.{false};
 ghost use Prim.Native.Nat.{_≤_};
+ghost use lib.ListN.{length};
 ghost use Rattle.lin_spec.specs.Lent.{lent, badCards};
 ghost use Rattle.lin_spec.specs.Output.{Outcome, answerOf, room as roomOf};
 ghost use Rattle.lin_spec.specs.Append.{appended, append as appendOf, writeLin};
+ghost use Rattle.lent.specs.Heads.{boardOf};
 ghost use Rattle.boardtext.specs.Filing.{filing, fitted};
 
 // Puts a board that the checks before 7 have passed after the used bytes, if there is room for it.
 fn append_checked(
     text: &[u8],
-    board: Board,
+    head: Head,
+    counts: &[u32; 208],
     rows: &[u32],
     cards: &[u8],
     marks: Marks,
     out: &mut [u8],
     used: usize,
 ) -> Written
-    requires { ⌜ (used ≤ roomOf (now out)) × (badCards (now cards) ≡ false) ⌝ }
-    ensures { λ r. ⌜ _≡_ {A = Outcome} (record { answer = answerOf r; output = now (out .exit) }) (fitted (filing marks (now (text .entry)) board (now (rows .entry)) (now (cards .entry))) (now (out .entry)) used) ⌝ }
+    requires { ⌜ (used ≤ roomOf (now out)) × (badCards (now cards) ≡ false) × (length (now counts) ≡ 208) ⌝ }
+    ensures { λ r. ⌜ _≡_ {A = Outcome} (record { answer = answerOf r; output = now (out .exit) }) (fitted (filing marks (now (text .entry)) (boardOf head (now (counts .entry))) (now (rows .entry)) (now (cards .entry))) (now (out .entry)) used) ⌝ }
 {
-    let need = board_len(text, board, rows, cards, marks);
+    let need = board_len(text, head, counts, rows, cards, marks);
     if ((room(out.len()) - used) as u64) < need {
         return Written::Refused(Refusal::OutputTooSmall(need));
     }
-    let n = put_board(out, used, text, board, rows, cards, marks);
+    let n = put_board(out, used, text, head, counts, rows, cards, marks);
     Written::Length(n)
 }
 
-// Adds a board after the used bytes, with these marks, and gives the new used count; or refuses, and changes nothing. `other` says whether
-// another number of the call is outside its range.
-pub fn append_with(
+// Adds a board, without its deal and with the counts of its deal, after the used bytes, with these marks, and gives the new used count; or refuses,
+// and changes nothing. `other` says whether another number of the call is outside its range.
+pub fn append_head(
     other: bool,
+    marks: Marks,
+    text: &[u8],
+    head: Head,
+    counts: &[u32; 208],
+    rows: &[u32],
+    cards: &[u8],
+    out: &mut [u8],
+    used: usize,
+) -> Written
+    requires { ⌜ length (now counts) ≡ 208 ⌝ }
+    ensures { λ r. ⌜ _≡_ {A = Outcome} (record { answer = answerOf r; output = now (out .exit) }) (appended other (filing marks (now (text .entry)) (boardOf head (now (counts .entry))) (now (rows .entry)) (now (cards .entry))) (now (out .entry)) used) ⌝ }
+{
+    let beyond = room(out.len()) < used;
+    match check(other | beyond, text, head, rows, cards) {
+        Verdict::Accepted => { append_checked(text, head, counts, rows, cards, marks, out, used) }
+        Verdict::Refused(r) => Written::Refused(r),
+    }
+}
+
+// Adds a board after the used bytes, with these marks, and gives the new used count; or refuses, and changes nothing.
+fn append_with(
     marks: Marks,
     text: &[u8],
     board: Board,
@@ -49,13 +75,20 @@ pub fn append_with(
     out: &mut [u8],
     used: usize,
 ) -> Written
-    ensures { λ r. ⌜ _≡_ {A = Outcome} (record { answer = answerOf r; output = now (out .exit) }) (appended other (filing marks (now (text .entry)) board (now (rows .entry)) (now (cards .entry))) (now (out .entry)) used) ⌝ }
+    ensures { λ r. ⌜ _≡_ {A = Outcome} (record { answer = answerOf r; output = now (out .exit) }) (appended false (filing marks (now (text .entry)) board (now (rows .entry)) (now (cards .entry))) (now (out .entry)) used) ⌝ }
 {
-    let beyond = room(out.len()) < used;
-    match check(other | beyond, text, board, rows, cards) {
-        Verdict::Accepted => append_checked(text, board, rows, cards, marks, out, used),
-        Verdict::Refused(r) => Written::Refused(r),
-    }
+    let head = head_of(board);
+    append_head(
+        false,
+        marks,
+        text,
+        head,
+        &board.deal.counts,
+        rows,
+        cards,
+        out,
+        used,
+    )
 }
 
 // Adds a board after the used bytes, and gives the new used count; or refuses, and changes nothing.
@@ -73,7 +106,7 @@ pub fn append(
         pipe: b'/',
         line: b' ',
     };
-    append_with(false, marks, text, board, rows, cards, out, used)
+    append_with(marks, text, board, rows, cards, out, used)
 }
 
 // Writes a board from the first byte of the output on, and gives its length; or refuses, and changes nothing.

@@ -2,5 +2,5 @@
 mod entries;
 
 pub use entries::append;
-pub use entries::append_with;
+pub use entries::append_head;
 pub use entries::write_lin;

@@ -1,5 +1,6 @@
 -- `writer::board_len` meets its contract: the sum of the lengths of the pieces.
 -- Assumes nothing.
+use Rattle.lent.specs.Heads.{boardOf}
 use Prim.Native.Nat.{ℕ}
 use mathlib.Core.Path.{ap, sym, _∙_}
 use denote.Ref.{now}
@@ -41,8 +42,8 @@ sat-add-requires-5 c κs = search needs
 
 returns : tie.Need-returns
 returns c =
-    board-sum _ _ _ _ _ (c .before .before .before .before .before .before .before .before .before .heading-len .ensures) (c .before .before .before .before .before .before .before .before .dealing-len .ensures) (c .before .before .before .before .before .before .before .sat-add .ensures) (c .before .before .before .before .before .before .calls-len .ensures (c .before .before .before .before .before .before .before .before .before .before .before .before .before .args .marks .pipe) (c .before .before .before .before .before .before .before .before .before .before .before .before .before .args .marks .line)) (c .before .before .before .before .before .sat-add2 .ensures) (c .before .before .before .before .tricks-len .ensures) (c .before .before .before .sat-add3 .ensures) (c .before .before .sat-add4 .ensures) (c .before .claim-len .ensures) (c .sat-add5 .ensures)
-    ∙ ap (λ (n : ℕ). sat n) (sym (written-long (c .before .before .before .before .before .before .before .before .before .before .before .before .before .args .marks) (now (c .before .before .before .before .before .before .before .before .before .before .before .before .before .args .text)) (c .before .before .before .before .before .before .before .before .before .before .before .before .before .args .board) (now (c .before .before .before .before .before .before .before .before .before .before .before .before .before .args .rows)) (now (c .before .before .before .before .before .before .before .before .before .before .before .before .before .args .cards))))
+    board-sum _ _ _ _ _ (c .before .before .before .before .before .before .before .before .before .heading-len .ensures) (c .before .before .before .before .before .before .before .before .dealing-len .ensures (c .before .before .before .before .before .before .before .before .before .before .before .before .before .args .head)) (c .before .before .before .before .before .before .before .sat-add .ensures) (c .before .before .before .before .before .before .calls-len .ensures (c .before .before .before .before .before .before .before .before .before .before .before .before .before .args .marks .pipe) (c .before .before .before .before .before .before .before .before .before .before .before .before .before .args .marks .line)) (c .before .before .before .before .before .sat-add2 .ensures) (c .before .before .before .before .tricks-len .ensures) (c .before .before .before .sat-add3 .ensures) (c .before .before .sat-add4 .ensures) (c .before .claim-len .ensures) (c .sat-add5 .ensures)
+    ∙ ap (λ (n : ℕ). sat n) (sym (written-long (c .before .before .before .before .before .before .before .before .before .before .before .before .before .args .marks) (now (c .before .before .before .before .before .before .before .before .before .before .before .before .before .args .text)) (boardOf (c .before .before .before .before .before .before .before .before .before .before .before .before .before .args .head) (now (c .before .before .before .before .before .before .before .before .before .before .before .before .before .args .counts))) (now (c .before .before .before .before .before .before .before .before .before .before .before .before .before .args .rows)) (now (c .before .before .before .before .before .before .before .before .before .before .before .before .before .args .cards))))
 
 pub board-len-spec : {M : Type 1} → statement M
 board-len-spec =

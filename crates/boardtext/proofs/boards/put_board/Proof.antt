@@ -1,5 +1,6 @@
 -- `writer::put_board` meets its contract: a run of puts, each of which takes one piece off what is left to write.
 -- Assumes nothing.
+use Rattle.lent.specs.Heads.{boardOf}
 use Prim.Native.Nat.{ℕ}
 use mathlib.Core.List.{List}
 use lib.ListN.{drop}
@@ -16,10 +17,10 @@ use Rattle.boardtext.proofs.boards.put_board.Tie as tie
 
 -- what is left to write after k of the puts
 abbrev After : ℕ → tie.Start → List ℕ → ℕ → Type 0
-After k s d pos = Left d pos (joined (drop k (boardPieces (s .args .marks .pipe) (s .args .marks .line) (now (s .args .text)) (s .args .board) (now (s .args .rows)) (now (s .args .cards))))) (now (s .args .out)) (s .args .at) (writtenForm (filing (s .args .marks) (now (s .args .text)) (s .args .board) (now (s .args .rows)) (now (s .args .cards))))
+After k s d pos = Left d pos (joined (drop k (boardPieces (s .args .marks .pipe) (s .args .marks .line) (now (s .args .text)) (boardOf (s .args .head) (now (s .args .counts))) (now (s .args .rows)) (now (s .args .cards))))) (now (s .args .out)) (s .args .at) (writtenForm (filing (s .args .marks) (now (s .args .text)) (boardOf (s .args .head) (now (s .args .counts))) (now (s .args .rows)) (now (s .args .cards))))
 
 after-0 : (s : tie.Start) → After 0 s (now (s .args .out)) (s .args .at)
-after-0 s = rw (← written-is (s .args .marks) (now (s .args .text)) (s .args .board) (now (s .args .rows)) (now (s .args .cards))) (start (s .pre .0))
+after-0 s = rw (← written-is (s .args .marks) (now (s .args .text)) (boardOf (s .args .head) (now (s .args .counts))) (now (s .args .rows)) (now (s .args .cards))) (start (s .pre .0))
 
 after-1 : (c : tie.After-put-heading) → After 1 (c .before .before .before .before .before .before) (c .put-heading .last .0) (c .put-heading .result)
 after-1 c = step (after-0 (c .before .before .before .before .before .before)) (c .put-heading .ensures)
@@ -43,7 +44,7 @@ put-heading-requires : tie.Need-put-heading-requires
 put-heading-requires c κs = roomy _ _ (after-0 (c .before .before .before .before .before))
 
 put-dealing-requires : tie.Need-put-dealing-requires
-put-dealing-requires c κs = roomy _ _ (after-1 (c .before .before .before))
+put-dealing-requires c κs = (roomy _ _ (after-1 (c .before .before .before)), c .before .before .before .before .before .before .before .before .before .pre .2)
 
 put-calls-requires : tie.Need-put-calls-requires
 put-calls-requires c κs = roomy _ _ (after-2 (c .before .before .before))

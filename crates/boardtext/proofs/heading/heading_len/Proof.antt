@@ -36,7 +36,7 @@ sat-add-requires-4 c κs = search needs
 returns : tie.Need-returns
 returns c =
     heading-sum _ _ _ _ (c .before .before .before .before .before .before .before .text-len .ensures) (c .before .before .before .before .before .before .sat-add .ensures) (c .before .before .before .before .before .names-len .ensures) (c .before .before .before .before .sat-add2 .ensures) (c .before .before .before .text-len2 .ensures) (c .before .before .sat-add3 .ensures) (c .before .header-len .ensures (c .before .before .before .before .before .before .before .before .before .before .args .marks .pipe) (c .before .before .before .before .before .before .before .before .before .before .args .marks .line)) (c .sat-add4 .ensures)
-    ∙ ap (λ (n : ℕ). sat n) (sym (heading-long (c .before .before .before .before .before .before .before .before .before .before .args .marks .pipe) (c .before .before .before .before .before .before .before .before .before .before .args .marks .line) (now (c .before .before .before .before .before .before .before .before .before .before .args .text)) (c .before .before .before .before .before .before .before .before .before .before .args .board)))
+    ∙ ap (λ (n : ℕ). sat n) (sym (heading-long (c .before .before .before .before .before .before .before .before .before .before .args .marks .pipe) (c .before .before .before .before .before .before .before .before .before .before .args .marks .line) (now (c .before .before .before .before .before .before .before .before .before .before .args .text)) (c .before .before .before .before .before .before .before .before .before .before .args .head)))
 
 pub heading-len-spec : {M : Type 1} → statement M
 heading-len-spec =

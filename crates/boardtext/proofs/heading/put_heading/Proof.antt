@@ -1,7 +1,7 @@
 -- `writer::put_heading` meets its contract: a run of puts, each of which takes one piece off what is left to write.
 -- Assumes nothing.
-use Prim.Native.Nat.{ℕ}
 use mathlib.Core.List.{List}
+use Prim.Native.Nat.{ℕ}
 use lib.ListN.{drop}
 use denote.Ref.{now}
 use Rattle.output.specs.Put.{joined}
@@ -13,7 +13,7 @@ use Rattle.boardtext.proofs.heading.put_heading.Tie as tie
 
 -- what is left to write after k of the puts
 abbrev After : ℕ → tie.Start → List ℕ → ℕ → Type 0
-After k s d pos = Left d pos (joined (drop k (headingPieces (s .args .marks .pipe) (s .args .marks .line) (now (s .args .text)) (s .args .board)))) (now (s .args .out)) (s .args .at) (headingText (s .args .marks .pipe) (s .args .marks .line) (now (s .args .text)) (s .args .board))
+After k s d pos = Left d pos (joined (drop k (headingPieces (s .args .marks .pipe) (s .args .marks .line) (now (s .args .text)) (s .args .head)))) (now (s .args .out)) (s .args .at) (headingText (s .args .marks .pipe) (s .args .marks .line) (now (s .args .text)) (s .args .head))
 
 after-0 : (s : tie.Start) → After 0 s (now (s .args .out)) (s .args .at)
 unfolding headingText

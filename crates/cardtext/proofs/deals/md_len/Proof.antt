@@ -1,6 +1,7 @@
 -- `cardtext::md_len` meets its contract: the hands, a digit and two commas.
 -- Assumes nothing.
 use native.Mathlib.Omega.{arith}
+use denote.Ref.{now}
 use borrow.Author.Needs.{needs}
 use Rattle.cardtext.proofs.DealLaws.{md-long}
 use Rattle.cardtext.proofs.deals.md_len.Statement.{statement}
@@ -31,7 +32,7 @@ add-result-4 : tie.Need-add-result-4
 add-result-4 c = search needs
 
 returns : tie.Need-returns
-returns c = λ x. omega (arith, md-long x (c .before .before .before .before .before .before .before .before .before .before .before .before .args .t1 .counts), c .before .before .before .before .before .before .before .before .before .hand-text-len .ensures .0, c .before .before .before .before .before .before .hand-text-len2 .ensures .0, c .before .before .before .hand-text-len3 .ensures .0, c .east-len .ensures .0)
+returns c = λ x. omega (arith, md-long x (now (c .before .before .before .before .args .counts)), c .before .before .before .hand-text-len .ensures .0, c .before .before .hand-text-len2 .ensures .0, c .before .hand-text-len3 .ensures .0, c .east-len .ensures .0)
 
 pub md-len-spec : {M : Type 1} → statement M
 md-len-spec =

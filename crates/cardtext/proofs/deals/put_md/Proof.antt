@@ -16,35 +16,35 @@ use Rattle.cardtext.proofs.deals.put_md.Tie as tie
 
 -- what is left to write after k of the puts
 abbrev After : ℕ → tie.Start → List ℕ → ℕ → Type 0
-After k s d pos = Left d pos (joined (drop k (mdPieces (s .args .dealer) (s .args .t4 .counts)))) (now (s .args .out)) (s .args .at) (mdText (record { dealer = s .args .dealer; deal = s .args .t4 .counts }))
+After k s d pos = Left d pos (joined (drop k (mdPieces (s .args .dealer) (now (s .args .counts))))) (now (s .args .out)) (s .args .at) (mdText (record { dealer = s .args .dealer; deal = now (s .args .counts) }))
 
 after-0 : (s : tie.Start) → After 0 s (now (s .args .out)) (s .args .at)
-after-0 s = rw (← md-is (s .args .dealer) (s .args .t4 .counts)) (start (s .pre))
+after-0 s = rw (← md-is (s .args .dealer) (now (s .args .counts))) (start (s .pre .0))
 
 after-1 : (c : tie.After-put-byte) → After 1 (c .before .before .before .before) (c .put-byte .last .0) (c .put-byte .result)
 after-1 c = step (after-0 (c .before .before .before .before)) (rw (c .before .dealer-digit .ensures) at (c .put-byte .ensures))
 
-after-2 : (c : tie.After-put-hand) → After 2 (c .before .before .before .before .before .before .before .before .before .before) (c .put-hand .last .0) (c .put-hand .result)
-after-2 c = step (after-1 (c .before .before .before .before .before .before)) (c .put-hand .ensures)
+after-2 : (c : tie.After-put-hand) → After 2 (c .before .before .before .before .before .before .before .before) (c .put-hand .last .0) (c .put-hand .result)
+after-2 c = step (after-1 (c .before .before .before .before)) (c .put-hand .ensures)
 
-after-3 : (c : tie.After-put-byte2) → After 3 (c .before .before .before .before .before .before .before .before .before .before .before .before .before .before) (c .put-byte2 .last .0) (c .put-byte2 .result)
+after-3 : (c : tie.After-put-byte2) → After 3 (c .before .before .before .before .before .before .before .before .before .before .before .before) (c .put-byte2 .last .0) (c .put-byte2 .result)
 after-3 c = step (after-2 (c .before .before .before .before)) (c .put-byte2 .ensures)
 
-after-4 : (c : tie.After-put-hand2) → After 4 (c .before .before .before .before .before .before .before .before .before .before .before .before .before .before .before .before .before .before .before .before) (c .put-hand2 .last .0) (c .put-hand2 .result)
-after-4 c = step (after-3 (c .before .before .before .before .before .before)) (c .put-hand2 .ensures)
+after-4 : (c : tie.After-put-hand2) → After 4 (c .before .before .before .before .before .before .before .before .before .before .before .before .before .before .before .before) (c .put-hand2 .last .0) (c .put-hand2 .result)
+after-4 c = step (after-3 (c .before .before .before .before)) (c .put-hand2 .ensures)
 
-after-5 : (c : tie.After-put-byte3) → After 5 (c .before .before .before .before .before .before .before .before .before .before .before .before .before .before .before .before .before .before .before .before .before .before .before .before) (c .put-byte3 .last .0) (c .put-byte3 .result)
+after-5 : (c : tie.After-put-byte3) → After 5 (c .before .before .before .before .before .before .before .before .before .before .before .before .before .before .before .before .before .before .before .before) (c .put-byte3 .last .0) (c .put-byte3 .result)
 after-5 c = step (after-4 (c .before .before .before .before)) (c .put-byte3 .ensures)
 
-after-6 : (c : tie.After-put-hand3) → After 6 (c .before .before .before .before .before .before .before .before .before .before .before .before .before .before .before .before .before .before .before .before .before .before .before .before .before .before .before .before .before .before) (c .put-hand3 .last .0) (c .put-hand3 .result)
-after-6 c = step (after-5 (c .before .before .before .before .before .before)) (c .put-hand3 .ensures)
+after-6 : (c : tie.After-put-hand3) → After 6 (c .before .before .before .before .before .before .before .before .before .before .before .before .before .before .before .before .before .before .before .before .before .before .before .before) (c .put-hand3 .last .0) (c .put-hand3 .result)
+after-6 c = step (after-5 (c .before .before .before .before)) (c .put-hand3 .ensures)
 
-after-7 : (c : tie.After-put-east) → After 7 (c .before .before .before .before .before .before .before .before .before .before .before .before .before .before .before .before .before .before .before .before .before .before .before .before .before .before .before .before .before .before .before .before .before .before .before .before) (c .put-east .last .0) (c .put-east .result)
-after-7 c = step (after-6 (c .before .before .before .before .before .before)) (c .put-east .ensures)
+after-7 : (c : tie.After-put-east) → After 7 (c .before .before .before .before .before .before .before .before .before .before .before .before .before .before .before .before .before .before .before .before .before .before .before .before .before .before .before .before) (c .put-east .last .0) (c .put-east .result)
+after-7 c = step (after-6 (c .before .before .before .before)) (c .put-east .ensures)
 
 -- the counts of the deal
-deal-long : (s : tie.Start) → length (s .args .t4 .counts) ≡ 208
-deal-long s = search needs
+deal-long : (s : tie.Start) → length (now (s .args .counts)) ≡ 208
+deal-long s = s .pre .1
 
 dealer-digit-requires : tie.Need-dealer-digit-requires
 dealer-digit-requires c κs = search needs
@@ -53,22 +53,22 @@ put-byte-requires : tie.Need-put-byte-requires
 put-byte-requires c κs = rw (c .dealer-digit .ensures) (roomy (dealerDigit (c .before .before .before .args .dealer) ∷ []) _ (after-0 (c .before .before .before)))
 
 put-hand-requires : tie.Need-put-hand-requires
-put-hand-requires c κs = roomy _ _ (after-1 (c .before .before .before .before .before))
+put-hand-requires c κs = roomy _ _ (after-1 (c .before .before .before))
 
 put-byte-requires-2 : tie.Need-put-byte-requires-2
 put-byte-requires-2 c κs = roomy _ _ (after-2 (c .before .before .before))
 
 put-hand-requires-2 : tie.Need-put-hand-requires-2
-put-hand-requires-2 c κs = roomy _ _ (after-3 (c .before .before .before .before .before))
+put-hand-requires-2 c κs = roomy _ _ (after-3 (c .before .before .before))
 
 put-byte-requires-3 : tie.Need-put-byte-requires-3
 put-byte-requires-3 c κs = roomy _ _ (after-4 (c .before .before .before))
 
 put-hand-requires-3 : tie.Need-put-hand-requires-3
-put-hand-requires-3 c κs = roomy _ _ (after-5 (c .before .before .before .before .before))
+put-hand-requires-3 c κs = roomy _ _ (after-5 (c .before .before .before))
 
 put-east-requires : tie.Need-put-east-requires
-put-east-requires c κs = (roomy _ _ (after-6 (c .before .before .before .before .before)), deal-long (c .before .before .before .before .before .before .before .before .before .before .before .before .before .before .before .before .before .before .before .before .before .before .before .before .before .before .before .before .before .before .before .before .before .before .before))
+put-east-requires c κs = (roomy _ _ (after-6 (c .before .before .before)), deal-long (c .before .before .before .before .before .before .before .before .before .before .before .before .before .before .before .before .before .before .before .before .before .before .before .before .before .before .before))
 
 same-length : tie.Need-same-length
 same-length c = after-7 (c .before .before) .long

@@ -18,7 +18,7 @@ same-deal-requires : tie.Need-same-deal-requires
 same-deal-requires c κs = search needs
 
 returns-2 : tie.Need-returns-2
-returns-2 c = and-like _ _ _ _ _ (c .before .before .before .before .before .before .number .ensures .0) (c .before .before .before .before .before .number2 .ensures .0) _ (c .before .before .before .before .if1 .left) (and-stop _ _ _ (c .before .same-deal .ensures) (c .if2 .taken))
+returns-2 c = and-like _ _ _ _ _ (c .before .before .before .before .number .ensures .0) (c .before .before .before .number2 .ensures .0) _ (c .before .before .if1 .left) (and-stop _ _ _ (c .before .same-deal .ensures) (c .if2 .taken))
 
 letter-requires : tie.Need-letter-requires
 letter-requires c κs = search needs
@@ -27,7 +27,7 @@ letter-requires-2 : tie.Need-letter-requires-2
 letter-requires-2 c κs = search needs
 
 returns-3 : tie.Need-returns-3
-returns-3 c = and-like _ _ _ _ _ (c .before .before .before .before .before .before .before .before .number .ensures .0) (c .before .before .before .before .before .before .before .number2 .ensures .0) _ (c .before .before .before .before .before .before .if1 .left) (and-pass _ _ _ _ (c .before .before .before .same-deal .ensures) (c .before .before .if2 .left) (eqb-of _ _ _ _ (c .before .letter .ensures) (c .letter2 .ensures)))
+returns-3 c = and-like _ _ _ _ _ (c .before .before .before .before .before .before .number .ensures .0) (c .before .before .before .before .before .number2 .ensures .0) _ (c .before .before .before .before .if1 .left) (and-pass _ _ _ _ (c .before .before .before .same-deal .ensures) (c .before .before .if2 .left) (eqb-of _ _ _ _ (c .before .letter .ensures) (c .letter2 .ensures)))
 
 pub same-dealt-spec : {M : Type 1} → statement M
 same-dealt-spec =

@@ -4,6 +4,7 @@ use Prim.Native.Nat.{_-_, _*_}
 use native.Mathlib.Omega.{arith}
 use mathlib.Core.Path.{_≡_, refl}
 use lib.ListN.{drop}
+use denote.Ref.{now}
 use Rattle.lin_spec.specs.Records.{part}
 use Rattle.lin_spec.specs.Writer.{heldIn}
 use Rattle.cards.proofs.HandLaws.{count-at, counts-most}
@@ -12,10 +13,10 @@ use Rattle.equality.proofs.hands.held_in.Statement.{statement}
 use Rattle.equality.proofs.hands.held_in.Tie as tie
 
 abbrev Inv-loop : tie.InvT-loop
-Inv-loop deal other first c₀ c = heldIn (drop c (part (deal .counts) first 52)) (drop c (part (other .counts) first 52)) ≡ heldIn (part (deal .counts) first 52) (part (other .counts) first 52)
+Inv-loop counts other first c₀ c = heldIn (drop c (part counts first 52)) (drop c (part other first 52)) ≡ heldIn (part counts first 52) (part other first 52)
 
 abbrev μ-loop : tie.MeasureT-loop
-μ-loop deal other first c₀ c = 52 - c
+μ-loop counts other first c₀ c = 52 - c
 
 number-requires : tie.Need-number-requires Inv-loop μ-loop
 number-requires c κs = tt
@@ -50,7 +51,7 @@ returns c =
     let f = c .before .before .before .before .before .number .result * 52 in
     let i = c .before .before .before .before .loop .c in
     let k = c .before .before .before .loop-test .taken in
-    rw (← c .before .before .before .before .before .number .ensures .0) (held-stop (part (a .t1 .counts) f 52) (part (a .t2 .counts) f 52) i (c .before .before .before .before .loop .inv) _ _ (count-at (a .t1 .counts) f 52 i k) (count-at (a .t2 .counts) f 52 i k) (c .if1 .taken))
+    rw (← c .before .before .before .before .before .number .ensures .0) (held-stop (part (now (a .counts)) f 52) (part (now (a .other)) f 52) i (c .before .before .before .before .loop .inv) _ _ (count-at (now (a .counts)) f 52 i k) (count-at (now (a .other)) f 52 i k) (c .if1 .taken))
 
 add-c : tie.Need-add-c Inv-loop μ-loop
 add-c c = omega arith
@@ -64,13 +65,13 @@ loop-again c =
     let f = c .before .before .before .before .before .number .result * 52 in
     let i = c .before .before .before .before .loop .c in
     let k = c .before .before .before .loop-test .taken in
-    held-on (part (a .t1 .counts) f 52) (part (a .t2 .counts) f 52) i (c .before .before .before .before .loop .inv) _ _ (count-at (a .t1 .counts) f 52 i k) (count-at (a .t2 .counts) f 52 i k) (c .if1 .left)
+    held-on (part (now (a .counts)) f 52) (part (now (a .other)) f 52) i (c .before .before .before .before .loop .inv) _ _ (count-at (now (a .counts)) f 52 i k) (count-at (now (a .other)) f 52 i k) (c .if1 .left)
 
 returns-2 : tie.Need-returns-2 Inv-loop μ-loop
 returns-2 c =
     let a = c .before .before .before .args in
     let f = c .before .before .number .result * 52 in
-    rw (← c .before .before .number .ensures .0) (held-end (part (a .t1 .counts) f 52) (part (a .t2 .counts) f 52) (c .before .loop .c) (c .before .loop .inv) (omega (arith, counts-most (a .t1 .counts) f 52)))
+    rw (← c .before .before .number .ensures .0) (held-end (part (now (a .counts)) f 52) (part (now (a .other)) f 52) (c .before .loop .c) (c .before .loop .inv) (omega (arith, counts-most (now (a .counts)) f 52)))
 
 pub held-in-spec : {M : Type 1} → statement M
 held-in-spec =

@@ -6,42 +6,27 @@ use Rattle.lent.proofs.checks.check.Statement.{statement}
 use Rattle.lent.proofs.checks.check.Tie as tie
 
 returns : tie.Need-returns
-returns c = check-long _ _ _ _ _ (c .if1 .taken)
+returns c = λ counts. check-long _ _ (c .if1 .taken)
 
 returns-2 : tie.Need-returns-2
-returns-2 c = check-other _ _ _ _ _ (c .before .if1 .left) (c .if2 .taken)
+returns-2 c = λ counts. check-other _ _ (c .before .if1 .left) (c .if2 .taken)
 
-bad-number-requires : tie.Need-bad-number-requires
-bad-number-requires c κs = search needs
+faults-of-requires : tie.Need-faults-of-requires
+faults-of-requires c κs = search needs
 
 returns-3 : tie.Need-returns-3
-returns-3 c = check-number _ _ _ _ _ (c .before .before .before .if1 .left) (c .before .before .if2 .left) _ (c .before .bad-number .ensures) (c .if3 .taken)
-
-any-faulty-requires : tie.Need-any-faulty-requires
-any-faulty-requires c κs = search needs
+returns-3 c = λ counts. check-number _ _ (c .before .before .before .if1 .left) (c .before .before .if2 .left) _ (c .before .faults-of .ensures counts) (c .if3 .taken)
 
 returns-4 : tie.Need-returns-4
-returns-4 c = check-past _ _ _ _ _ (c .before .before .before .before .before .if1 .left) (c .before .before .before .before .if2 .left) _ (c .before .before .before .bad-number .ensures) (c .before .before .if3 .left) _ (c .before .any-faulty .ensures) (c .if4 .taken)
-
-any-faulty-requires-2 : tie.Need-any-faulty-requires-2
-any-faulty-requires-2 c κs = search needs
+returns-4 c = λ counts. check-past _ _ (c .before .before .before .before .if1 .left) (c .before .before .before .if2 .left) _ (c .before .before .faults-of .ensures counts) (c .before .if3 .left) (c .if4 .taken)
 
 returns-5 : tie.Need-returns-5
-returns-5 c = check-ill _ _ _ _ _ (c .before .before .before .before .before .before .before .if1 .left) (c .before .before .before .before .before .before .if2 .left) _ (c .before .before .before .before .before .bad-number .ensures) (c .before .before .before .before .if3 .left) _ (c .before .before .before .any-faulty .ensures) (c .before .before .if4 .left) _ (c .before .any-faulty2 .ensures) (c .if5 .taken)
+returns-5 c = λ counts. check-ill _ _ (c .before .before .before .before .before .if1 .left) (c .before .before .before .before .if2 .left) _ (c .before .before .before .faults-of .ensures counts) (c .before .before .if3 .left) (c .before .if4 .left) (c .if5 .taken)
 
 returns-6 : tie.Need-returns-6
-returns-6 c = check-good _ _ _ _ _ (c .before .before .before .before .before .before .before .if1 .left) (c .before .before .before .before .before .before .if2 .left) _ (c .before .before .before .before .before .bad-number .ensures) (c .before .before .before .before .if3 .left) _ (c .before .before .before .any-faulty .ensures) (c .before .before .if4 .left) _ (c .before .any-faulty2 .ensures) (c .if5 .left)
+returns-6 c = λ counts. check-good _ _ (c .before .before .before .before .before .if1 .left) (c .before .before .before .before .if2 .left) _ (c .before .before .before .faults-of .ensures counts) (c .before .before .if3 .left) (c .before .if4 .left) (c .if5 .left)
 
 pub check-spec : {M : Type 1} → statement M
 check-spec =
     tie.close
-    (tie.spec
-    returns
-    returns-2
-    bad-number-requires
-    returns-3
-    any-faulty-requires
-    returns-4
-    any-faulty-requires-2
-    returns-5
-    returns-6)
+    (tie.spec returns returns-2 faults-of-requires returns-3 returns-4 returns-5 returns-6)

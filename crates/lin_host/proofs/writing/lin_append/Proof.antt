@@ -1,6 +1,7 @@
 -- `lin_host::lin_append` meets its contract: the numbers of append's answer, with the same output.
 -- Assumes nothing.
-use mathlib.Core.Path.{ap, _∙_}
+use mathlib.Core.Path.{_≡_, ap, _∙_}
+use lib.ListN.{length}
 use denote.Ref.{now}
 use Rattle.lin_host.specs.Answers.{outcomeNumbers}
 use Rattle.lin_host.proofs.WritingLaws.{appending}
@@ -8,14 +9,17 @@ use borrow.Author.Needs.{needs}
 use Rattle.lin_host.proofs.writing.lin_append.Statement.{statement}
 use Rattle.lin_host.proofs.writing.lin_append.Tie as tie
 
+counts-long : (s : tie.Start) → length (s .args .t2 .counts) ≡ 208
+counts-long s = search needs
+
 bad-codes-requires : tie.Need-bad-codes-requires
 bad-codes-requires c κs = search needs
 
-board-of-requires : tie.Need-board-of-requires
-board-of-requires c κs = search needs
+head-of-requires : tie.Need-head-of-requires
+head-of-requires c κs = search needs
 
-append-with-requires : tie.Need-append-with-requires
-append-with-requires c κs = search needs
+append-head-requires : tie.Need-append-head-requires
+append-head-requires c κs = counts-long (c .before .before .before .before .before .before .before .before .before)
 
 written-requires : tie.Need-written-requires
 written-requires c κs = search needs
@@ -26,15 +30,15 @@ same-length c = search needs
 returns : tie.Need-returns
 returns c =
     rw (c .written .ensures)
-    (ap outcomeNumbers (c .before .before .before .append-with .ensures) ∙ appending (now (c .before .before .before .before .before .before .before .before .before .before .before .args .text)) (c .before .before .before .before .before .before .before .before .before .before .before .args .board) (now (c .before .before .before .before .before .before .before .before .before .before .before .args .rows)) (now (c .before .before .before .before .before .before .before .before .before .before .before .args .cards)) (now (c .before .before .before .before .before .before .before .before .before .before .before .args .out)) (c .before .before .before .before .before .before .before .before .before .before .before .args .used) (c .before .before .before .before .before .before .bad-codes .ensures) (c .before .before .before .before .before .board-of .ensures))
+    (ap outcomeNumbers (c .before .before .before .append-head .ensures) ∙ appending (now (c .before .before .before .before .before .before .before .before .before .before .before .before .before .args .text)) (c .before .before .before .before .before .before .before .before .before .before .before .before .before .args .t2) (now (c .before .before .before .before .before .before .before .before .before .before .before .before .before .args .rows)) (now (c .before .before .before .before .before .before .before .before .before .before .before .before .before .args .cards)) (now (c .before .before .before .before .before .before .before .before .before .before .before .before .before .args .out)) (c .before .before .before .before .before .before .before .before .before .before .before .before .before .args .used) (c .before .before .before .before .before .before .before .before .bad-codes .ensures) (c .before .before .before .before .before .before .before .head-of .ensures))
 
 pub lin-append-spec : {M : Type 1} → statement M
 lin-append-spec =
     tie.close
     (tie.spec
     bad-codes-requires
-    board-of-requires
-    append-with-requires
+    head-of-requires
+    append-head-requires
     written-requires
     same-length
     returns)

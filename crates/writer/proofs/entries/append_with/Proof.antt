@@ -1,45 +1,25 @@
--- `writer::append_with` meets its contract: its answer by the verdict of the checks.
+-- `writer::append_with` meets its contract: a board is what it is without its deal, and its deal.
 -- Assumes nothing.
-use mathlib.Core.Path.{_∙_}
-use denote.Ref.{now}
-use Rattle.writer.proofs.Answers.{append-refused, append-passed, append-may}
+use mathlib.Core.Path.{_≡_}
+use lib.ListN.{length}
 use borrow.Author.Needs.{needs}
 use Rattle.writer.proofs.entries.append_with.Statement.{statement}
 use Rattle.writer.proofs.entries.append_with.Tie as tie
 
-room-requires : tie.Need-room-requires
-room-requires c κs = search needs
+deal-long : (s : tie.Start) → length (s .args .t3 .deal .counts) ≡ 208
+deal-long s = search needs
 
-check-requires : tie.Need-check-requires
-check-requires c κs = search needs
+head-of-requires : tie.Need-head-of-requires
+head-of-requires c κs = search needs
 
-enum-told : tie.Need-enum-told
-enum-told c = search needs
-
-append-checked-requires : tie.Need-append-checked-requires
-append-checked-requires c κs = append-may (c .before .before .before .before .before .before .before .before .before .args .other) (c .before .before .before .before .before .before .before .before .before .args .marks) (now (c .before .before .before .before .before .before .before .before .before .args .text)) (c .before .before .before .before .before .before .before .before .before .args .board) (now (c .before .before .before .before .before .before .before .before .before .args .rows)) (now (c .before .before .before .before .before .before .before .before .before .args .cards)) (now (c .before .before .before .before .before .before .before .before .before .args .out)) (c .before .before .before .before .before .before .before .before .before .args .used) _ (c .before .before .before .before .room .ensures) _ (c .before .before .before .check .ensures) (c .before .enum-told .given .1)
-
-enum-known-r : tie.Need-enum-known-r
-enum-known-r c = search needs
+append-head-requires : tie.Need-append-head-requires
+append-head-requires c κs = deal-long (c .before .before .before .before .before .before .before .before)
 
 same-length : tie.Need-same-length
 same-length c = search needs
 
 returns : tie.Need-returns
-returns c = c .before .before .append-checked .ensures ∙ append-passed (c .before .before .before .before .before .before .before .before .before .before .before .before .args .other) (c .before .before .before .before .before .before .before .before .before .before .before .before .args .marks) (now (c .before .before .before .before .before .before .before .before .before .before .before .before .args .text)) (c .before .before .before .before .before .before .before .before .before .before .before .before .args .board) (now (c .before .before .before .before .before .before .before .before .before .before .before .before .args .rows)) (now (c .before .before .before .before .before .before .before .before .before .before .before .before .args .cards)) (now (c .before .before .before .before .before .before .before .before .before .before .before .before .args .out)) (c .before .before .before .before .before .before .before .before .before .before .before .before .args .used) _ (c .before .before .before .before .before .before .before .room .ensures) _ (c .before .before .before .before .before .before .check .ensures) (c .before .before .before .before .enum-told .given .1)
-
-returns-2 : tie.Need-returns-2
-returns-2 c = append-refused (c .before .before .before .before .before .before .before .before .before .args .other) (c .before .before .before .before .before .before .before .before .before .args .marks) (now (c .before .before .before .before .before .before .before .before .before .args .text)) (c .before .before .before .before .before .before .before .before .before .args .board) (now (c .before .before .before .before .before .before .before .before .before .args .rows)) (now (c .before .before .before .before .before .before .before .before .before .args .cards)) (now (c .before .before .before .before .before .before .before .before .before .args .out)) (c .before .before .before .before .before .before .before .before .before .args .used) _ (c .before .before .before .before .room .ensures) _ (c .before .before .before .check .ensures) _ (c .before .r .given .1)
+returns c = rw (c .before .before .before .before .before .before .head-of .ensures) at (c .before .before .append-head .ensures)
 
 pub append-with-spec : {M : Type 1} → statement M
-append-with-spec =
-    tie.close
-    (tie.spec
-    room-requires
-    check-requires
-    enum-told
-    append-checked-requires
-    enum-known-r
-    same-length
-    returns
-    returns-2)
+append-with-spec = tie.close (tie.spec head-of-requires append-head-requires same-length returns)

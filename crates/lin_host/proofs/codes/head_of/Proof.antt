@@ -1,9 +1,9 @@
--- `lin_host::board_of` meets its contract: each field is that of its own numbers.
+-- `lin_host::head_of` meets its contract: each field is that of its own numbers.
 -- Assumes nothing.
 use Rattle.lin_host.specs.Codes.{boardOf}
 use borrow.Author.Needs.{needs}
-use Rattle.lin_host.proofs.codes.board_of.Statement.{statement}
-use Rattle.lin_host.proofs.codes.board_of.Tie as tie
+use Rattle.lin_host.proofs.codes.head_of.Statement.{statement}
+use Rattle.lin_host.proofs.codes.head_of.Tie as tie
 
 names-of-requires : tie.Need-names-of-requires
 names-of-requires c κs = search needs
@@ -30,8 +30,8 @@ returns : tie.Need-returns
 unfolding boardOf
 returns c = cc
 
-pub board-of-spec : {M : Type 1} → statement M
-board-of-spec =
+pub head-of-spec : {M : Type 1} → statement M
+head-of-spec =
     tie.close
     (tie.spec
     names-of-requires

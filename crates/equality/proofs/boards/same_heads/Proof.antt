@@ -1,0 +1,42 @@
+-- `equality::same_heads` meets its contract: a refusal, or what the comparison says.
+-- Assumes nothing.
+use mathlib.Core.Path.{sym, _∙_}
+use mathlib.Core.Bool.{true, false}
+use denote.Ref.{now}
+use borrow.Author.Needs.{needs}
+use Rattle.equality.proofs.EqualityLaws.{same-refused, same-answered}
+use Rattle.equality.proofs.boards.same_heads.Statement.{statement}
+use Rattle.equality.proofs.boards.same_heads.Tie as tie
+
+check-both-requires : tie.Need-check-both-requires
+check-both-requires c κs = search needs
+
+enum-known-r : tie.Need-enum-known-r
+enum-known-r c = search needs
+
+returns : tie.Need-returns
+returns c = let a = c .before .before .before .before .before .before .before .before .before .before .args in same-refused _ _ _ _ (c .before .before .before .check-both .ensures (now (a .counts)) (now (a .counts2))) _ (c .before .r .given .1)
+
+enum-told : tie.Need-enum-told
+enum-told c = search needs
+
+equal-requires : tie.Need-equal-requires
+equal-requires c κs = search needs
+
+returns-2 : tie.Need-returns-2
+returns-2 c = let a = c .before .before .before .before .before .before .before .before .before .before .before .args in same-answered _ _ _ _ (c .before .before .before .before .check-both .ensures (now (a .counts)) (now (a .counts2))) (c .before .before .enum-told .given .1) true (sym (c .if1 .taken) ∙ c .before .equal .ensures)
+
+returns-3 : tie.Need-returns-3
+returns-3 c = let a = c .before .before .before .before .before .before .before .before .before .before .before .args in same-answered _ _ _ _ (c .before .before .before .before .check-both .ensures (now (a .counts)) (now (a .counts2))) (c .before .before .enum-told .given .1) false (sym (c .if1 .left) ∙ c .before .equal .ensures)
+
+pub same-heads-spec : {M : Type 1} → statement M
+same-heads-spec =
+    tie.close
+    (tie.spec
+    check-both-requires
+    enum-known-r
+    returns
+    enum-told
+    equal-requires
+    returns-2
+    returns-3)

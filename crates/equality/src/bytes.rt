@@ -1,0 +1,64 @@
+// Bytes compared, by sixteens. (01: equality, "Fields compare by bytes")
+ghost use mathlib.Core.Path.{_≡_};
+ghost use mathlib.Core.Bool.{true};
+ghost use lib.ListN.{length, drop};
+ghost use Rattle.lin_spec.specs.Base.{eqList};
+ghost use Rattle.equality.specs.Parts.{Sixteen};
+
+// Tests sixteen bytes of each from `i` on. Promised is what the loop needs: where it says true, they are there and are the same.
+fn sixteen_same(a: &[u8], b: &[u8], i: usize) -> bool
+    requires { ⌜ length (now a) ≡ length (now b) ⌝ }
+    ensures { λ r. ⌜ (r ≡ true → Sixteen (now (a .entry)) (now (b .entry)) i) ⌝ }
+{
+    if a.len() < 16 {
+        return false;
+    }
+    if a.len() - 16 < i {
+        return false;
+    }
+    (a[i] == b[i])
+        & (a[i + 1] == b[i + 1])
+        & (a[i + 2] == b[i + 2])
+        & (a[i + 3] == b[i + 3])
+        & (a[i + 4] == b[i + 4])
+        & (a[i + 5] == b[i + 5])
+        & (a[i + 6] == b[i + 6])
+        & (a[i + 7] == b[i + 7])
+        & (a[i + 8] == b[i + 8])
+        & (a[i + 9] == b[i + 9])
+        & (a[i + 10] == b[i + 10])
+        & (a[i + 11] == b[i + 11])
+        & (a[i + 12] == b[i + 12])
+        & (a[i + 13] == b[i + 13])
+        & (a[i + 14] == b[i + 14])
+        & (a[i + 15] == b[i + 15])
+}
+
+// Passes bytes that are the same, by sixteens, and gives the place after them.
+fn sixteens_end(a: &[u8], b: &[u8]) -> usize
+    requires { ⌜ length (now a) ≡ length (now b) ⌝ }
+    ensures { λ r. ⌜ eqList (drop r (now (a .entry))) (drop r (now (b .entry))) ≡ eqList (now (a .entry)) (now (b .entry)) ⌝ }
+{
+    let mut i = 0;
+    while sixteen_same(a, b, i) {
+        i += 16;
+    }
+    i
+}
+
+// Whether two texts have the same bytes.
+pub(crate) fn same_bytes(a: &[u8], b: &[u8]) -> bool
+    ensures { λ r. ⌜ r ≡ eqList (now (a .entry)) (now (b .entry)) ⌝ }
+{
+    if a.len() != b.len() {
+        return false;
+    }
+    let mut i = sixteens_end(a, b);
+    while i < a.len() {
+        if a[i] != b[i] {
+            return false;
+        }
+        i += 1;
+    }
+    true
+}
