@@ -5,7 +5,7 @@ use native.Mathlib.Numerals.{add-one}
 use native.Mathlib.Nat.{not-suc-le-zero, le-of-suc-le-suc}
 use native.Mathlib.Omega.{arith}
 use mathlib.Core.Path.{_≡_, refl, ap, sym, _∙_}
-use mathlib.Core.Bool.{Bool, true, false, _&&_, and-true, and-false, false≢true}
+use mathlib.Core.Bool.{Bool, true, false, _&&_, _||_, and-true, and-false, false≢true}
 use mathlib.Core.List.{List, [], _∷_, map}
 use mathlib.Core.Logic.{_⊎_, inl, inr, ⊎-elim}
 use lib.ListN.{length, getD, drop, length-drop}
@@ -17,7 +17,7 @@ use Rattle.lin_spec.specs.Records.{part}
 use Rattle.lin_spec.specs.White.{lower, whiteAt, skipWhite, trimStart, trimEnd, blank, trim, sameWord, isCommand}
 use Rattle.lin_spec.proofs.Base.{picked, split, and-left, and-right, allBelow, below, eq-list}
 use Rattle.lin_spec.proofs.White.{Visible, skip-at, trim-most, trim-visible, white-most, trim-lf}
-use Rattle.commands.specs.Commands.{words, firstWord, firstSmall, codeOf, commandOf, SameFrom}
+use Rattle.commands.specs.Commands.{words, firstWord, firstSmall, codeOf, commandOf, SameFrom, Marks}
 
 -- the word at the front, or another
 pub word-here : (n : ℕ) (w : List ℕ) (ws : List (List ℕ)) (s : List ℕ) (t : Bool) → t ≡ sameWord s w → t ≡ true → n ≡ firstWord n (w ∷ ws) s
@@ -198,3 +198,40 @@ two-bytes s at p h e =
     let d = drop-cons s at 0 (omega arith) in
     let f = drop-cons s (suc at) 0 (omega arith) in
     rw (e, add-one at, d, f)
+
+-- What a part of a file asks for
+
+pub marks-itself : (k r : ℕ) → r ≡ k → Marks k r
+marks-itself k r e = rw e (record { md = refl; pn = refl; qx = refl; mn = refl })
+
+abbrev Unmarked : ℕ → Type 0
+Unmarked n = (eqb n 3 ≡ false) × (eqb n 4 ≡ false) × (eqb n 5 ≡ false) × (eqb n 6 ≡ false)
+
+unmarked-c : (x : ℕ) → Unmarked (codeOf x 99)
+unmarked-c x =
+    let e : codeOf x 99 ≡ pick (eqb x 112) 0 (pick (eqb x 109) 9 10) = code-form x 99 ∙ simp (and-true, and-false) in
+    rw e (picked Unmarked (eqb x 112) (λ _. (refl, refl, refl, refl)) (λ _. picked Unmarked (eqb x 109) (λ _. (refl, refl, refl, refl)) (λ _. (refl, refl, refl, refl))))
+
+unmarked-g : (x : ℕ) → Unmarked (codeOf x 103)
+unmarked-g x = let e : codeOf x 103 ≡ 10 = code-form x 103 ∙ simp and-false in rw e (refl, refl, refl, refl)
+
+unmarked-b : (x : ℕ) → Unmarked (codeOf x 98)
+unmarked-b x =
+    let e : codeOf x 98 ≡ pick (eqb x 109) 1 10 = code-form x 98 ∙ simp (and-true, and-false) in
+    rw e (picked Unmarked (eqb x 109) (λ _. (refl, refl, refl, refl)) (λ _. (refl, refl, refl, refl)))
+
+unmarked : (x b : ℕ) → (eqb b 99 || (eqb b 103 || eqb b 98)) ≡ true → Unmarked (codeOf x (lower b))
+unfolding lower
+unmarked x b = go (eqb b 99) refl (eqb b 103) refl
+  where
+    go : (t : Bool) → eqb b 99 ≡ t → (u : Bool) → eqb b 103 ≡ u → (t || (u || eqb b 98)) ≡ true → Unmarked (codeOf x (lower b))
+    go true e u f h = rw (eqb-true b 99 e) (unmarked-c x)
+    go false e true f h = rw (eqb-true b 103 f) (unmarked-g x)
+    go false e false f h = rw (eqb-true b 98 h) (unmarked-b x)
+
+pub marks-none : (s : List ℕ) (at p a : ℕ) → p ≤ length s → SameFrom s at p a → p - a ≡ 2 → (eqb (getD s (a + 1) 0) 99 || (eqb (getD s (a + 1) 0) 103 || eqb (getD s (a + 1) 0) 98)) ≡ true
+    → Marks (commandOf (part s at (p - at))) 10
+marks-none s at p a h f e t =
+    let k : codeOf (lower (getD s a 0)) (lower (getD s (a + 1) 0)) ≡ commandOf (part s at (p - at)) = pair-code (getD s a 0) (getD s (a + 1) 0) _ _ refl refl ∙ sym (ap commandOf (two-bytes s a p h e)) ∙ f .same in
+    let u = unmarked (lower (getD s a 0)) (getD s (a + 1) 0) t in
+    rw (← k) (record { md = sym (u .0); pn = sym (u .1); qx = sym (u .2); mn = sym (u .3) })

@@ -2,6 +2,7 @@
 use Prim.Native.Nat.{ℕ, suc, _-_, _≤_}
 use mathlib.Core.Path.{_≡_}
 use mathlib.Core.List.{List, [], _∷_}
+use lib.Dec.{eqb}
 use Rattle.lin_spec.specs.Base.{pick, ascii, eqList}
 use Rattle.lin_spec.specs.Records.{part}
 use Rattle.lin_spec.specs.White.{trim, sameWord}
@@ -33,3 +34,10 @@ pub record SameFrom (s : List ℕ) (at p r : ℕ) : Type 0 where
   pub from : at ≤ r
   pub to : r ≤ p
   pub same : commandOf (part s r (p - r)) ≡ commandOf (part s at (p - at))
+
+-- r is the number k, as far as qx, md, mn and pn go
+pub record Marks (k r : ℕ) : Type 0 where
+  pub md : eqb r 3 ≡ eqb k 3
+  pub pn : eqb r 4 ≡ eqb k 4
+  pub qx : eqb r 5 ≡ eqb k 5
+  pub mn : eqb r 6 ≡ eqb k 6

@@ -2,9 +2,10 @@
 use text::same_word;
 use text::trim;
 ghost use mathlib.Core.Path.{_≡_};
+ghost use mathlib.Core.Bool.{true};
 ghost use mathlib.Core.List.{[], _∷_};
 ghost use Rattle.lin_spec.specs.White.{lower};
-ghost use Rattle.commands.specs.Commands.{words, firstWord, codeOf, commandOf, SameFrom};
+ghost use Rattle.commands.specs.Commands.{words, firstWord, codeOf, commandOf, SameFrom, Marks};
 ghost use Prim.Native.Nat.{_-_, _≤_};
 ghost use lib.ListN.{length, drop};
 ghost use Rattle.lin_spec.specs.Records.{part};
@@ -161,4 +162,28 @@ pub fn command_at(text: &[u8], at: usize, p: usize) -> u8
         return pair_of(text[a], text[a + 1]);
     }
     word_of(trim(&text[a..p]))
+}
+
+// Tests for a command of two bytes that ends in c, g or b, as most do. Promised is what a part of a file needs: where it says true, the command is none of qx, md, mn and pn.
+fn no_mark(text: &[u8], at: usize, p: usize) -> bool
+    requires { ⌜ (at ≤ p) × (p ≤ length (now text)) ⌝ }
+    ensures { λ r. ⌜ (r ≡ true → Marks (commandOf (part (now (text .entry)) at (p - at))) 10) ⌝ }
+{
+    let a = after_lf(text, at, p);
+    if p - a != 2 {
+        return false;
+    }
+    let b = text[a + 1];
+    (b == b'c') | ((b == b'g') | (b == b'b'))
+}
+
+// The same as `command_at` where only qx, md, mn and pn are asked for.
+pub fn mark_at(text: &[u8], at: usize, p: usize) -> u8
+    requires { ⌜ (at ≤ p) × (p ≤ length (now text)) ⌝ }
+    ensures { λ r. ⌜ Marks (commandOf (part (now (text .entry)) at (p - at))) r ⌝ }
+{
+    if no_mark(text, at, p) {
+        return 10;
+    }
+    command_at(text, at, p)
 }

@@ -36,6 +36,7 @@ use Rattle.lin_spec.proofs.File.{line-stops, part-later}
 use Rattle.sections.specs.Sections.{sectionOf, standingOf}
 use Rattle.sections.specs.declared.sections.Section.{Section}
 use Rattle.sections.specs.declared.sections.BoardCursor.{BoardCursor}
+use Rattle.commands.specs.Commands.{Marks}
 use Rattle.commands.specs.Steps.{TokenAt}
 use Rattle.commands.proofs.StepLaws.{command-is}
 
@@ -135,6 +136,14 @@ module _ (s : List ℕ) (begin back at : ℕ) (board : Bool) (w : Walks s begin 
         here = on-here (eqb k 6 || eqb k 4) refl;
         ahead = λ i l. or-assoc board (eqb k 3) (mdUpTo s n i) ∙ ap (λ (x : Bool). board || x) (sym (md-more i l)) ∙ w .ahead i (let z = t .later in omega arith);
       })
+
+  -- the same by the number of a mark
+  module _ (r : ℕ) (m : Marks k r) where
+    pub marks-stop : (eqb r 5 && ltb begin back) ≡ true → section begin back board ≡ partAt s begin (partEnd begin begin begin (stream s begin))
+    marks-stop h = walks-stop (rw (m .qx) at h)
+
+    pub marks-on : (eqb r 5 && ltb begin back) ≡ false → (b : ℕ) → b ≡ pick (eqb r 6 || eqb r 4) back n → Walks s begin b n (board || eqb r 3)
+    marks-on h b e = rw (m .md) (walks-on (rw (m .qx) at h) b (rw (m .mn, m .pn) at e))
 
 -- A line
 

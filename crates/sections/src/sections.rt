@@ -4,7 +4,7 @@ use commands::MD;
 use commands::MN;
 use commands::PN;
 use commands::QX;
-use commands::command_at;
+use commands::mark_at;
 use commands::next_command;
 use document::Cursor;
 use document::Opened;
@@ -98,7 +98,7 @@ fn part_from(text: &[u8], at: usize) -> Section
                 board,
             };
         }
-        let k = command_at(text, c, p);
+        let k = mark_at(text, c, p);
         if (k == QX) & (at < back) {
             return Section {
                 start: at,

@@ -1,8 +1,9 @@
 -- `sections::part_from` meets its contract: a turn passes a token that ends no part.
 -- Assumes nothing.
-use Rattle.sections.proofs.SectionLaws.{Walks, walks-begin, walks-end, walks-stop, walks-on}
+use Rattle.sections.proofs.SectionLaws.{Walks, walks-begin, walks-end, marks-stop, marks-on}
 use Rattle.commands.proofs.StepLaws.{pipes-none, pipes-command, pipes-token}
 use Rattle.commands.proofs.FieldLaws.{find-most}
+use mathlib.Core.Path.{refl}
 use lib.ListN.{length}
 use native.Mathlib.Omega.{arith}
 use Prim.Native.Nat.{_-_}
@@ -10,7 +11,7 @@ use Rattle.sections.proofs.sections.part_from.Statement.{statement}
 use Rattle.sections.proofs.sections.part_from.Tie as tie
 use Rattle.sections.proofs.sections.part_from.Reads as reads
 use Rattle.sections.proofs.sections.part_from.Lts as lts
-use Rattle.commands.proofs.command_at.Reads as command-at-reads
+use Rattle.commands.proofs.mark_at.Reads as mark-at-reads
 use Rattle.document.proofs.next_pipe.Reads as next-pipe-reads
 use Rattle.sections.proofs.sections.moved_back.Reads as moved-back-reads
 
@@ -41,12 +42,12 @@ returns : tie.Need-returns Inv-loop μ-loop
 returns c = walks-end _ _ _ _ _ (c .before .before .before .loop .inv) (pipes-none _ _ _ _ (c .before .before .next-pipe .ensures) (c .before .next-pipe2 .ensures) (c .if1 .taken))
 
 -- src/sections.rt:101:13
-command-at-requires : tie.Need-command-at-requires Inv-loop μ-loop
-command-at-requires c κs = pipes-command _ _ _ _ (c .before .before .next-pipe .ensures) (c .before .next-pipe2 .ensures) (c .if1 .left)
+mark-at-requires : tie.Need-mark-at-requires Inv-loop μ-loop
+mark-at-requires c κs = pipes-command _ _ _ _ (c .before .before .next-pipe .ensures) (c .before .next-pipe2 .ensures) (c .if1 .left)
 
 -- src/sections.rt:103:13
 returns-2 : tie.Need-returns-2 Inv-loop μ-loop
-returns-2 c = walks-stop _ _ _ _ _ (c .before .before .before .before .before .loop .inv) _ _ _ (pipes-token _ _ _ _ (c .before .before .before .before .next-pipe .ensures) (c .before .before .before .next-pipe2 .ensures) (c .before .before .if1 .left) _ (c .before .command-at .ensures)) (c .if2 .taken)
+returns-2 c = marks-stop _ _ _ _ _ (c .before .before .before .before .before .loop .inv) _ _ _ (pipes-token _ _ _ _ (c .before .before .before .before .next-pipe .ensures) (c .before .before .before .next-pipe2 .ensures) (c .before .before .if1 .left) _ refl) _ (c .before .mark-at .ensures) (c .if2 .taken)
 
 -- src/sections.rt:109:13
 add-c : tie.Need-add-c Inv-loop μ-loop
@@ -58,11 +59,11 @@ moved-back-requires c κs = tt
 
 -- src/sections.rt:90:5
 loop-less : tie.Need-loop-less Inv-loop μ-loop
-loop-less c = let t = pipes-token _ _ _ _ (c .before .before .before .before .before .next-pipe .ensures) (c .before .before .before .before .next-pipe2 .ensures) (c .before .before .before .if1 .left) _ (c .before .before .command-at .ensures) in omega (arith, t .later, t .within)
+loop-less c = let t = pipes-token _ _ _ _ (c .before .before .before .before .before .next-pipe .ensures) (c .before .before .before .before .next-pipe2 .ensures) (c .before .before .before .if1 .left) _ refl in omega (arith, t .later, t .within)
 
 -- src/sections.rt:90:5
 loop-again : tie.Need-loop-again Inv-loop μ-loop
-loop-again c = walks-on _ _ _ _ _ (c .before .before .before .before .before .before .loop .inv) _ _ _ (pipes-token _ _ _ _ (c .before .before .before .before .before .next-pipe .ensures) (c .before .before .before .before .next-pipe2 .ensures) (c .before .before .before .if1 .left) _ (c .before .before .command-at .ensures)) (c .before .if2 .left) _ (c .moved-back .ensures)
+loop-again c = marks-on _ _ _ _ _ (c .before .before .before .before .before .before .loop .inv) _ _ _ (pipes-token _ _ _ _ (c .before .before .before .before .before .next-pipe .ensures) (c .before .before .before .before .next-pipe2 .ensures) (c .before .before .before .if1 .left) _ refl) _ (c .before .before .mark-at .ensures) (c .before .if2 .left) _ (c .moved-back .ensures)
 
 pub part-from-spec : {M : Type 1} → statement M
 part-from-spec =
@@ -75,7 +76,7 @@ part-from-spec =
     add-v
     next-pipe-requires-2
     returns
-    command-at-requires
+    mark-at-requires
     returns-2
     add-c
     moved-back-requires
