@@ -2,7 +2,7 @@
 -- Assumes nothing.
 use Prim.Native.Nat.{ℕ}
 use Prim.Native.Char.{code}
-use mathlib.Core.Path.{_≡_, refl, ap}
+use mathlib.Core.Path.{_≡_, ap}
 use mathlib.Core.Bool.{Bool, true, false}
 use mathlib.Core.List.{List}
 use lib.ListN.{length}
@@ -17,9 +17,9 @@ use Rattle.lin_spec.specs.Pbn.{Pbn, pbn, fromBoard, boardTexts, Conversion, con
 use Rattle.lin_spec.specs.declared.Span.{Span}
 use Rattle.lin_spec.specs.declared.PbnBoard.{PbnBoard}
 use Rattle.lin_spec.specs.declared.Refusal.the-variants.{TextTooLong, OutOfRange}
-use Rattle.lin_host.specs.Records.{recordOf, badRecord}
+use Rattle.host_numbers.specs.Records.{recordOf, badRecord}
 use Rattle.lin_host.specs.Converting.{conversionNumbers, fromBoardNumbers}
-use Rattle.lin_host.specs.declared.records.LinPbn.{LinPbn}
+use Rattle.host_numbers.specs.declared.records.LinPbn.{LinPbn}
 use Rattle.lin_host.proofs.WritingLaws.{second}
 
 -- the answer for a record and a test that are those of the numbers

@@ -1,3 +1,2 @@
-pub mod CodeLaws
 pub mod WritingLaws
 pub mod ConvertingLaws

@@ -3,7 +3,7 @@
 use Prim.Native.Nat.{ℕ}
 use mathlib.Core.Path.{_≡_, refl, ap}
 use mathlib.Core.Bool.{Bool, true, false, _||_}
-use mathlib.Core.List.{List, [], _∷_}
+use mathlib.Core.List.{List, _∷_}
 use mathlib.Core.Option.{Option, some}
 use lib.ListN.{length}
 use lib.Dec.{ltb}
@@ -15,15 +15,14 @@ use Rattle.lin_spec.specs.Output.{Outcome}
 use Rattle.lin_spec.specs.Lent.{Lent, lent, lentChecks}
 use Rattle.lin_spec.specs.Append.{Filing, plain, writtenForm, extended, appended, append}
 use Rattle.lin_spec.specs.Equality.{sameBoards, sameBoard}
-use Rattle.lin_spec.specs.declared.Board.{Board}
 use Rattle.lin_spec.specs.declared.Refusal.{Refusal}
 use Rattle.lin_spec.specs.declared.Refusal.the-variants.{TextTooLong, OutOfRange}
 use Rattle.lent.specs.declared.heads.Head.{Head}
 use Rattle.lent.specs.Heads.{headOf, boardOf as withDeal}
-use Rattle.lin_host.specs.Answers.{outcomeNumbers}
-use Rattle.lin_host.specs.Codes.{boardOf, badCodes}
+use Rattle.host_numbers.specs.Answers.{outcomeNumbers}
+use Rattle.host_numbers.specs.Codes.{boardOf, badCodes}
 use Rattle.lin_host.specs.Writing.{lentNumbers, appendNumbers, equalityNumbers, sameNumbers}
-use Rattle.lin_host.specs.declared.boards.LinBoard.{LinBoard}
+use Rattle.host_numbers.specs.declared.boards.LinBoard.{LinBoard}
 
 -- the board of the numbers is what it is without its deal, and the counts
 whole : (b : LinBoard) {h : Head} → h ≡ headOf (boardOf b) → withDeal h (b .counts) ≡ boardOf b

@@ -7,7 +7,7 @@ use Rattle.lin_spec.specs.Refusals.Answer.{refused, accepted}
 use Rattle.lin_spec.specs.Reading.{flag}
 use Rattle.lin_spec.specs.File.{Standing, Visit}
 use Rattle.lin_spec.specs.File.Visit.{found, ended}
-use Rattle.lin_host.specs.Answers.{numbersOf}
+use Rattle.host_numbers.specs.Answers.{numbersOf}
 use Rattle.lin_host.specs.declared.files.LinBoards.{LinBoards}
 use Rattle.lin_host.specs.declared.files.LinSection.{LinSection}
 

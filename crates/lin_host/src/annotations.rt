@@ -1,7 +1,7 @@
 // The entry of annotations: the text of a raw PBN annotation. (01: From PBN, "Annotation parts ..")
-use crate::answers::LinAnswer;
-use crate::answers::refusal;
 use annotation::annotation_text;
+use host_numbers::LinAnswer;
+use host_numbers::refusal;
 use lin_spec::AnnotationWritten;
 use lin_spec::Span;
 ghost use mathlib.Core.Path.{_≡_};

@@ -1,10 +1,10 @@
 // The entry of PBN records: the board that is made of one. (01: From PBN, `from_board`)
-use crate::boards::LinHeading;
-use crate::boards::heading_numbers;
-use crate::records::LinPbn;
-use crate::records::bad_record;
-use crate::records::record_of;
 use cleaning::Marks;
+use host_numbers::LinHeading;
+use host_numbers::LinPbn;
+use host_numbers::bad_record;
+use host_numbers::heading_numbers;
+use host_numbers::record_of;
 use pbn::from_board_with;
 ghost use mathlib.Core.Path.{_≡_};
 ghost use Rattle.lin_host.specs.Converting.{Conversion, fromBoardNumbers};

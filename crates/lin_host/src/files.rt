@@ -1,13 +1,13 @@
 // The entries of files: how many boards, a board by its number, the name finder and the board cursor. (01: File; names)
-use crate::answers::LinAnswer;
-use crate::answers::refusal;
-use crate::boards::LinHeading;
-use crate::boards::heading_numbers;
 use file::Counted;
 use file::count_boards;
 use file::file_board;
 use file::file_heading;
 use file::find_name;
+use host_numbers::LinAnswer;
+use host_numbers::LinHeading;
+use host_numbers::heading_numbers;
+use host_numbers::refusal;
 use sections::BoardCursor;
 use sections::BoardStep;
 use sections::OpenedBoards;
@@ -17,8 +17,8 @@ ghost use Rattle.lin_spec.specs.Reading.{flag};
 ghost use Rattle.lin_spec.specs.File.{countBoards, fileHeading, fileBoard, findName, openBoards, visit};
 ghost use Rattle.file.specs.Numbers.{countedOf};
 ghost use Rattle.sections.specs.Sections.{openedOf, visitOf};
-ghost use Rattle.lin_host.specs.Answers.{numbersOf};
-ghost use Rattle.lin_host.specs.Boards.{headingNumbers, Reading, readingNumbers};
+ghost use Rattle.host_numbers.specs.Answers.{numbersOf};
+ghost use Rattle.host_numbers.specs.Boards.{headingNumbers, Reading, readingNumbers};
 ghost use Rattle.lin_host.specs.Files.{standing, openedNumbers, visitNumbers};
 
 // The verdict and the cursor: the place of the next part or line, the number of the next board, lines 0 or 1. An accepted call has the value 0; a refusal

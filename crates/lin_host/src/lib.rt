@@ -1,20 +1,13 @@
 // The entries as C functions on numbers and byte slices, for the Rust host. (01: "Entries on numbers and byte slices are exported ..")
 mod annotations;
-mod answers;
 mod boards;
-mod codes;
 mod converting;
 mod files;
-mod records;
 mod tokens;
 mod writing;
 
 pub use annotations::LinAnnotation;
 pub use annotations::lin_annotation_text;
-pub use answers::LinAnswer;
-pub use boards::LinBoard;
-pub use boards::LinHeading;
-pub use boards::LinText;
 pub use boards::lin_parse_heading;
 pub use boards::lin_parse_lin;
 pub use converting::LinConverted;
@@ -27,7 +20,11 @@ pub use files::lin_file_heading;
 pub use files::lin_find_name;
 pub use files::lin_next_board;
 pub use files::lin_open_boards;
-pub use records::LinPbn;
+pub use host_numbers::LinAnswer;
+pub use host_numbers::LinBoard;
+pub use host_numbers::LinHeading;
+pub use host_numbers::LinPbn;
+pub use host_numbers::LinText;
 pub use tokens::LinPart;
 pub use tokens::LinStep;
 pub use tokens::lin_next;

@@ -1,20 +1,20 @@
 // The entries of tokens: the cursor, the trailing text and the document writer. (01: Tokens)
-use crate::answers::LinAnswer;
-use crate::answers::refusal;
-use crate::answers::written;
 use document::Cursor;
 use document::Opened;
 use document::Step;
 use document::open;
 use document::trailing;
 use document_writer::write_document;
+use host_numbers::LinAnswer;
+use host_numbers::refusal;
+use host_numbers::written;
 use lin_spec::Span;
 ghost use mathlib.Core.Path.{_≡_};
 ghost use Rattle.lin_spec.specs.Records.{span};
 ghost use Rattle.lin_spec.specs.Cursor.{stepAt};
 ghost use Rattle.lin_spec.specs.Document.{openText, writeDocument};
 ghost use Rattle.document.specs.Steps.{openedOf, stepOf};
-ghost use Rattle.lin_host.specs.Answers.{numbersOf, Outcome, outcomeNumbers};
+ghost use Rattle.host_numbers.specs.Answers.{numbersOf, Outcome, outcomeNumbers};
 ghost use Rattle.lin_host.specs.Tokens.{stepNumbers, restNumbers};
 
 // found 1: a token, and the cursor after it. found 0: none, and the cursor as it was.

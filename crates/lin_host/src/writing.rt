@@ -1,19 +1,19 @@
 // The entries of the writer: a board written or appended, the play as a text, and whether a board equals another. (01: Writer; play text; equality)
-use crate::answers::LinAnswer;
-use crate::answers::refusal;
-use crate::answers::written;
-use crate::boards::LinBoard;
-use crate::codes::bad_codes;
-use crate::codes::head_of;
 use cardtext::format_cardplay_by_trick;
 use cleaning::Marks;
 use equality::same_heads;
+use host_numbers::LinAnswer;
+use host_numbers::LinBoard;
+use host_numbers::bad_codes;
+use host_numbers::head_of;
+use host_numbers::refusal;
+use host_numbers::written;
 use lin_spec::Equality;
 use writer::append_head;
 ghost use mathlib.Core.Path.{_≡_};
 ghost use Rattle.lin_spec.specs.Play.{formatCardplay};
 ghost use Rattle.lin_spec.specs.Equality.{equalityOf};
-ghost use Rattle.lin_host.specs.Answers.{Outcome, outcomeNumbers};
+ghost use Rattle.host_numbers.specs.Answers.{Outcome, outcomeNumbers};
 ghost use Rattle.lin_host.specs.Writing.{appendNumbers, equalityNumbers, sameNumbers};
 
 fn compared(e: Equality) -> LinAnswer

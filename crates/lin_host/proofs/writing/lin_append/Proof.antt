@@ -3,7 +3,7 @@
 use mathlib.Core.Path.{_≡_, ap, _∙_}
 use lib.ListN.{length}
 use denote.Ref.{now}
-use Rattle.lin_host.specs.Answers.{outcomeNumbers}
+use Rattle.host_numbers.specs.Answers.{outcomeNumbers}
 use Rattle.lin_host.proofs.WritingLaws.{appending}
 use borrow.Author.Needs.{needs}
 use Rattle.lin_host.proofs.writing.lin_append.Statement.{statement}

@@ -1,0 +1,44 @@
+-- `host_numbers::head_of` meets its contract: each field is that of its own numbers.
+-- Assumes nothing.
+use Rattle.host_numbers.specs.Codes.{boardOf}
+use borrow.Author.Needs.{needs}
+use Rattle.host_numbers.proofs.codes.head_of.Statement.{statement}
+use Rattle.host_numbers.proofs.codes.head_of.Tie as tie
+
+names-of-requires : tie.Need-names-of-requires
+names-of-requires c κs = search needs
+
+seat-of-requires : tie.Need-seat-of-requires
+seat-of-requires c κs = search needs
+
+vulnerability-of-requires : tie.Need-vulnerability-of-requires
+vulnerability-of-requires c κs = search needs
+
+text-of-requires : tie.Need-text-of-requires
+text-of-requires c κs = search needs
+
+text-of-requires-2 : tie.Need-text-of-requires-2
+text-of-requires-2 c κs = search needs
+
+text-of-requires-3 : tie.Need-text-of-requires-3
+text-of-requires-3 c κs = search needs
+
+claim-of-requires : tie.Need-claim-of-requires
+claim-of-requires c κs = search needs
+
+returns : tie.Need-returns
+unfolding boardOf
+returns c = cc
+
+pub head-of-spec : {M : Type 1} → statement M
+head-of-spec =
+    tie.close
+    (tie.spec
+    names-of-requires
+    seat-of-requires
+    vulnerability-of-requires
+    text-of-requires
+    text-of-requires-2
+    text-of-requires-3
+    claim-of-requires
+    returns)

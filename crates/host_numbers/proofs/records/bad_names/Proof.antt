@@ -1,0 +1,17 @@
+-- `host_numbers::bad_names` meets its contract: the tests of its parts.
+-- Assumes nothing.
+use borrow.Author.Needs.{needs}
+use Rattle.host_numbers.proofs.records.bad_names.Statement.{statement}
+use Rattle.host_numbers.proofs.records.bad_names.Tie as tie
+use Rattle.host_numbers.proofs.records.bad_names.Reads as reads
+use Rattle.host_numbers.proofs.records.bad_names.Lts as lts
+use Rattle.host_numbers.proofs.codes.bad_three.Reads as bad-three-reads
+
+bad-three-requires : tie.Need-bad-three-requires
+bad-three-requires c κs = search needs
+
+returns : tie.Need-returns
+returns c = rw (c .bad-three .ensures)
+
+pub bad-names-spec : {M : Type 1} → statement M
+bad-names-spec = tie.close (tie.spec bad-three-requires returns)

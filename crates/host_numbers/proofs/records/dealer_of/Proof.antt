@@ -1,0 +1,18 @@
+-- `host_numbers::dealer_of` meets its contract: by the flag.
+-- Assumes nothing.
+use borrow.Author.Tests.{eq-eqb, ne-eqb}
+use borrow.Author.Needs.{needs}
+use Rattle.host_numbers.proofs.records.dealer_of.Statement.{statement}
+use Rattle.host_numbers.proofs.records.dealer_of.Tie as tie
+
+returns : tie.Need-returns
+returns c = simp (eq-eqb _ _ (c .if1 .taken))
+
+seat-of-requires : tie.Need-seat-of-requires
+seat-of-requires c κs = search needs
+
+returns-2 : tie.Need-returns-2
+returns-2 c = simp (ne-eqb _ _ (c .before .if1 .left), c .seat-of .ensures)
+
+pub dealer-of-spec : {M : Type 1} → statement M
+dealer-of-spec = tie.close (tie.spec returns seat-of-requires returns-2)

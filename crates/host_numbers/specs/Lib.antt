@@ -1,0 +1,4 @@
+pub mod Answers
+pub mod Boards
+pub mod Codes
+pub mod Records
