@@ -156,15 +156,11 @@ fn sixty_fours_end(s: &[u8], from: usize) -> usize
     i
 }
 
-// Passes bytes of ASCII from `from` on, by sixteens and, where there are many, by sixty-fours, and gives the place after them. Promised is that
-// whole characters were passed.
+// Passes bytes of ASCII from `from` on, by sixteens, and gives the place after them. Promised is that whole characters were passed.
 fn sixteens_end(s: &[u8], from: usize) -> usize
     ensures { λ r. ⌜ Past (now (s .entry)) from r ⌝ }
 {
-    if !ascii_sixteen(s, from) {
-        return from;
-    }
-    let mut i = sixty_fours_end(s, from + 16);
+    let mut i = from;
     while ascii_sixteen(s, i) {
         i += 16;
     }
@@ -198,11 +194,11 @@ fn past_ascii(s: &[u8], from: usize) -> usize
     ascii_end(s, from)
 }
 
-// The length of the longest well-formed start of `s`.
+// The length of the longest well-formed start of `s`. Many texts are ASCII up to their end, or for long: these go by sixty-fours.
 pub fn well_formed_len(s: &[u8]) -> usize
     ensures { λ r. ⌜ r ≡ longest (now (s .entry)) ⌝ }
 {
-    let mut i = ascii_end(s, 0);
+    let mut i = ascii_end(s, sixty_fours_end(s, 0));
     while i < s.len() {
         let n = char_len(&s[i..]);
         if n == 0 {

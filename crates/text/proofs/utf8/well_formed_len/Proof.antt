@@ -15,11 +15,14 @@ Inv-loop s i₀ i = Past s 0 i
 abbrev μ-loop : tie.MeasureT-loop
 μ-loop s i₀ i = length s - i
 
+sixty-fours-end-requires : tie.Need-sixty-fours-end-requires Inv-loop μ-loop
+sixty-fours-end-requires c κs = search needs
+
 ascii-end-requires : tie.Need-ascii-end-requires Inv-loop μ-loop
 ascii-end-requires c κs = search needs
 
 loop-holds : tie.Need-loop-holds Inv-loop μ-loop
-loop-holds c = c .ascii-end .ensures
+loop-holds c = past-then _ _ _ _ (c .before .sixty-fours-end .ensures) (c .ascii-end .ensures)
 
 sub-char-len : tie.Need-sub-char-len Inv-loop μ-loop
 sub-char-len c = search needs
@@ -39,7 +42,7 @@ returns c = char-none _ _ _ (c .before .char-len .ensures) (c .before .before .b
 add-past-ascii : tie.Need-add-past-ascii Inv-loop μ-loop
 add-past-ascii c =
     let l = c .before .before .before .before in
-    omega (arith, char-room (l .before .before .before .args .s .now) (l .loop .i) (c .before .char-len .result) (c .before .char-len .ensures))
+    omega (arith, char-room (l .before .before .before .before .args .s .now) (l .loop .i) (c .before .char-len .result) (c .before .char-len .ensures))
 
 past-ascii-requires : tie.Need-past-ascii-requires Inv-loop μ-loop
 past-ascii-requires c κs = search needs
@@ -59,6 +62,7 @@ well-formed-len-spec =
     (tie.spec
     Inv-loop
     μ-loop
+    sixty-fours-end-requires
     ascii-end-requires
     loop-holds
     sub-char-len
