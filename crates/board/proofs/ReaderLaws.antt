@@ -31,7 +31,8 @@ use Rattle.lin_spec.specs.declared.MaybeSpan.{MaybeSpan}
 use Rattle.lin_spec.specs.declared.MaybeSpan.the-variants.{Absent, Present}
 use Rattle.lin_spec.specs.declared.MaybeClaim.{MaybeClaim}
 use Rattle.lin_spec.specs.declared.MaybeClaim.the-variants.{Absent as NoClaim, Claimed}
-use Rattle.lin_spec.specs.declared.Verdict.the-variants.{Accepted}
+use Rattle.lin_spec.specs.declared.Verdict.{Verdict}
+use Rattle.lin_spec.specs.declared.Verdict.the-variants.{Accepted, Refused}
 use Rattle.lin_spec.specs.declared.Heading.{Heading}
 use Rattle.lin_spec.specs.declared.Board.{Board}
 use Rattle.lin_spec.proofs.Base.{picked, split, and-left, and-right, eq-length}
@@ -45,14 +46,14 @@ use Rattle.output.proofs.Laws.{Left, start}
 use Rattle.document.specs.Steps.{openedOf}
 use Rattle.document.specs.declared.tokens.Cursor.{Cursor}
 use Rattle.document.specs.declared.tokens.Opened.{Opened}
-use Rattle.document.specs.declared.tokens.Opened.the-variants.{At, Refused}
+use Rattle.document.specs.declared.tokens.Opened.the-variants.{At, Refused as Shut}
 use Rattle.lin_spec.specs.Lent.{claimOf}
 use Rattle.commands.specs.Fields.{more}
 use Rattle.board.specs.Head.{freshHead, onLast, onCount, onCard, Leaves}
 use Rattle.board.specs.Dealing.{held, dealtFrom}
 use Rattle.board.specs.Calls.{isPresent, placeOf, rowOf, rowWords, with, callsAfter, callsFrom, CallAt, Gives as Call·Gives}
 use Rattle.board.specs.Play.{before, cardsFrom, Gives as Card·Gives}
-use Rattle.board.specs.Reader.{boardAt, headOf, Ample}
+use Rattle.board.specs.Reader.{boardAt, headOf, Ample, Counted}
 use Rattle.board.specs.Storing.{Fits, Stored}
 use Rattle.board.specs.declared.heading.Head.{Head}
 use Rattle.board.specs.declared.dealing.Dealt.{Dealt}
@@ -304,22 +305,28 @@ all-cards s at d r = rw (← cards-after s (stream s at) []) (start r)
 -- What the checks of rows and cards give
 module _ (s : List ℕ) (at : ℕ) (rows cards : List ℕ) where
   module _ (h : Head) (l : Leaves s (stream s at) h freshHead []) where
-    pub few-calls : length rows / 6 < h .calls → (r : Heading) → r ≡ refusedHeading (TooFewRows Calls (h .calls))
-        → record { heading = r; rows = rows; cards = cards } ≡ stored (unless (fewRows (boardAt s at) rows cards) (boardAt s at)) rows cards
+    pub few-calls : length rows / 6 < h .calls → Counted s at rows cards (Refused (TooFewRows Calls (h .calls)))
     unfolding unless
-    few-calls k r f = let e = read-calls s at h l in rw (f, e) (simp (lt-ltb (length rows / 6) (length (boardAt s at .calls)) (rw e at k)))
+    few-calls k = let e = read-calls s at h l in rw e (simp (lt-ltb (length rows / 6) (length (boardAt s at .calls)) (rw e at k)))
 
     module _ (k : h .calls ≤ length rows / 6) where
-      pub few-cards : length cards < h .cards → (r : Heading) → r ≡ refusedHeading (TooFewRows Cards (h .cards))
-          → record { heading = r; rows = rows; cards = cards } ≡ stored (unless (fewRows (boardAt s at) rows cards) (boardAt s at)) rows cards
+      pub few-cards : length cards < h .cards → Counted s at rows cards (Refused (TooFewRows Cards (h .cards)))
       unfolding unless
-      few-cards m r f =
+      few-cards m =
           let e = read-calls s at h l in
           let d = read-cards s at h l in
-          rw (f, d) (simp (le-ltb (length rows / 6) (length (boardAt s at .calls)) (rw e at k), lt-ltb (length cards) (length (boardAt s at .play)) (rw d at m)))
+          rw d (simp (le-ltb (length rows / 6) (length (boardAt s at .calls)) (rw e at k), lt-ltb (length cards) (length (boardAt s at .play)) (rw d at m)))
 
       pub enough : h .cards ≤ length cards → Ample s at rows cards
       enough m = record { calls = let e = read-calls s at h l in rw e at k; play = let d = read-cards s at h l in rw d at m }
+
+  -- what the verdict says
+  pub counted : (v w : Verdict) → Counted s at rows cards v → v ≡ w → Counted s at rows cards w
+  counted v w g e = subst (Counted s at rows cards) e g
+
+  pub rows-refused : (r : Refusal) → Counted s at rows cards (Refused r) → (x : Heading) → x ≡ refusedHeading r
+      → record { heading = x; rows = rows; cards = cards } ≡ stored (unless (fewRows (boardAt s at) rows cards) (boardAt s at)) rows cards
+  rows-refused r g x e = rw (g, e) refl
 
   module _ (m : Ample s at rows cards) where
     pub fits : (at ≤ length s) × (length s < 2 ^ 32) → Fits s at rows cards
@@ -349,7 +356,7 @@ module _ (s : List ℕ) (o : Opened) (e : openedOf o ≡ openText s) where
     unfolding readBoard openText parseSpans
     board-read rows cards = sym (ap (λ (a : Answer (BoardOf Span)). stored a rows cards) (unless-passed (tooLong s ∷ notUtf8 s ∷ []) (fewRows (boardAt s 0) rows cards) 0 (c .at) (boardAt s 0) taken))
 
-  module _ (r : Refusal) (f : o ≡ Refused r) (h : Heading) (g : h ≡ refusedHeading r) where
+  module _ (r : Refusal) (f : o ≡ Shut r) (h : Heading) (g : h ≡ refusedHeading r) where
     left : openText s ≡ refused r
     left = sym e ∙ ap openedOf f
 

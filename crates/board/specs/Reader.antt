@@ -1,13 +1,17 @@
 -- The board that the tokens of a text from a place on give. (01: Board)
 use Prim.Native.Nat.{ℕ, _≤_, _/_}
+use mathlib.Core.Path.{_≡_}
 use mathlib.Core.List.{List}
 use lib.ListN.{length}
 use Rattle.lin_spec.specs.Records.{optionOf}
 use Rattle.lin_spec.specs.Board.{BoardOf, boardFrom}
-use Rattle.lin_spec.specs.Reading.{spanText, stream}
+use Rattle.lin_spec.specs.Refusals.{unless}
+use Rattle.lin_spec.specs.Refusals.Answer.{refused}
+use Rattle.lin_spec.specs.Reading.{spanText, stream, fewRows}
 use Rattle.lin_spec.specs.declared.Span.{Span}
 use Rattle.lin_spec.specs.declared.Heading.{Heading}
-use Rattle.lin_spec.specs.declared.Verdict.the-variants.{Accepted}
+use Rattle.lin_spec.specs.declared.Verdict.{Verdict}
+use Rattle.lin_spec.specs.declared.Verdict.the-variants.{Accepted, Refused}
 use Rattle.board.specs.Dealing.{dealtFrom}
 use Rattle.board.specs.declared.heading.Head.{Head}
 
@@ -38,3 +42,8 @@ headOf s h =
 pub record Ample (s : List ℕ) (at : ℕ) (rows cards : List ℕ) : Type 0 where
   pub calls : length (boardAt s at .calls) ≤ length rows / 6
   pub play : length (boardAt s at .play) ≤ length cards
+
+-- refusal 3 does not meet the call, or is what it answers
+abbrev pub Counted : (s : List ℕ) (at : ℕ) (rows cards : List ℕ) → Verdict → Type 0
+Counted s at rows cards Accepted = Ample s at rows cards
+Counted s at rows cards (Refused r) = unless (fewRows (boardAt s at) rows cards) (boardAt s at) ≡ refused r

@@ -22,7 +22,7 @@ ghost use lib.ListN.{length};
 ghost use Rattle.output.specs.Put.{Room, Put};
 ghost use Rattle.lin_spec.specs.Refusals.{unless};
 ghost use Rattle.lin_spec.specs.Reading.{headingOf, fewRows, Reading, stored, readHeading, readBoard};
-ghost use Rattle.board.specs.Reader.{boardAt, headOf, Ample};
+ghost use Rattle.board.specs.Reader.{boardAt, headOf, Ample, Counted};
 
 // Stores every card from a place on.
 pub fn put_cards(cards: &mut [u8], text: &[u8], at: usize) -> usize
@@ -103,22 +103,33 @@ fn roomy(text: &[u8], at: usize, rows: &[u32], cards: &[u8]) -> bool
     (most <= rows.len() / 6) & (most <= cards.len())
 }
 
+// Refusal 3, if it meets the call. Most are lent places enough for any board of the text: then nothing is counted.
+fn few_rows(text: &[u8], at: usize, rows: &[u32], cards: &[u8]) -> Verdict
+    requires { ⌜ (at ≤ length (now text)) × (length (now text) < 2 ^ 32) ⌝ }
+    ensures { λ r. ⌜ Counted (now (text .entry)) at (now (rows .entry)) (now (cards .entry)) r ⌝ }
+{
+    if roomy(text, at, rows, cards) {
+        return Verdict::Accepted;
+    }
+    let h = read_head(text, at);
+    if rows.len() / 6 < h.calls {
+        return Verdict::Refused(Refusal::TooFewRows(RowKind::Calls, h.calls as u64));
+    }
+    if cards.len() < h.cards {
+        return Verdict::Refused(Refusal::TooFewRows(RowKind::Cards, h.cards as u64));
+    }
+    Verdict::Accepted
+}
+
 // The same board with its rows and cards, where there are enough places.
 pub fn board_at(text: &[u8], at: usize, rows: &mut [u32], cards: &mut [u8]) -> Heading
     requires { ⌜ (at ≤ length (now text)) × (length (now text) < 2 ^ 32) ⌝ }
     ensures { λ r. ⌜ _≡_ {A = Reading} (record { heading = r; rows = now (rows .exit); cards = now (cards .exit) }) (stored (unless (fewRows (boardAt (now (text .entry)) at) (now (rows .entry)) (now (cards .entry))) (boardAt (now (text .entry)) at)) (now (rows .entry)) (now (cards .entry))) ⌝ }
 {
-    if roomy(text, at, rows, cards) {
-        return heading_of(text, read_into(text, at, rows, cards));
+    match few_rows(text, at, rows, cards) {
+        Verdict::Accepted => heading_of(text, read_into(text, at, rows, cards)),
+        Verdict::Refused(r) => Heading::refused(r),
     }
-    let h = read_head(text, at);
-    if rows.len() / 6 < h.calls {
-        return Heading::refused(Refusal::TooFewRows(RowKind::Calls, h.calls as u64));
-    }
-    if cards.len() < h.cards {
-        return Heading::refused(Refusal::TooFewRows(RowKind::Cards, h.cards as u64));
-    }
-    heading_of(text, read_into(text, at, rows, cards))
 }
 
 // The heading of a text that is one board.
