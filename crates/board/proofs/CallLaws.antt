@@ -1,6 +1,6 @@
 -- Laws of calls one at a time: the next mb, the annotation after it, and a bid without its exclamation marks. (01: Board, mb and an)
 -- Assumes nothing.
-use Prim.Native.Nat.{ℕ, zero, suc, _+_, _-_, _≤_, _<_}
+use Prim.Native.Nat.{ℕ, suc, _+_, _-_, _≤_, _<_}
 use native.Mathlib.Nat.{add-zero}
 use native.Mathlib.Omega.{arith}
 use mathlib.Core.Path.{_≡_, refl, ap, sym, subst, _∙_}
@@ -13,15 +13,12 @@ use lib.Dec.{eqb, ltb, leb·zero, leb·suc-suc}
 use borrow.Author.Tests.{eq-eqb, ne-eqb}
 use Rattle.lin_spec.specs.Base.{pick, ascii, all}
 use Rattle.lin_spec.specs.White.{isCommand}
-use Rattle.lin_spec.specs.Tokens.{TokenOf}
-use Rattle.lin_spec.specs.Tokens.TokenOf.{token}
-use Rattle.lin_spec.specs.Board.{CallOf, callOf, only, withoutEnd, endsIn, annotated, over, onCalls}
+use Rattle.lin_spec.specs.Board.{CallOf, callOf, only, withoutEnd, endsIn, annotated}
 use Rattle.lin_spec.specs.Records.{span, endOf, bytesAt}
 use Rattle.lin_spec.specs.Reading.{spanText, stream, flag}
 use Rattle.lin_spec.proofs.Records.{part-length}
 use Rattle.lin_spec.proofs.Reading.{part-most}
 use Rattle.lin_spec.specs.declared.Span.{Span}
-use Rattle.commands.specs.Commands.{words}
 use Rattle.commands.specs.Steps.{TokenAt}
 use Rattle.board.specs.declared.calls.Bid.{Bid}
 use Rattle.board.specs.Calls.{isPresent, placeOf, rowOf, with, callsAfter, callsFrom, Bids}

@@ -1,6 +1,6 @@
 -- Laws of dealer and deal from the value of the last md that is accepted. (01: Board, md)
 -- Assumes nothing.
-use Prim.Native.Nat.{ℕ, zero, suc, _-_, _≤_, _<_, _^_}
+use Prim.Native.Nat.{ℕ, suc, _-_, _≤_, _<_, _^_}
 use native.Mathlib.Omega.{arith}
 use mathlib.Core.Path.{_≡_, refl, ap, sym, _∙_}
 use mathlib.Core.Bool.{Bool, true, false, _||_}
@@ -14,7 +14,7 @@ use Rattle.lin_spec.specs.Records.{optionOf, part, bytesAt}
 use Rattle.lin_spec.specs.White.{trim, isCommand}
 use Rattle.lin_spec.specs.Tokens.{cut, TokenOf}
 use Rattle.lin_spec.specs.Cards.{dealOf}
-use Rattle.lin_spec.specs.Board.{Dealt as DealtBy, dealerOf, dealtBy, undealt, readMd, over, on, onDealt}
+use Rattle.lin_spec.specs.Board.{Dealt as DealtBy, dealerOf, dealtBy, undealt, readMd, over, onDealt}
 use Rattle.lin_spec.specs.Reading.{spanText}
 use Rattle.lin_spec.specs.declared.Span.{Span}
 use Rattle.lin_spec.specs.declared.Seat.{Seat}

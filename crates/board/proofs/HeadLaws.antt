@@ -1,17 +1,17 @@
 -- Laws of a heading while it is read: what a token leaves of it. (01: Board)
 -- Assumes nothing.
-use Prim.Native.Nat.{ℕ, zero, suc, _+_, _≤_, _<_}
+use Prim.Native.Nat.{ℕ, _+_, _≤_, _<_}
 use native.Mathlib.Omega.{arith}
 use mathlib.Core.Path.{_≡_, refl, ap, sym, _∙_}
-use mathlib.Core.Bool.{Bool, true, false}
+use mathlib.Core.Bool.{Bool}
 use mathlib.Core.List.{List, [], _∷_}
 use mathlib.Core.Option.{Option, none, some}
 use lib.ListN.{length, getD}
 use lib.Dec.{eqb}
 use borrow.Author.Tests.{eq-eqb, ne-eqb}
-use Rattle.lin_spec.specs.Base.{pick, null, ascii}
-use Rattle.lin_spec.specs.Records.{span, optionOf, endOf, part, bytesAt}
-use Rattle.lin_spec.specs.White.{trim, isCommand}
+use Rattle.lin_spec.specs.Base.{pick, null}
+use Rattle.lin_spec.specs.Records.{endOf, bytesAt}
+use Rattle.lin_spec.specs.White.{trim}
 use Rattle.lin_spec.specs.Tokens.{TokenOf}
 use Rattle.lin_spec.specs.Tokens.TokenOf.{token}
 use Rattle.lin_spec.specs.Board.{over, on, onNames, onVulnerability, onTitle, onRoom, onHeader, onClaim}

@@ -1,14 +1,13 @@
 -- Laws of the board reader: the calls and cards one at a time are the board's, the heading's numbers are their lengths, and what the entries give. (01: Board)
 -- Assumes nothing.
-use Prim.Native.Nat.{ℕ, zero, suc, _+_, _-_, _*_, _/_, _≤_, _<_, _^_}
+use Prim.Native.Nat.{ℕ, suc, _+_, _-_, _*_, _/_, _≤_, _<_, _^_}
 use native.Mathlib.Omega.{arith}
-use native.Mathlib.Nat.{zero-add}
 use mathlib.Core.Path.{_≡_, refl, ap, sym, subst, _∙_}
 use mathlib.Core.Bool.{Bool, true, false, _&&_}
 use mathlib.Core.List.{List, [], _∷_, _++_, map, append-assoc, append-nil}
 use mathlib.Core.Option.{Option, none, some}
 use lib.ListN.{length, drop, length-append, length-drop, length-map}
-use lib.Dec.{eqb, ltb, leb}
+use lib.Dec.{leb}
 use borrow.Author.Tests.{lt-ltb, le-ltb, leb-true}
 use Rattle.lin_spec.specs.Base.{pick, ascii}
 use Rattle.lin_spec.specs.Records.{span, optionOf, bytesAt}
@@ -17,7 +16,7 @@ use Rattle.lin_spec.specs.Tokens.{Pieces, cut, pipe, TokenOf}
 use Rattle.lin_spec.specs.Tokens.Pieces.{end, piece}
 use Rattle.lin_spec.specs.Tokens.TokenOf.{token}
 use Rattle.lin_spec.specs.Cards.{readCard}
-use Rattle.lin_spec.specs.Board.{CallOf, Dealt as DealtBy, BoardOf, callOf, annotated, played, undealt, over, onDealt, onCalls, onPlay, boardFrom}
+use Rattle.lin_spec.specs.Board.{CallOf, BoardOf, callOf, annotated, played, undealt, over, onDealt, onCalls, onPlay, boardFrom}
 use Rattle.lin_spec.specs.Reading.{spanText, placed, stream, parseSpans, flag, maybeOf, claimedOf, headingOf, headed, readHeading, annotationWords, callWords, fewRows, stored, readBoard}
 use Rattle.lin_spec.specs.Fresh.{refusedHeading}
 use Rattle.lin_spec.specs.Refusals.{Answer, unless, tooLong, notUtf8}
@@ -34,14 +33,13 @@ use Rattle.lin_spec.specs.declared.MaybeClaim.the-variants.{Absent as NoClaim, 
 use Rattle.lin_spec.specs.declared.Verdict.{Verdict}
 use Rattle.lin_spec.specs.declared.Verdict.the-variants.{Accepted, Refused}
 use Rattle.lin_spec.specs.declared.Heading.{Heading}
-use Rattle.lin_spec.specs.declared.Board.{Board}
 use Rattle.lin_spec.proofs.Base.{picked, split, and-left, and-right, eq-length}
 use Rattle.lin_spec.proofs.White.{trim-most}
 use Rattle.lin_spec.proofs.Tokens.{joined, joined-cut}
 use Rattle.lin_spec.proofs.Rules.{over-change}
 use Rattle.lin_spec.proofs.Checks.{unless-refused, unless-passed}
 use Rattle.lin_spec.proofs.Document.{opened}
-use Rattle.output.specs.Put.{Room, Put}
+use Rattle.output.specs.Put.{Room}
 use Rattle.output.proofs.Laws.{Left, start}
 use Rattle.document.specs.Steps.{openedOf}
 use Rattle.document.specs.declared.tokens.Cursor.{Cursor}
@@ -49,16 +47,14 @@ use Rattle.document.specs.declared.tokens.Opened.{Opened}
 use Rattle.document.specs.declared.tokens.Opened.the-variants.{At, Refused as Shut}
 use Rattle.lin_spec.specs.Lent.{claimOf}
 use Rattle.commands.specs.Fields.{more}
-use Rattle.board.specs.Head.{freshHead, onLast, onCount, onCard, Leaves}
+use Rattle.board.specs.Head.{freshHead, onCount, onCard, Leaves}
 use Rattle.board.specs.Dealing.{held, dealtFrom}
-use Rattle.board.specs.Calls.{isPresent, placeOf, rowOf, rowWords, with, callsAfter, callsFrom, CallAt, Gives as Call·Gives}
+use Rattle.board.specs.Calls.{isPresent, placeOf, rowOf, rowWords, with, callsAfter, callsFrom}
 use Rattle.board.specs.Play.{before, cardsFrom, Gives as Card·Gives}
 use Rattle.board.specs.Reader.{boardAt, headOf, Ample, Counted}
 use Rattle.board.specs.Storing.{Fits, Stored}
 use Rattle.board.specs.declared.heading.Head.{Head}
 use Rattle.board.specs.declared.dealing.Dealt.{Dealt}
-use Rattle.lin_spec.specs.declared.Call.{Call}
-use Rattle.board.specs.declared.calls.NextCall.{NextCall}
 use Rattle.board.specs.declared.play.NextCard.{NextCard}
 use Rattle.board.proofs.DealingLaws.{dealt-last}
 

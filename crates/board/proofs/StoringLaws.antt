@@ -1,6 +1,6 @@
 -- Laws of a board that is stored while its tokens are read: the calls and cards so far stand in rows and cards. (01: Board)
 -- Assumes nothing.
-use Prim.Native.Nat.{ℕ, zero, suc, _+_, _-_, _*_, _/_, _≤_, _<_, _^_}
+use Prim.Native.Nat.{ℕ, _+_, _-_, _*_, _≤_, _<_}
 use native.Mathlib.Nat.{zero-add}
 use native.Mathlib.Omega.{arith}
 use mathlib.Core.Path.{_≡_, refl, ap, sym, _∙_}
@@ -18,7 +18,7 @@ use Rattle.lin_spec.specs.Tokens.{TokenOf}
 use Rattle.lin_spec.specs.Tokens.TokenOf.{token}
 use Rattle.lin_spec.specs.Cards.{readCard}
 use Rattle.lin_spec.specs.Output.{overlay}
-use Rattle.lin_spec.specs.Board.{CallOf, callOf, annotated, played, over, on, onCalls, onPlay, boardFrom}
+use Rattle.lin_spec.specs.Board.{CallOf, callOf, annotated, played, over, onCalls, onPlay, boardFrom}
 use Rattle.lin_spec.specs.Reading.{spanText, stream, flag, annotationWords, callWords}
 use Rattle.lin_spec.specs.declared.Span.{Span}
 use Rattle.lin_spec.specs.declared.Call.{Call}
@@ -33,7 +33,7 @@ use Rattle.board.specs.Play.{before, cardOf}
 use Rattle.board.specs.Reader.{boardAt}
 use Rattle.board.specs.Storing.{noteWords, Fits, Stored}
 use Rattle.board.specs.declared.heading.Head.{Head}
-use Rattle.board.proofs.HeadLaws.{Reads, begins, ends, turn, field, stepped-card, stepped-call, stepped-note}
+use Rattle.board.proofs.HeadLaws.{Reads, begins, ends, turn, stepped-card, stepped-call, stepped-note}
 use Rattle.board.proofs.ReaderLaws.{words-cons, words-length, annotated-length}
 
 -- No token takes a call or a card away

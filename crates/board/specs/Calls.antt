@@ -1,7 +1,7 @@
 -- The calls of a run of tokens one at a time, as the code gives them. (01: Board, mb and an)
 use Prim.Native.Nat.{ℕ, _≤_}
 use mathlib.Core.Path.{_≡_}
-use mathlib.Core.List.{List, [], _∷_, _++_}
+use mathlib.Core.List.{List, [], _∷_}
 use mathlib.Core.Option.{Option, none, some}
 use lib.ListN.{length}
 use Rattle.lin_spec.specs.Base.{pick, ascii}

@@ -6,7 +6,7 @@ use lib.ListN.{length}
 use Rattle.lin_spec.specs.Output.{overlay}
 use Rattle.lin_spec.specs.Reading.{stream, callWords}
 use Rattle.lin_spec.specs.declared.Span.{Span}
-use Rattle.output.specs.Put.{Room, joined}
+use Rattle.output.specs.Put.{joined}
 use Rattle.board.specs.Head.{freshHead, Leaves}
 use Rattle.board.specs.Reader.{boardAt}
 use Rattle.board.specs.declared.heading.Head.{Head}

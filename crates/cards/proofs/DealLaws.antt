@@ -6,21 +6,17 @@ use native.Mathlib.Numerals.{add-one}
 use native.Mathlib.Omega.{arith}
 use mathlib.Core.Path.{_≡_, refl, ap, sym, _∙_}
 use mathlib.Core.Bool.{Bool, true, false, _&&_}
-use mathlib.Core.List.{List, [], _∷_, _++_, append-assoc, append-nil}
+use mathlib.Core.List.{List, [], _++_, append-assoc, append-nil}
 use lib.ListN.{length, getD, set, take, drop, replicate, length-append, length-replicate, drop-of-length-le, replicate-append-replicate}
 use lib.Seq.{take-at, drop-at, drop-drop, take-all, paste, paste-suc}
-use lib.Dec.{eqb}
-use borrow.Author.Tests.{ne-eqb}
-use Rattle.lin_spec.specs.Base.{null}
 use Rattle.lin_spec.specs.Records.{part}
-use Rattle.lin_spec.specs.White.{blank, trim}
+use Rattle.lin_spec.specs.White.{blank}
 use Rattle.lin_spec.specs.Tokens.{Pieces, cut}
 use Rattle.lin_spec.specs.Tokens.Pieces.{end, piece}
 use Rattle.lin_spec.specs.Cursor.{findFrom}
 use Rattle.lin_spec.specs.Cards.{readHand, field, remainder, thirteens, dealOf, eastOf}
 use Rattle.lin_spec.proofs.Base.{split}
 use Rattle.lin_spec.proofs.Records.{part-rest}
-use Rattle.lin_spec.proofs.White.{trim-blank}
 use Rattle.lin_spec.proofs.Cursor.{cut-at, cut-end}
 use Rattle.lin_spec.proofs.Cards.{field-length}
 use Rattle.cards.specs.Deals.{others, placed}

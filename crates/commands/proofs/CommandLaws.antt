@@ -11,8 +11,8 @@ use mathlib.Core.Logic.{_⊎_, inl, inr, ⊎-elim}
 use lib.ListN.{length, getD, drop, length-drop}
 use lib.Seq.{drop-cons}
 use lib.Dec.{eqb, leb}
-use borrow.Author.Tests.{eq-eqb, ne-eqb, eqb-true, eqb-false, leb-true}
-use Rattle.lin_spec.specs.Base.{pick, eqList, eqAll}
+use borrow.Author.Tests.{ne-eqb, eqb-true, eqb-false, leb-true}
+use Rattle.lin_spec.specs.Base.{pick, eqAll}
 use Rattle.lin_spec.specs.Records.{part}
 use Rattle.lin_spec.specs.White.{lower, whiteAt, skipWhite, trimStart, trimEnd, blank, trim, sameWord, isCommand}
 use Rattle.lin_spec.proofs.Base.{picked, split, and-left, and-right, allBelow, below, eq-list}

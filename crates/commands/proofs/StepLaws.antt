@@ -3,13 +3,13 @@
 use Prim.Native.Nat.{ℕ, _+_, _-_, _≤_, _<_}
 use native.Mathlib.Omega.{arith}
 use mathlib.Core.Path.{_≡_, ap, sym, subst, _∙_}
-use mathlib.Core.List.{List, [], _∷_}
+use mathlib.Core.List.{List, []}
 use lib.ListN.{length, getD}
 use lib.Dec.{eqb}
 use Rattle.lin_spec.specs.Records.{span, part}
 use Rattle.lin_spec.specs.White.{isCommand}
 use Rattle.lin_spec.specs.Tokens.{pipe}
-use Rattle.lin_spec.specs.Cursor.{Place, Step, stepAt, findFrom}
+use Rattle.lin_spec.specs.Cursor.{Place, stepAt, findFrom}
 use Rattle.lin_spec.specs.Cursor.Step.{found, ended}
 use Rattle.lin_spec.specs.Reading.{stream}
 use Rattle.lin_spec.specs.declared.Span.{Span}

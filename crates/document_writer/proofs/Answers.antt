@@ -2,7 +2,7 @@
 -- Assumes nothing.
 use Prim.Native.Nat.{ℕ, _+_, _≤_, _<_}
 use native.Mathlib.Omega.{arith}
-use mathlib.Core.Path.{_≡_, ap, subst}
+use mathlib.Core.Path.{_≡_, subst}
 use mathlib.Core.Bool.{Bool, true, false}
 use mathlib.Core.List.{List}
 use lib.ListN.{length}
@@ -14,7 +14,7 @@ use Rattle.lin_spec.specs.Refusals.Answer.{refused, accepted}
 use Rattle.lin_spec.specs.Output.{Outcome, room, fill}
 use Rattle.lin_spec.specs.Document.{rowsIn, spansOf, documentText, writeDocument}
 use Rattle.lin_spec.specs.declared.Span.{Span}
-use Rattle.lin_spec.specs.declared.Refusal.the-variants.{TextTooLong, NotUtf8, SpanPastEnd, SpanNotUtf8, OutputTooSmall}
+use Rattle.lin_spec.specs.declared.Refusal.the-variants.{TextTooLong, SpanPastEnd, SpanNotUtf8, OutputTooSmall}
 use Rattle.output.specs.Put.{Put}
 use Rattle.document_writer.specs.Rows.{Looked}
 use Rattle.document_writer.specs.declared.writer.Look.{Look}

@@ -11,13 +11,13 @@ use lib.ListN.{length, getD, drop, drop-of-length-le, length-map}
 use lib.Seq.{drop-cons, drop-nil}
 use lib.Dec.{T, eqb, ltb, ltb→lt}
 use borrow.Author.Tests.{eq-eqb, ne-eqb, lt-ltb, le-ltb}
-use Rattle.lin_spec.specs.Base.{pick, any, eqAll, eqList}
+use Rattle.lin_spec.specs.Base.{pick, eqAll, eqList}
 use Rattle.lin_spec.specs.Records.{span, limit, bytesAt}
 use Rattle.lin_spec.specs.Refusals.{Answer, refuseIf, unless}
 use Rattle.lin_spec.specs.Refusals.Answer.{refused, accepted}
 use Rattle.lin_spec.specs.Board.{mapOption, mapCall, mapBoard}
 use Rattle.lin_spec.specs.Writer.{heldIn}
-use Rattle.lin_spec.specs.Lent.{callRows, callIn, Lent, lent, lentBoard, meaning, lentSpans, badFlag, badCards, badNumber}
+use Rattle.lin_spec.specs.Lent.{callRows, callIn, Lent, lent, lentBoard, meaning}
 use Rattle.lin_spec.specs.Equality.{eqOption, eqFlag, eqCall, sameDeal, equal, sameBoards}
 use Rattle.lin_spec.specs.declared.Span.{Span}
 use Rattle.lin_spec.specs.declared.Call.{Call}

@@ -1,24 +1,23 @@
 -- Laws of boards by number: what a cursor has passed and what remains, and what the entries give. (01: File)
 -- Assumes nothing.
-use Prim.Native.Nat.{ℕ, zero, suc, _+_, _-_, _^_, _≤_, _<_, min}
+use Prim.Native.Nat.{ℕ, zero, suc, _+_, _-_, _^_, _≤_, _<_}
 use native.Mathlib.Omega.{arith}
 use mathlib.Core.Path.{_≡_, refl, ap, sym, subst, _∙_}
-use mathlib.Core.Bool.{Bool, true, false, _&&_, not, false≢true}
+use mathlib.Core.Bool.{Bool, true, false, _&&_}
 use mathlib.Core.List.{List, [], _∷_, map}
 use mathlib.Core.Option.{Option}
 use lib.ListN.{length, getD, take, length-map, length-take}
-use lib.Dec.{eqb, ltb, leb}
-use borrow.Author.Tests.{eqb-true, eqb-false, le-leb, lt-leb, le-ltb, lt-ltb}
-use Rattle.lin_spec.specs.Base.{pick, ascii, keep}
+use lib.Dec.{eqb}
+use borrow.Author.Tests.{eqb-true, eqb-false, le-leb, lt-leb}
+use Rattle.lin_spec.specs.Base.{pick, keep}
 use Rattle.lin_spec.specs.Records.{limit}
-use Rattle.lin_spec.specs.Refusals.{Answer, unless, tooLong, notUtf8, sat}
+use Rattle.lin_spec.specs.Refusals.{Answer, unless, tooLong, notUtf8}
 use Rattle.lin_spec.specs.Refusals.Answer.{refused, accepted}
 use Rattle.lin_spec.specs.Fresh.{refusedHeading}
 use Rattle.lin_spec.specs.Document.{openText}
 use Rattle.lin_spec.specs.Board.{BoardOf}
-use Rattle.lin_spec.specs.Reading.{stream, headingOf, headed, fewRows, Reading, stored}
-use Rattle.lin_spec.specs.File.{Section as Part, section, holds, Standing, Visit, visit, openBoards, sections, boardsOf, boardIn, fileSpans, noBoard, numbered, countBoards, fileHeading, fileBoard}
-use Rattle.lin_spec.specs.File.Visit.{found, ended}
+use Rattle.lin_spec.specs.Reading.{headingOf, headed, fewRows, Reading, stored}
+use Rattle.lin_spec.specs.File.{Section as Part, section, holds, Standing, visit, openBoards, sections, boardsOf, boardIn, fileSpans, noBoard, numbered, countBoards, fileHeading, fileBoard}
 use Rattle.lin_spec.specs.declared.Span.{Span}
 use Rattle.lin_spec.specs.declared.Refusal.{Refusal}
 use Rattle.lin_spec.specs.declared.Refusal.the-variants.{NoBoard}

@@ -1,7 +1,7 @@
 -- Counts, boards by number and the finder, as the code gives them. (01: File)
 use Prim.Native.Nat.{ℕ, _<_, _≤_, _^_}
 use mathlib.Core.Path.{_≡_}
-use mathlib.Core.Bool.{Bool, false, _&&_, not}
+use mathlib.Core.Bool.{false, _&&_, not}
 use mathlib.Core.List.{List}
 use lib.ListN.{length, getD}
 use Rattle.lin_spec.specs.Base.{pick, ascii}
@@ -9,7 +9,7 @@ use Rattle.lin_spec.specs.Records.{limit}
 use Rattle.lin_spec.specs.Refusals.{Answer}
 use Rattle.lin_spec.specs.Refusals.Answer.{refused, accepted}
 use Rattle.lin_spec.specs.Reading.{stream}
-use Rattle.lin_spec.specs.File.{Section as Part, section, Standing, holds, sections, boardsOf, boardIn, hasName}
+use Rattle.lin_spec.specs.File.{section, Standing, holds, sections, boardsOf, boardIn, hasName}
 use Rattle.sections.specs.Sections.{sectionOf, standingOf}
 use Rattle.sections.specs.declared.sections.Section.{Section}
 use Rattle.sections.specs.declared.sections.BoardCursor.{BoardCursor}

@@ -10,8 +10,6 @@ use lib.Dec.{ltb}
 use borrow.Author.Tests.{le-ltb}
 use Rattle.lin_spec.specs.Records.{span}
 use Rattle.lin_spec.specs.Letters.{seatNumber}
-use Rattle.lin_spec.specs.Board.{Present as Holds}
-use Rattle.lin_spec.specs.Lent.{claimOf as claimIn}
 use Rattle.lin_spec.specs.declared.Span.{Span}
 use Rattle.lin_spec.specs.declared.MaybeSpan.{MaybeSpan}
 use Rattle.lin_spec.specs.declared.MaybeSpan.the-variants.{Absent, Present}

@@ -11,7 +11,7 @@ use lib.ListN.{length, take, drop, getD, length-drop, take-append-drop}
 use lib.Seq.{take-suc, take-length}
 use lib.Dec.{eqb, leb}
 use borrow.Author.Tests.{eqb-true, leb-true}
-use Rattle.lin_spec.specs.Base.{pick, All, concat, null, eqList, joinBy, ascii}
+use Rattle.lin_spec.specs.Base.{pick, All, concat, eqList, joinBy, ascii}
 use Rattle.lin_spec.specs.Utf8.{Utf, first, utfStep, utf, utf8}
 use Rattle.lin_spec.specs.Utf8.Utf.{whole, needs, ill}
 use Rattle.lin_spec.specs.Records.{span, bytesAt}

@@ -7,7 +7,7 @@ use mathlib.Core.Bool.{_||_}
 use mathlib.Core.List.{List, [], _∷_, _++_, map, append-assoc}
 use mathlib.Core.Option.{Option, none, some}
 use Rattle.lin_spec.specs.Base.{pick, All, concat, joinBy, ascii}
-use Rattle.lin_spec.specs.Tokens.{pipe, TokenOf, Token, write}
+use Rattle.lin_spec.specs.Tokens.{TokenOf, Token, write}
 use Rattle.lin_spec.specs.Tokens.TokenOf.{token}
 use Rattle.lin_spec.specs.Decimal.{decimal}
 use Rattle.lin_spec.specs.Letters.{svLetter}

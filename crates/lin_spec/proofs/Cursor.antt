@@ -9,11 +9,11 @@ use mathlib.Core.Bool.{Bool, true, false}
 use mathlib.Core.List.{List, [], _∷_, _++_}
 use lib.ListN.{length, getD, take, drop, length-append, length-drop}
 use lib.Seq.{take-append-seam, drop-append-add, drop-drop}
-use lib.Dec.{eqb, ltb}
+use lib.Dec.{eqb}
 use borrow.Author.Tests.{eq-eqb, ne-eqb, eqb-true}
 use Rattle.lin_spec.specs.Base.{pick}
 use Rattle.lin_spec.specs.Records.{part}
-use Rattle.lin_spec.specs.Tokens.{Pieces, Token, cut, paired, left, tokens, trailing, write, pipe}
+use Rattle.lin_spec.specs.Tokens.{Pieces, cut, paired, left, tokens, trailing, write, pipe}
 use Rattle.lin_spec.specs.Tokens.Pieces.{end, piece}
 use Rattle.lin_spec.specs.Tokens.TokenOf.{token}
 use Rattle.lin_spec.specs.Cursor.{Place, place, Step, stepBy, stepAt, findFrom}

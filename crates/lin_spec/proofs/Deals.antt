@@ -1,19 +1,19 @@
 -- Reading a written md value gives dealer and settled deal. (01: Writer and settled form; Board, md)
 -- Assumes nothing.
-use Prim.Native.Nat.{ℕ, zero, suc, _+_, _*_, _≤_, _<_}
+use Prim.Native.Nat.{ℕ, _+_, _*_, _≤_}
 use native.Mathlib.Omega.{arith}
-use mathlib.Core.Path.{_≡_, refl, ap, sym, _∙_}
-use mathlib.Core.Bool.{Bool, true, false, _&&_, _||_, and-false}
+use mathlib.Core.Path.{_≡_, refl, ap, _∙_}
+use mathlib.Core.Bool.{Bool, true, false, _&&_, and-false}
 use mathlib.Core.List.{List, [], _∷_, _++_, append-nil}
-use mathlib.Core.Option.{Option, none, some}
-use lib.ListN.{length, take, drop, length-take, length-drop}
+use mathlib.Core.Option.{some}
+use lib.ListN.{length, length-take, length-drop}
 use lib.Dec.{eqb}
 use borrow.Author.Tests.{ne-eqb, eqb-false}
 use Rattle.lin_spec.specs.Base.{pick, All, ascii}
 use Rattle.lin_spec.specs.Records.{part}
 use Rattle.lin_spec.specs.White.{blank, trim, trimStart, skipWhite}
 use Rattle.lin_spec.specs.Tokens.{cut, count}
-use Rattle.lin_spec.specs.Cards.{sum, readHand, field, remainder, thirteens, eastOf, dealOf}
+use Rattle.lin_spec.specs.Cards.{sum, readHand, field, thirteens, eastOf, dealOf}
 use Rattle.lin_spec.specs.Letters.{handAt}
 use Rattle.lin_spec.specs.Board.{Dealt, dealerOf, readMd}
 use Rattle.lin_spec.specs.Writer.{handText, suitText, impliedEast, dealerDigit, mdText, settledDeal}

@@ -1,35 +1,32 @@
 -- Documents written from spans: what the cursor gives is written back (D2d), and what was written is read again (D2e). (01: Tokens)
 -- Assumes nothing.
-use Prim.Native.Nat.{ℕ, zero, suc, _+_, _-_, _^_, _≤_, _<_, min}
-use native.Mathlib.Nat.{not-suc-le-zero}
+use Prim.Native.Nat.{ℕ, zero, suc, _+_, _-_, _^_, _≤_, _<_}
 use native.Mathlib.Omega.{arith}
-use mathlib.Core.Path.{_≡_, refl, ap, sym, subst, _∙_}
-use mathlib.Core.Bool.{Bool, true, false, not, _&&_}
+use mathlib.Core.Path.{_≡_, refl, ap, sym, _∙_}
+use mathlib.Core.Bool.{true, false, not, _&&_}
 use mathlib.Core.List.{List, [], _∷_, _++_, map}
-use mathlib.Core.Option.{Option, none, some}
+use mathlib.Core.Option.{none}
 use lib.ListN.{length, take, drop}
 use lib.Dec.{ltb}
 use borrow.Author.Tests.{le-ltb, ltb-false, not-false}
-use Rattle.lin_spec.specs.Base.{pick, All, any}
-use Rattle.lin_spec.specs.Records.{limit, span, endOf, part, bytesAt}
+use Rattle.lin_spec.specs.Base.{All, any}
+use Rattle.lin_spec.specs.Records.{limit, span, part, bytesAt}
 use Rattle.lin_spec.specs.Utf8.{utf8}
 use Rattle.lin_spec.specs.Tokens.{Token, tokens, trailing, write, pipe}
-use Rattle.lin_spec.specs.Tokens.TokenOf.{token}
 use Rattle.lin_spec.specs.Cursor.{Place, Step, stepAt, Steps}
 use Rattle.lin_spec.specs.Cursor.Step.{found, ended}
 use Rattle.lin_spec.specs.Cursor.Steps.{stop, more}
-use Rattle.lin_spec.specs.Refusals.{Answer, refuseIf, unless, tooLong, notUtf8, passesEnd, pastEnd, illSpan, spanNotUtf8, tooSmall}
-use Rattle.lin_spec.specs.Refusals.Answer.{refused, accepted}
-use Rattle.lin_spec.specs.Output.{Outcome, overlay, room, outputAfter, fill}
+use Rattle.lin_spec.specs.Refusals.{unless, passesEnd, illSpan}
+use Rattle.lin_spec.specs.Refusals.Answer.{accepted}
+use Rattle.lin_spec.specs.Output.{overlay, room, fill}
 use Rattle.lin_spec.specs.Document.{openText, Row, rowsIn, spansOf, tokenAt, documentText, writeDocument}
 use Rattle.lin_spec.specs.declared.Span.{Span}
-use Rattle.lin_spec.specs.declared.Refusal.{Refusal}
 use Rattle.lin_spec.proofs.Base.{and-left, and-right, or-none}
 use Rattle.lin_spec.proofs.Records.{part-rest}
-use Rattle.lin_spec.proofs.Tokens.{written-back, ReadsBack, Plain, read-written, read-written-only}
-use Rattle.lin_spec.proofs.Cursor.{Took, Ended, means}
+use Rattle.lin_spec.proofs.Tokens.{written-back, Plain, read-written, read-written-only}
+use Rattle.lin_spec.proofs.Cursor.{Took, means}
 use Rattle.lin_spec.proofs.Utf8.{utf8-cut}
-use Rattle.lin_spec.proofs.Checks.{unmet, Filled, filled, filled-bytes}
+use Rattle.lin_spec.proofs.Checks.{unmet, filled, filled-bytes}
 
 -- Opening
 

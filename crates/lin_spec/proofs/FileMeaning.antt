@@ -1,31 +1,26 @@
 -- What the boards of a file mean: each is `parse_lin` over its part of the text, and its spans are that board's, moved by the part's start; and the
 -- parts are 01's, token by token. (01: File)
 -- Assumes nothing.
-use Prim.Native.Nat.{ℕ, zero, suc, _+_, _-_, _≤_, _<_}
-use native.Mathlib.Nat.{add-zero, add-assoc}
+use Prim.Native.Nat.{ℕ, _+_, _-_, _<_}
 use native.Mathlib.Omega.{arith}
-use mathlib.Core.Path.{_≡_, refl, ap, sym, subst, _∙_}
-use mathlib.Core.Bool.{Bool, true, false, _&&_, _||_, not, false≢true}
-use mathlib.Core.List.{List, [], _∷_, _++_, map, append-assoc, append-nil}
-use mathlib.Core.Option.{Option, none, some}
+use mathlib.Core.Path.{_≡_, refl, ap, sym, _∙_}
+use mathlib.Core.List.{List, [], _∷_, map}
 use lib.ListN.{length, take, drop, length-take}
 use lib.Seq.{take-take, drop-drop}
-use lib.Dec.{eqb, ltb, leb}
+use lib.Dec.{eqb}
 use borrow.Author.Tests.{ne-eqb}
-use Rattle.lin_spec.specs.Base.{pick, All, null, ascii}
-use Rattle.lin_spec.specs.Records.{span, endOf, part, bytesAt}
-use Rattle.lin_spec.specs.White.{isCommand}
+use Rattle.lin_spec.specs.Base.{pick, All}
+use Rattle.lin_spec.specs.Records.{span, part, bytesAt}
 use Rattle.lin_spec.specs.Tokens.{Pieces, cut, pipe, TokenOf, tokens}
 use Rattle.lin_spec.specs.Tokens.Pieces.{end, piece}
 use Rattle.lin_spec.specs.Tokens.TokenOf.{token}
-use Rattle.lin_spec.specs.Board.{CallOf, BoardOf, Text, boardFrom, mapBoard}
+use Rattle.lin_spec.specs.Board.{boardFrom, mapBoard}
 use Rattle.lin_spec.specs.Reading.{bytesText, spanText, placed, stream, parseLin, parseSpans}
-use Rattle.lin_spec.specs.File.{Section, section, tokensIn, boardIn, holds, leads, sections, boardsOf, parseLinFile, fileSpans}
+use Rattle.lin_spec.specs.File.{Section, boardIn, sections, boardsOf, parseLinFile, fileSpans}
 use Rattle.lin_spec.specs.declared.Span.{Span}
-use Rattle.lin_spec.proofs.Base.{picked}
-use Rattle.lin_spec.proofs.Tokens.{joined, joined-cut}
+use Rattle.lin_spec.proofs.Tokens.{joined-cut}
 use Rattle.lin_spec.proofs.Reading.{mapToken, ValueOf, part-part, part-most, placed-from, board-map, Within, stream-within}
-use Rattle.lin_spec.proofs.File.{Chain, chain, drop-take, upTo, none-yet, stream-take}
+use Rattle.lin_spec.proofs.File.{drop-take}
 
 -- A board at a section's bounds is `parse_lin` over that part of the text, its spans moved by the part's start. A span at 0 is that of a name never set,
 -- and stays.

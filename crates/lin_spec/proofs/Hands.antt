@@ -7,14 +7,14 @@ use mathlib.Core.Path.{_≡_, refl, ap, sym, _∙_}
 use mathlib.Core.Bool.{Bool, true, false, false≢true}
 use mathlib.Core.List.{List, [], _∷_, _++_, append-assoc, append-nil}
 use mathlib.Core.Option.{Option, none, some}
-use lib.ListN.{length, getD, set, take, drop, replicate, length-append, length-take, length-drop, length-replicate, take-append-drop}
+use lib.ListN.{length, getD, take, drop, replicate, length-append, length-take, length-drop, length-replicate, take-append-drop}
 use lib.Seq.{set-at, getD-at, append-snoc, take-all, take-suc, drop-drop, getD-drop}
 use lib.Dec.{eqb, leb}
 use borrow.Author.Tests.{ne-eqb, eqb-true, leb-true}
-use Rattle.lin_spec.specs.Base.{pick, All, ascii, keep}
+use Rattle.lin_spec.specs.Base.{All, ascii, keep}
 use Rattle.lin_spec.specs.White.{lower}
 use Rattle.lin_spec.specs.Tokens.{count}
-use Rattle.lin_spec.specs.Cards.{indexOf, suitOf, rankOf, noCards, sum, handFrom, readHand}
+use Rattle.lin_spec.specs.Cards.{indexOf, suitOf, rankOf, sum, handFrom, readHand}
 use Rattle.lin_spec.specs.Writer.{ranksFrom, suitText, handText}
 use Rattle.lin_spec.proofs.Base.{picked, allBelow, below, all-append}
 

@@ -1,23 +1,22 @@
 -- The spans of an answer: taken out of the text they are the bytes of the meaning, and they lie within the text; a refusal stores nothing. (01: Board)
 -- Assumes nothing.
-use Prim.Native.Nat.{ℕ, zero, suc, _+_, _-_, _≤_, _<_}
-use native.Mathlib.Nat.{add-zero, add-assoc}
+use Prim.Native.Nat.{ℕ, zero, suc, _+_, _-_, _≤_}
 use native.Mathlib.Omega.{arith}
 use mathlib.Core.Path.{_≡_, refl, ap, sym, subst, _∙_}
 use mathlib.Core.Bool.{Bool, true, false}
 use mathlib.Core.List.{List, [], _∷_, _++_, map}
 use mathlib.Core.Option.{Option, none, some}
 use lib.ListN.{length, take, drop, length-append, length-drop, length-take, drop-of-length-le}
-use lib.Seq.{take-take, take-append-seam, drop-append-add, drop-drop}
+use lib.Seq.{take-take, take-append-seam, drop-drop}
 use Rattle.lin_spec.specs.Base.{pick, All, null, ascii}
 use Rattle.lin_spec.specs.Records.{span, endOf, part, bytesAt}
 use Rattle.lin_spec.specs.White.{isCommand}
-use Rattle.lin_spec.specs.Tokens.{Pieces, cut, pipe, TokenOf, Token, paired, tokens}
+use Rattle.lin_spec.specs.Tokens.{Pieces, cut, pipe, TokenOf, paired, tokens}
 use Rattle.lin_spec.specs.Tokens.Pieces.{end, piece}
 use Rattle.lin_spec.specs.Tokens.TokenOf.{token}
-use Rattle.lin_spec.specs.Cursor.{Place, Step, stepBy, stepAt}
+use Rattle.lin_spec.specs.Cursor.{Step, stepBy, stepAt}
 use Rattle.lin_spec.specs.Cursor.Step.{found, ended}
-use Rattle.lin_spec.specs.Board.{CallOf, BoardOf, Text, named, withoutEnd, only, endsIn, annotated, over, on, nonEmpty, onNames, onDealt, onVulnerability, onTitle, onRoom, onHeader, onCalls, onPlay, onClaim, callOf, boardFrom, mapOption, mapCall, mapBoard, Present, EachText}
+use Rattle.lin_spec.specs.Board.{CallOf, BoardOf, Text, named, withoutEnd, only, annotated, over, on, nonEmpty, onNames, onDealt, onVulnerability, onTitle, onRoom, onHeader, onCalls, onPlay, onClaim, callOf, boardFrom, mapOption, mapCall, mapBoard, Present, EachText}
 use Rattle.lin_spec.specs.Reading.{bytesText, spanText, placed, stream, parseLin, parseSpans, stored}
 use Rattle.lin_spec.specs.Refusals.{Answer}
 use Rattle.lin_spec.specs.Refusals.Answer.{refused, accepted}

@@ -11,7 +11,7 @@ use lib.ListN.{length}
 use lib.Dec.{leb}
 use borrow.Author.Tests.{leb-true}
 use Rattle.lin_spec.specs.Base.{All, joinBy, ascii, all, keep}
-use Rattle.lin_spec.specs.Tokens.{pipe, count, Token, tokens, trailing, NoPipes}
+use Rattle.lin_spec.specs.Tokens.{pipe, count, Token, NoPipes}
 use Rattle.lin_spec.specs.Tokens.TokenOf.{token}
 use Rattle.lin_spec.specs.Decimal.{decimal}
 use Rattle.lin_spec.specs.Letters.{svLetter}

@@ -1,14 +1,14 @@
 -- Laws of tokens: what is read is written back, and what is written is read again, exactly when it can be (D2a to D2c). (01: Tokens)
 -- Assumes nothing.
-use Prim.Native.Nat.{ℕ, zero, suc, _+_, _*_, _/_, _≤_, _<_}
+use Prim.Native.Nat.{ℕ, zero, suc, _+_, _/_, _≤_, _<_}
 use native.Mathlib.Nat.{not-suc-le-zero, le-of-suc-le-suc}
 use native.Mathlib.Omega.{arith}
 use mathlib.Core.Path.{_≡_, refl, ap, sym, subst, _∙_}
 use mathlib.Core.Bool.{Bool, true, false}
-use mathlib.Core.List.{List, [], _∷_, _++_, append-assoc, append-nil}
+use mathlib.Core.List.{List, [], _∷_, _++_, append-nil}
 use lib.ListN.{length, getD}
 use lib.Dec.{eqb}
-use borrow.Author.Tests.{eq-eqb, ne-eqb, eqb-true}
+use borrow.Author.Tests.{eq-eqb, eqb-true}
 use Rattle.lin_spec.specs.Base.{pick, keep}
 use Rattle.lin_spec.specs.Tokens.{Pieces, Token, cut, push, count, paired, left, tokens, trailing, write, NoPipes, pipe}
 use Rattle.lin_spec.specs.Tokens.Pieces.{end, piece}

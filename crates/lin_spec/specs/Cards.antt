@@ -1,13 +1,13 @@
 -- Cards, hands and deals, and how a text gives them. (01: Records; Board, md and pc)
 use Prim.Native.Nat.{ℕ, zero, suc, _+_, _*_}
-use mathlib.Core.Bool.{Bool, true, false, _&&_}
+use mathlib.Core.Bool.{Bool, _&&_}
 use mathlib.Core.List.{List, [], _∷_, _++_}
 use mathlib.Core.Option.{Option, none, some}
-use lib.ListN.{length, getD, set, take, drop, replicate}
+use lib.ListN.{getD, set, replicate}
 use lib.Dec.{eqb}
 use Rattle.lin_spec.specs.Base.{pick, ascii}
 use Rattle.lin_spec.specs.White.{lower, blank}
-use Rattle.lin_spec.specs.Tokens.{Pieces, cut}
+use Rattle.lin_spec.specs.Tokens.{Pieces}
 use Rattle.lin_spec.specs.Tokens.Pieces.{end, piece}
 
 -- the place of b in a list, counted from n

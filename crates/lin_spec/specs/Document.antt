@@ -1,7 +1,6 @@
 -- The entries on tokens: opening a cursor, and writing a document. (01: Tokens)
 use Prim.Native.Nat.{ℕ}
-use mathlib.Core.List.{List, [], _∷_, _++_, map}
-use mathlib.Core.Option.{Option}
+use mathlib.Core.List.{List, [], _∷_, map}
 use lib.ListN.{length}
 use Rattle.lin_spec.specs.Records.{span, bytesAt}
 use Rattle.lin_spec.specs.Tokens.{Token, write}
@@ -9,7 +8,6 @@ use Rattle.lin_spec.specs.Tokens.TokenOf.{token}
 use Rattle.lin_spec.specs.Refusals.{Answer, unless, tooLong, notUtf8, pastEnd, spanNotUtf8, tooSmall}
 use Rattle.lin_spec.specs.Output.{Outcome, room, fill}
 use Rattle.lin_spec.specs.declared.Span.{Span}
-use Rattle.lin_spec.specs.declared.Refusal.{Refusal}
 
 -- "Opening a cursor gives refusals 1 and 2"; it then stands at the first byte
 unfoldable pub openText : List ℕ → Answer ℕ

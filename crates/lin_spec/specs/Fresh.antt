@@ -1,6 +1,5 @@
 -- A deal and a board before the first token, and what a refused call gives for a heading, as the declared types hold them. (01: Records; Board, "Start ..")
-use Prim.Native.Nat.{ℕ}
-use mathlib.Core.List.{List, [], _∷_}
+use mathlib.Core.List.{[], _∷_}
 use lib.ListN.{replicate}
 use Rattle.lin_spec.specs.Records.{span}
 use Rattle.lin_spec.specs.declared.Seat.the-variants.{North}

@@ -1,6 +1,6 @@
 -- Bytes written into a lent output. (01: Writer, "Every output's room ..", and Eight refusals, "All lent memory stays ..")
 use Prim.Native.Nat.{ℕ, _+_, min}
-use mathlib.Core.List.{List, [], _∷_, _++_}
+use mathlib.Core.List.{List, _++_}
 use mathlib.Core.Option.{Option}
 use lib.ListN.{length, take, drop}
 use Rattle.lin_spec.specs.Records.{limit}

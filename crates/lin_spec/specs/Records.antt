@@ -1,6 +1,6 @@
 -- Texts and spans. (01: Records)
 use Prim.Native.Nat.{ℕ, _+_}
-use mathlib.Core.List.{List, [], _∷_}
+use mathlib.Core.List.{List}
 use mathlib.Core.Option.{Option, none, some}
 use lib.ListN.{take, drop}
 use Rattle.lin_spec.specs.declared.Span.{Span}

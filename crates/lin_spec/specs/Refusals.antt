@@ -1,6 +1,6 @@
 -- The eight refusals, what each carries, and the order of the checks. (01: Eight refusals)
 use Prim.Native.Nat.{ℕ, _-_, _^_, min}
-use mathlib.Core.Bool.{Bool, true, false, not}
+use mathlib.Core.Bool.{Bool, not}
 use mathlib.Core.List.{List, [], _∷_}
 use mathlib.Core.Option.{Option, none, some}
 use lib.ListN.{length}

@@ -1,10 +1,9 @@
 -- A text's tokens and its trailing text, and a document written back. (01: Tokens)
-use Prim.Native.Nat.{ℕ, zero, suc}
+use Prim.Native.Nat.{ℕ}
 use mathlib.Core.Path.{_≡_}
-use mathlib.Core.Bool.{Bool, true, false}
 use mathlib.Core.List.{List, [], _∷_, _++_}
 use lib.Dec.{eqb}
-use Rattle.lin_spec.specs.Base.{pick, countIf, ascii}
+use Rattle.lin_spec.specs.Base.{pick, countIf}
 
 -- "pipes (`|`)"
 abbrev pub pipe : ℕ

@@ -1,6 +1,5 @@
 -- UTF-8 by RFC 3629, as a machine that is fed a text's bytes. (01: "For UTF-8 (RFC 3629) .. the public document prevails")
 use Prim.Native.Nat.{ℕ, zero, suc, _+_, _/_, _%_}
-use mathlib.Core.Path.{_≡_}
 use mathlib.Core.Bool.{Bool, true, false, _&&_, _||_, not}
 use mathlib.Core.List.{List, [], _∷_, map}
 use lib.Dec.{eqb, leb, ltb}

@@ -1,10 +1,10 @@
 -- White space, trimming and ASCII case. (01: Records, Tokens)
 use Prim.Native.Nat.{ℕ, zero, suc, _+_, _-_}
-use mathlib.Core.Bool.{Bool, true, false, _&&_}
+use mathlib.Core.Bool.{Bool, _&&_}
 use mathlib.Core.List.{List, [], _∷_, map}
 use lib.ListN.{length}
 use lib.Dec.{eqb, leb}
-use Rattle.lin_spec.specs.Base.{pick, any, null, eqList, starts}
+use Rattle.lin_spec.specs.Base.{pick, null, eqList, starts}
 use Rattle.lin_spec.specs.Utf8.{encode}
 
 -- "White space is U+0009 to U+000D, 0020, 0085, 00A0, 1680, 2000 to 200A, 2028, 2029, 202F, 205F, 3000 (hex)"

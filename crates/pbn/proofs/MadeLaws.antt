@@ -8,20 +8,20 @@ use mathlib.Core.List.{List, [], _∷_, _++_, append-assoc, append-nil, map}
 use mathlib.Core.Option.{Option, none, some}
 use lib.ListN.{length, take, drop, length-append, length-take}
 use lib.Seq.{take-append-seam, drop-at}
-use lib.Dec.{eqb, ltb}
+use lib.Dec.{eqb}
 use borrow.Author.Tests.{eq-eqb, ne-eqb, eqb-false, ltb-true, ltb-false}
 use Rattle.lin_spec.specs.Base.{pick, All, any, concat, ascii}
 use Rattle.lin_spec.specs.Records.{limit, span, part, bytesAt}
 use Rattle.lin_spec.specs.Output.{overlay}
 use Rattle.lin_spec.specs.Tokens.{pipe}
 use Rattle.lin_spec.specs.Board.{CallOf, BoardOf, mapOption, Present}
-use Rattle.lin_spec.specs.Reading.{maybeOf, claimedOf, headingOf, annotationWords, callWords}
+use Rattle.lin_spec.specs.Reading.{maybeOf, claimedOf, annotationWords, callWords}
 use Rattle.lin_spec.specs.Refusals.{sat}
 use Rattle.lin_spec.specs.Writer.{clean, orEmpty, present}
 use Rattle.lin_spec.specs.Decimal.{decimal}
 use Rattle.lin_spec.specs.Lent.{rowsOf}
 use Rattle.lin_spec.specs.Annotation.{annotationText}
-use Rattle.lin_spec.specs.Pbn.{Pbn, pbn, pbnNames, pbnRows, bidOf, rawOf, titleOf, labelOf, annotationBy, textBy, filledBy, nameBy, dealerBy, claimFrom, keptBy, keptCalls, keptCards, fromBoard, callTexts, boardTexts, laidNames, laidOption, laidCalls, laid, badCall}
+use Rattle.lin_spec.specs.Pbn.{pbn, pbnNames, pbnRows, bidOf, rawOf, titleOf, labelOf, annotationBy, textBy, filledBy, nameBy, dealerBy, claimFrom, keptBy, keptCalls, fromBoard, callTexts, boardTexts, laidNames, laidOption, laidCalls, laid, badCall}
 use Rattle.lin_spec.specs.declared.Span.{Span}
 use Rattle.lin_spec.specs.declared.MaybeSpan.{MaybeSpan}
 use Rattle.lin_spec.specs.declared.MaybeSpan.the-variants.{Absent as Nowhere, Present as There}
@@ -31,7 +31,7 @@ use Rattle.lin_spec.specs.declared.Verdict.the-variants.{Accepted}
 use Rattle.lin_spec.specs.declared.Heading.{Heading}
 use Rattle.lin_spec.specs.declared.PbnCall.{PbnCall}
 use Rattle.lin_spec.specs.declared.PbnBoard.{PbnBoard}
-use Rattle.lin_spec.proofs.Base.{picked, or-none}
+use Rattle.lin_spec.proofs.Base.{picked}
 use Rattle.lin_spec.proofs.White.{Visible}
 use Rattle.lin_spec.proofs.Clean.{clean-same}
 use Rattle.lin_spec.proofs.Accepted.{none-any}
@@ -43,8 +43,8 @@ use Rattle.annotation.proofs.AnnotationLaws.{absent-is}
 use Rattle.pbn.specs.declared.heading.Starts.{Starts}
 use Rattle.pbn_texts.specs.declared.texts.Label.{Label}
 use Rattle.pbn_texts.specs.declared.texts.Label.the-variants.{Absent, Id, Number}
-use Rattle.pbn_texts.specs.Texts.{labelBy, labelled, labelBytes, titleText, labelsText, labelledText, roomText, headerText}
-use Rattle.pbn_texts.specs.Calls.{isKept, keptMany, keptOne, bidBytes, noteBytes, callBytes, callsBytes}
+use Rattle.pbn_texts.specs.Texts.{labelBy, titleText, labelsText, labelledText, roomText, headerText}
+use Rattle.pbn_texts.specs.Calls.{isKept, keptMany, bidBytes, noteBytes, callBytes, callsBytes}
 use Rattle.pbn_texts.specs.Rows.{threeText, notedText, rowText, placedRow, placedRows}
 use Rattle.pbn_texts.specs.Names.{namesText}
 use Rattle.pbn_texts.specs.Raw.{rawText}

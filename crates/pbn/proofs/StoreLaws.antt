@@ -12,7 +12,6 @@ use borrow.Author.Tests.{lt-ltb, le-ltb, ltb-false}
 use Rattle.lin_spec.specs.Base.{pick, any}
 use Rattle.lin_spec.specs.Records.{limit}
 use Rattle.lin_spec.specs.Refusals.{Answer, refuseIf, unless, sat, tooSmall}
-use Rattle.lin_spec.specs.Refusals.Answer.{refused, accepted}
 use Rattle.lin_spec.specs.Output.{overlay, room}
 use Rattle.lin_spec.specs.Board.{CallOf, BoardOf}
 use Rattle.lin_spec.specs.Reading.{headingOf, callWords, fewRows}

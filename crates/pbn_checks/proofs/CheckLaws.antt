@@ -2,24 +2,22 @@
 -- Assumes nothing.
 use Prim.Native.Nat.{ℕ, _<_, _≤_}
 use mathlib.Core.Path.{_≡_, refl, ap, sym, _∙_}
-use mathlib.Core.Bool.{Bool, true, false, _&&_, _||_, not, or-assoc, or-false}
+use mathlib.Core.Bool.{Bool, true, false, _||_, or-assoc, or-false}
 use mathlib.Core.List.{List, [], _∷_, _++_}
-use mathlib.Core.Option.{Option, none, some}
 use lib.ListN.{length}
-use lib.Dec.{eqb, ltb}
+use lib.Dec.{ltb}
 use borrow.Author.Tests.{lt-ltb, le-ltb, eq-eqb, ne-eqb}
-use Rattle.lin_spec.specs.Base.{pick, any, concat}
+use Rattle.lin_spec.specs.Base.{any, concat}
 use Rattle.lin_spec.specs.Records.{limit, optionOf}
 use Rattle.lin_spec.specs.Refusals.{Answer, refuseIf, unless, passesEnd, illSpan}
 use Rattle.lin_spec.specs.Refusals.Answer.{refused, accepted}
 use Rattle.lin_spec.specs.Lent.{spanIn}
-use Rattle.lin_spec.specs.Pbn.{pbn, pbnNames, gap, pbnRows, rawOf, badEntry, badCall, badBoardNumber, badPbn, rawSpans, nameSpans, pbnSpans}
+use Rattle.lin_spec.specs.Pbn.{pbn, pbnNames, pbnRows, rawOf, badEntry, badCall, badBoardNumber, badPbn, rawSpans, nameSpans, pbnSpans}
 use Rattle.lin_spec.specs.Annotation.{noteSpans}
 use Rattle.lin_spec.specs.declared.Span.{Span}
 use Rattle.lin_spec.specs.declared.MaybeSpan.{MaybeSpan}
 use Rattle.lin_spec.specs.declared.PbnCall.{PbnCall}
 use Rattle.lin_spec.specs.declared.PbnBoard.{PbnBoard}
-use Rattle.lin_spec.specs.declared.Refusal.{Refusal}
 use Rattle.lin_spec.specs.declared.Refusal.the-variants.{TextTooLong, OutOfRange, SpanPastEnd, SpanNotUtf8}
 use Rattle.pbn_checks.specs.Checks.{pbnChecks, checked}
 

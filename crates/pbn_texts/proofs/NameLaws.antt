@@ -1,11 +1,11 @@
 -- Laws of the four names: one by one, back to back, and where each stands. (01: From PBN)
 -- Assumes nothing.
-use Prim.Native.Nat.{ℕ, suc, _+_, _≤_}
+use Prim.Native.Nat.{ℕ, _+_, _≤_}
 use native.Mathlib.Nat.{zero-add}
 use native.Mathlib.Omega.{arith}
-use mathlib.Core.Path.{_≡_, refl, ap, sym, _∙_}
+use mathlib.Core.Path.{_≡_, refl, ap, _∙_}
 use mathlib.Core.Bool.{not}
-use mathlib.Core.List.{List, [], _∷_, _++_, map, append-nil}
+use mathlib.Core.List.{List, [], _∷_, map, append-nil}
 use lib.ListN.{length, drop, length-take, length-drop, length-append}
 use lib.Dec.{eqb}
 use Rattle.lin_spec.specs.Base.{keep, concat}

@@ -6,7 +6,6 @@ use mathlib.Core.List.{List, [], _∷_}
 use Prim.Native.Nat.{ℕ, suc, _<_, _+_, _*_, _^_}
 use native.Mathlib.Omega.{arith}
 use lib.ListN.{getD}
-use lib.Dec.{T as Holds}
 use package.mir.Val.{Val}
 use denote.Struct.Laws as LL
 use Rattle.rows.specs.declared.CallRow.{CallRow}

@@ -1,13 +1,13 @@
 -- Laws of parts and lines as they are read: what is left to read of them, and what a cursor passes. (01: File)
 -- Assumes nothing.
-use Prim.Native.Nat.{ℕ, zero, suc, _+_, _-_, _^_, _≤_, _<_, min}
+use Prim.Native.Nat.{ℕ, _+_, _-_, _≤_, _<_}
 use native.Mathlib.Omega.{arith}
 use mathlib.Core.Path.{_≡_, refl, ap, sym, subst, _∙_}
 use mathlib.Core.Bool.{Bool, true, false, _&&_, _||_, not, false≢true, or-false, or-assoc}
 use mathlib.Core.List.{List, [], _∷_}
-use lib.ListN.{length, take, drop, length-drop}
-use lib.Dec.{eqb, ltb, leb}
-use borrow.Author.Tests.{eq-eqb, ne-eqb, eqb-true, le-leb, ltb-true, lt-ltb, le-ltb}
+use lib.ListN.{length, take, drop}
+use lib.Dec.{eqb, ltb}
+use borrow.Author.Tests.{eq-eqb, ne-eqb, eqb-true, le-leb, lt-ltb, le-ltb}
 use Rattle.lin_spec.specs.Base.{pick, null, ascii, any}
 use Rattle.lin_spec.specs.Records.{endOf, part}
 use Rattle.lin_spec.specs.Refusals.{unless, tooLong, notUtf8, sat}
@@ -15,18 +15,16 @@ use Rattle.lin_spec.specs.Refusals.Answer.{refused, accepted}
 use Rattle.lin_spec.specs.Document.{openText}
 use Rattle.lin_spec.specs.declared.Refusal.{Refusal}
 use Rattle.lin_spec.proofs.Checks.{unless-refused, unless-passed}
-use Rattle.document.specs.Steps.{openedOf as openedAt}
 use Rattle.document.specs.declared.tokens.Cursor.{Cursor}
 use Rattle.document.specs.declared.tokens.Opened.{Opened}
 use Rattle.document.specs.declared.tokens.Opened.the-variants.{At, Refused}
 use Rattle.lin_spec.specs.White.{blank, isCommand}
-use Rattle.lin_spec.specs.Tokens.{cut, TokenOf}
-use Rattle.lin_spec.specs.Tokens.TokenOf.{token}
+use Rattle.lin_spec.specs.Tokens.{cut}
 use Rattle.lin_spec.specs.Cards.{field}
 use Rattle.lin_spec.specs.Cursor.{findFrom}
 use Rattle.lin_spec.specs.Reading.{stream}
-use Rattle.lin_spec.specs.File.{Section as Part, section, tokensIn, holds, leads, partAt, Standing, Visit, after, visit, openBoards}
-use Rattle.lin_spec.specs.File.Visit.{found, ended}
+use Rattle.lin_spec.specs.File.{Section as Part, section, holds, leads, partAt, Standing, Visit, after, visit, openBoards}
+use Rattle.lin_spec.specs.File.Visit.{ended}
 use Rattle.lin_spec.specs.declared.Span.{Span}
 use Rattle.lin_spec.proofs.Base.{and-left, and-right, picked, split}
 use Rattle.lin_spec.proofs.Records.{part-length, part-rest}

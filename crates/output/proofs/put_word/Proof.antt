@@ -3,8 +3,6 @@ use borrow.Author.Needs.{needs}
 use Rattle.output.proofs.Laws.{set-overlay}
 use Rattle.output.proofs.put_word.Statement.{statement}
 use Rattle.output.proofs.put_word.Tie as tie
-use Rattle.output.proofs.put_word.Reads as reads
-use Rattle.output.proofs.put_word.Lts as lts
 
 -- src/lib.rt:21:5
 mul-out : tie.Need-mul-out

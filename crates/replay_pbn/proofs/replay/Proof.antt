@@ -5,12 +5,6 @@ use lib.ListN.{length}
 use borrow.Author.Needs.{needs}
 use Rattle.replay_pbn.proofs.replay.Statement.{statement}
 use Rattle.replay_pbn.proofs.replay.Tie as tie
-use Rattle.replay_pbn.proofs.replay.Reads as reads
-use Rattle.replay_pbn.proofs.replay.Lts as lts
-use Rattle.pbncheck.proofs.case_at.Reads as case-at-reads
-use Rattle.replay_pbn.proofs.scored.Reads as scored-reads
-use Rattle.vectors.proofs.counted.Reads as counted-reads
-use Rattle.vectors.proofs.fresh.Reads as fresh-reads
 
 abbrev Inv-loop : tie.InvT-loop
 Inv-loop file group space score₀ at₀ score at = Unit {0}

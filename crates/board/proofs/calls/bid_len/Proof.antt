@@ -3,14 +3,11 @@
 use Rattle.board.proofs.CallLaws.{take-whole, mark-off, mark-none, marks-only, take-len}
 use Rattle.lin_spec.specs.Board.{withoutEnd}
 use lib.ListN.{length, take}
-use mathlib.Core.Path.{_≡_, refl, sym, ap, _∙_}
-use borrow.Author.Needs.{needs}
+use mathlib.Core.Path.{_≡_, sym, ap, _∙_}
 use native.Mathlib.Omega.{arith}
 use Prim.Native.Nat.{_-_, _≤_}
 use Rattle.board.proofs.calls.bid_len.Statement.{statement}
 use Rattle.board.proofs.calls.bid_len.Tie as tie
-use Rattle.board.proofs.calls.bid_len.Reads as reads
-use Rattle.board.proofs.calls.bid_len.Lts as lts
 
 abbrev Inv-loop : tie.InvT-loop
 Inv-loop value n₀ n = (withoutEnd 0x21 (take n value) ≡ withoutEnd 0x21 value) × (n ≤ length value)

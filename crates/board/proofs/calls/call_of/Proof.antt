@@ -6,15 +6,10 @@ use Rattle.lin_spec.specs.Records.{optionOf}
 use Rattle.lin_spec.specs.Board.{withoutEnd}
 use lib.ListN.{length}
 use native.Mathlib.Omega.{arith}
-use mathlib.Core.Path.{_≡_, ap, sym, _∙_}
+use mathlib.Core.Path.{ap, sym, _∙_}
 use borrow.Author.Needs.{needs}
 use Rattle.board.proofs.calls.call_of.Statement.{statement}
 use Rattle.board.proofs.calls.call_of.Tie as tie
-use Rattle.board.proofs.calls.call_of.Reads as reads
-use Rattle.board.proofs.calls.call_of.Lts as lts
-use Rattle.board.proofs.calls.bid_len.Reads as bid-len-reads
-use Rattle.board.proofs.calls.flag_of.Reads as flag-of-reads
-use Rattle.text.proofs.shown.Reads as shown-reads
 
 -- src/calls.rt:72:21
 shown-requires : tie.Need-shown-requires

@@ -5,15 +5,12 @@ use Rattle.board.specs.Calls.{callsFrom}
 use Rattle.lin_spec.specs.Reading.{stream}
 use Rattle.commands.proofs.StepLaws.{known}
 use lib.ListN.{length}
-use mathlib.Core.Path.{_≡_, refl, _∙_, sym, ap}
+use mathlib.Core.Path.{_≡_, refl, _∙_, sym}
 use borrow.Author.Needs.{needs}
 use native.Mathlib.Omega.{arith}
 use Prim.Native.Nat.{_-_}
 use Rattle.board.proofs.calls.next_bid.Statement.{statement}
 use Rattle.board.proofs.calls.next_bid.Tie as tie
-use Rattle.board.proofs.calls.next_bid.Reads as reads
-use Rattle.board.proofs.calls.next_bid.Lts as lts
-use Rattle.commands.proofs.next_known.Reads as next-known-reads
 
 abbrev Inv-loop : tie.InvT-loop
 Inv-loop text c₀ c = callsFrom text (stream text (c .at)) ≡ callsFrom text (stream text (c₀ .at))

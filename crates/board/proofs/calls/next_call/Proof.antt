@@ -1,16 +1,10 @@
 -- `board::next_call` meets its contract: an mb, and the annotation after it.
 -- Assumes nothing.
 use Rattle.board.proofs.CallLaws.{bidden}
-use native.Mathlib.Omega.{arith}
-use mathlib.Core.Path.{_≡_, _∙_}
+use mathlib.Core.Path.{_∙_}
 use borrow.Author.Needs.{needs}
 use Rattle.board.proofs.calls.next_call.Statement.{statement}
 use Rattle.board.proofs.calls.next_call.Tie as tie
-use Rattle.board.proofs.calls.next_call.Reads as reads
-use Rattle.board.proofs.calls.next_call.Lts as lts
-use Rattle.board.proofs.calls.call_of.Reads as call-of-reads
-use Rattle.board.proofs.calls.next_bid.Reads as next-bid-reads
-use Rattle.board.proofs.calls.next_note.Reads as next-note-reads
 
 -- src/calls.rt:142:11
 next-bid-requires : tie.Need-next-bid-requires

@@ -9,16 +9,12 @@ use Rattle.lin_spec.specs.Records.{optionOf}
 use mathlib.Core.Option.{none}
 use Rattle.commands.proofs.StepLaws.{known}
 use lib.ListN.{length}
-use mathlib.Core.Path.{_≡_, refl, _∙_, sym, ap}
+use mathlib.Core.Path.{_≡_, refl, _∙_, sym}
 use borrow.Author.Needs.{needs}
 use native.Mathlib.Omega.{arith}
 use Prim.Native.Nat.{_-_}
 use Rattle.board.proofs.calls.next_note.Statement.{statement}
 use Rattle.board.proofs.calls.next_note.Tie as tie
-use Rattle.board.proofs.calls.next_note.Reads as reads
-use Rattle.board.proofs.calls.next_note.Lts as lts
-use Rattle.commands.proofs.on_present.Reads as on-present-reads
-use Rattle.commands.proofs.next_known.Reads as next-known-reads
 
 abbrev Inv-loop : tie.InvT-loop
 Inv-loop text annotation₀ c₀ annotation c = (x : CallOf Span) → callsAfter text x (optionOf annotation) (stream text (c .at)) ≡ callsAfter text x none (stream text (c₀ .at))

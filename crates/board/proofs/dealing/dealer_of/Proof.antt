@@ -4,8 +4,6 @@ use Rattle.lin_spec.specs.Board.{dealerOf}
 use borrow.Author.Tests.{eq-eqb, ne-eqb}
 use Rattle.board.proofs.dealing.dealer_of.Statement.{statement}
 use Rattle.board.proofs.dealing.dealer_of.Tie as tie
-use Rattle.board.proofs.dealing.dealer_of.Reads as reads
-use Rattle.board.proofs.dealing.dealer_of.Lts as lts
 
 -- src/dealing.rt:30:9
 returns : tie.Need-returns

@@ -1,17 +1,10 @@
 -- `board::dealt_by` meets its contract: before the first md, or from its value.
 -- Assumes nothing.
 use Rattle.board.proofs.DealingLaws.{short-value, from-none, from-some}
-use Rattle.lin_spec.specs.Records.{optionOf}
-use mathlib.Core.Path.{_≡_, ap, sym, _∙_}
+use mathlib.Core.Path.{_∙_}
 use borrow.Author.Needs.{needs}
 use Rattle.board.proofs.dealing.dealt_by.Statement.{statement}
 use Rattle.board.proofs.dealing.dealt_by.Tie as tie
-use Rattle.board.proofs.dealing.dealt_by.Reads as reads
-use Rattle.board.proofs.dealing.dealt_by.Lts as lts
-use Rattle.board.proofs.dealing.read_md.Reads as read-md-reads
-use Rattle.board.proofs.dealing.undealt.Reads as undealt-reads
-use Rattle.text.proofs.shown.Reads as shown-reads
-use Rattle.text.proofs.trim.Reads as trim-reads
 
 -- src/dealing.rt:76:30
 enum-told : tie.Need-enum-told

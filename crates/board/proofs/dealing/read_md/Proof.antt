@@ -2,15 +2,10 @@
 -- Assumes nothing.
 use Rattle.board.proofs.DealingLaws.{md-empty, md-none, md-given}
 use Rattle.board.specs.Dealing.{seatOf}
-use mathlib.Core.Path.{_≡_, ap, sym, _∙_}
+use mathlib.Core.Path.{ap, sym, _∙_}
 use borrow.Author.Needs.{needs}
 use Rattle.board.proofs.dealing.read_md.Statement.{statement}
 use Rattle.board.proofs.dealing.read_md.Tie as tie
-use Rattle.board.proofs.dealing.read_md.Reads as reads
-use Rattle.board.proofs.dealing.read_md.Lts as lts
-use Rattle.board.proofs.dealing.dealer_of.Reads as dealer-of-reads
-use Rattle.board.proofs.dealing.undealt.Reads as undealt-reads
-use Rattle.cards.proofs.deal_of.Reads as deal-of-reads
 
 -- src/dealing.rt:61:9
 undealt-requires : tie.Need-undealt-requires

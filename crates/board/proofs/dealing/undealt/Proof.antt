@@ -4,9 +4,6 @@ use Rattle.lin_spec.specs.Board.{undealt}
 use borrow.Author.Needs.{needs}
 use Rattle.board.proofs.dealing.undealt.Statement.{statement}
 use Rattle.board.proofs.dealing.undealt.Tie as tie
-use Rattle.board.proofs.dealing.undealt.Reads as reads
-use Rattle.board.proofs.dealing.undealt.Lts as lts
-use Rattle.lin_spec.proofs.Deal.new.Reads as new-reads
 
 -- src/dealing.rt:48:9
 new-requires : tie.Need-new-requires

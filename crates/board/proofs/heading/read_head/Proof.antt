@@ -8,14 +8,6 @@ use native.Mathlib.Omega.{arith}
 use Prim.Native.Nat.{_-_}
 use Rattle.board.proofs.heading.read_head.Statement.{statement}
 use Rattle.board.proofs.heading.read_head.Tie as tie
-use Rattle.board.proofs.heading.read_head.Reads as reads
-use Rattle.board.proofs.heading.read_head.Lts as lts
-use Rattle.board.proofs.heading.fresh_head.Reads as fresh-head-reads
-use Rattle.board.proofs.heading.step.Reads as step-reads
-use Rattle.commands.proofs.command_at.Reads as command-at-reads
-use Rattle.commands.proofs.on_card.Reads as on-card-reads
-use Rattle.commands.proofs.on_count.Reads as on-count-reads
-use Rattle.document.proofs.next_pipe.Reads as next-pipe-reads
 
 abbrev Inv-loop : tie.InvT-loop
 Inv-loop text at h₀ c₀ h c = Reads text at h c

@@ -3,15 +3,10 @@
 use Rattle.board.proofs.PlayLaws.{card-on, card-off}
 use Rattle.lin_spec.specs.White.{trim}
 use Rattle.lin_spec.specs.Cards.{readCard}
-use mathlib.Core.Path.{_≡_, ap, _∙_}
+use mathlib.Core.Path.{ap, _∙_}
 use borrow.Author.Needs.{needs}
 use Rattle.board.proofs.play.card_at.Statement.{statement}
 use Rattle.board.proofs.play.card_at.Tie as tie
-use Rattle.board.proofs.play.card_at.Reads as reads
-use Rattle.board.proofs.play.card_at.Lts as lts
-use Rattle.text.proofs.shown.Reads as shown-reads
-use Rattle.cards.proofs.read_card.Reads as read-card-reads
-use Rattle.text.proofs.trim.Reads as trim-reads
 
 -- src/play.rt:34:31
 shown-requires : tie.Need-shown-requires

@@ -12,10 +12,6 @@ use native.Mathlib.Omega.{arith}
 use Prim.Native.Nat.{_-_}
 use Rattle.board.proofs.play.next_card.Statement.{statement}
 use Rattle.board.proofs.play.next_card.Tie as tie
-use Rattle.board.proofs.play.next_card.Reads as reads
-use Rattle.board.proofs.play.next_card.Lts as lts
-use Rattle.board.proofs.play.card_at.Reads as card-at-reads
-use Rattle.commands.proofs.next_known.Reads as next-known-reads
 
 abbrev Inv-loop : tie.InvT-loop
 Inv-loop text c₀ c = cardsFrom text (stream text (c .at)) ≡ cardsFrom text (stream text (c₀ .at))

@@ -5,10 +5,6 @@ use Rattle.board.proofs.ReaderLaws.{read-heading}
 use borrow.Author.Needs.{needs}
 use Rattle.board.proofs.reader.heading_at.Statement.{statement}
 use Rattle.board.proofs.reader.heading_at.Tie as tie
-use Rattle.board.proofs.reader.heading_at.Reads as reads
-use Rattle.board.proofs.reader.heading_at.Lts as lts
-use Rattle.board.proofs.heading.read_head.Reads as read-head-reads
-use Rattle.board.proofs.reader.heading_of.Reads as heading-of-reads
 
 -- src/reader.rt:85:22
 read-head-requires : tie.Need-read-head-requires

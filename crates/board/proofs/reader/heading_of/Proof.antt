@@ -5,9 +5,6 @@ use Rattle.board.proofs.ReaderLaws.{with-deal}
 use borrow.Author.Needs.{needs}
 use Rattle.board.proofs.reader.heading_of.Statement.{statement}
 use Rattle.board.proofs.reader.heading_of.Tie as tie
-use Rattle.board.proofs.reader.heading_of.Reads as reads
-use Rattle.board.proofs.reader.heading_of.Lts as lts
-use Rattle.board.proofs.dealing.dealt_by.Reads as dealt-by-reads
 
 -- src/reader.rt:53:9
 dealt-by-requires : tie.Need-dealt-by-requires

@@ -4,9 +4,6 @@ use Rattle.board.proofs.ReaderLaws.{read-names}
 use borrow.Author.Needs.{needs}
 use Rattle.board.proofs.reader.names_at.Statement.{statement}
 use Rattle.board.proofs.reader.names_at.Tie as tie
-use Rattle.board.proofs.reader.names_at.Reads as reads
-use Rattle.board.proofs.reader.names_at.Lts as lts
-use Rattle.board.proofs.heading.read_head.Reads as read-head-reads
 
 -- src/reader.rt:123:9
 read-head-requires : tie.Need-read-head-requires

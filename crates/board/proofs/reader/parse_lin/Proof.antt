@@ -2,15 +2,10 @@
 -- Assumes nothing.
 use Rattle.board.proofs.ReaderLaws.{short, board-read, board-refused}
 use native.Mathlib.Omega.{arith}
-use mathlib.Core.Path.{_≡_, _∙_}
+use mathlib.Core.Path.{_∙_}
 use borrow.Author.Needs.{needs}
 use Rattle.board.proofs.reader.parse_lin.Statement.{statement}
 use Rattle.board.proofs.reader.parse_lin.Tie as tie
-use Rattle.board.proofs.reader.parse_lin.Reads as reads
-use Rattle.board.proofs.reader.parse_lin.Lts as lts
-use Rattle.board.proofs.reader.board_at.Reads as board-at-reads
-use Rattle.document.proofs.open.Reads as open-reads
-use Rattle.lin_spec.proofs.Heading.refused.Reads as refused-reads
 
 -- src/reader.rt:148:11
 open-requires : tie.Need-open-requires

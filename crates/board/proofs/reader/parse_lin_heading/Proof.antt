@@ -2,15 +2,10 @@
 -- Assumes nothing.
 use Rattle.board.proofs.ReaderLaws.{short, heading-read, heading-refused}
 use native.Mathlib.Omega.{arith}
-use mathlib.Core.Path.{_≡_, _∙_}
+use mathlib.Core.Path.{_∙_}
 use borrow.Author.Needs.{needs}
 use Rattle.board.proofs.reader.parse_lin_heading.Statement.{statement}
 use Rattle.board.proofs.reader.parse_lin_heading.Tie as tie
-use Rattle.board.proofs.reader.parse_lin_heading.Reads as reads
-use Rattle.board.proofs.reader.parse_lin_heading.Lts as lts
-use Rattle.board.proofs.reader.heading_at.Reads as heading-at-reads
-use Rattle.document.proofs.open.Reads as open-reads
-use Rattle.lin_spec.proofs.Heading.refused.Reads as refused-reads
 
 -- src/reader.rt:138:11
 open-requires : tie.Need-open-requires

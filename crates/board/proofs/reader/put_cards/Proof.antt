@@ -7,14 +7,10 @@ use Rattle.output.proofs.Laws.{Left, roomy, step, finish}
 use Rattle.lin_spec.specs.Reading.{stream}
 use lib.ListN.{length}
 use borrow.Author.Needs.{needs}
-use mathlib.Core.Path.{_≡_, ap}
+use mathlib.Core.Path.{ap}
 use native.Mathlib.Omega.{arith}
 use Rattle.board.proofs.reader.put_cards.Statement.{statement}
 use Rattle.board.proofs.reader.put_cards.Tie as tie
-use Rattle.board.proofs.reader.put_cards.Reads as reads
-use Rattle.board.proofs.reader.put_cards.Lts as lts
-use Rattle.board.proofs.play.next_card.Reads as next-card-reads
-use Rattle.output.proofs.put_byte.Reads as put-byte-reads
 
 abbrev Inv-loop : tie.InvT-loop
 Inv-loop cards₀ text at n₀ cursor₀ cards n cursor = Left cards n (cardsFrom text (stream text (cursor .at))) cards₀ 0 (boardAt text at .play)

@@ -4,8 +4,6 @@ use Rattle.board.proofs.ReaderLaws.{ample}
 use borrow.Author.Needs.{needs}
 use Rattle.board.proofs.reader.roomy.Statement.{statement}
 use Rattle.board.proofs.reader.roomy.Tie as tie
-use Rattle.board.proofs.reader.roomy.Reads as reads
-use Rattle.board.proofs.reader.roomy.Lts as lts
 
 -- src/reader.rt:102:17
 sub-most : tie.Need-sub-most

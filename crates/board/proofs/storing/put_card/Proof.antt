@@ -6,10 +6,6 @@ use Rattle.board.proofs.StoringLaws.{one-room, one-put, none-put}
 use borrow.Author.Needs.{needs}
 use Rattle.board.proofs.storing.put_card.Statement.{statement}
 use Rattle.board.proofs.storing.put_card.Tie as tie
-use Rattle.board.proofs.storing.put_card.Reads as reads
-use Rattle.board.proofs.storing.put_card.Lts as lts
-use Rattle.board.proofs.play.card_at.Reads as card-at-reads
-use Rattle.output.proofs.put_byte.Reads as put-byte-reads
 
 -- src/storing.rt:56:11
 card-at-requires : tie.Need-card-at-requires

@@ -9,17 +9,6 @@ use native.Mathlib.Omega.{arith}
 use Prim.Native.Nat.{_-_}
 use Rattle.board.proofs.storing.read_into.Statement.{statement}
 use Rattle.board.proofs.storing.read_into.Tie as tie
-use Rattle.board.proofs.storing.read_into.Reads as reads
-use Rattle.board.proofs.storing.read_into.Lts as lts
-use Rattle.board.proofs.calls.call_of.Reads as call-of-reads
-use Rattle.board.proofs.heading.fresh_head.Reads as fresh-head-reads
-use Rattle.board.proofs.heading.step.Reads as step-reads
-use Rattle.board.proofs.storing.put_call.Reads as put-call-reads
-use Rattle.board.proofs.storing.put_card.Reads as put-card-reads
-use Rattle.board.proofs.storing.put_note.Reads as put-note-reads
-use Rattle.commands.proofs.command_at.Reads as command-at-reads
-use Rattle.commands.proofs.on_count.Reads as on-count-reads
-use Rattle.document.proofs.next_pipe.Reads as next-pipe-reads
 
 abbrev Inv-loop : tie.InvT-loop
 Inv-loop text at rows₀ cards₀ h₀ n₀ c₀ rows cards h n c = Into text at rows₀ cards₀ rows cards h n c

@@ -4,7 +4,7 @@ use mathlib.Core.Path.{refl, ap}
 use Rattle.lin_spec.specs.White.{lower}
 use Rattle.lin_spec.specs.Cards.{indexOf, suitOf}
 use Rattle.cards.specs.Letters.{orElse}
-use Rattle.cards.proofs.LetterLaws.{one, either, no-suit}
+use Rattle.cards.proofs.LetterLaws.{either, no-suit}
 use Rattle.cards.proofs.letters.suit_number.Statement.{statement}
 use Rattle.cards.proofs.letters.suit_number.Tie as tie
 

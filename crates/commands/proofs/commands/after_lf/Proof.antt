@@ -4,8 +4,6 @@ use Rattle.commands.proofs.CommandLaws.{same-here, same-lf}
 use borrow.Author.Needs.{needs}
 use Rattle.commands.proofs.commands.after_lf.Statement.{statement}
 use Rattle.commands.proofs.commands.after_lf.Tie as tie
-use Rattle.commands.proofs.commands.after_lf.Reads as reads
-use Rattle.commands.proofs.commands.after_lf.Lts as lts
 
 -- src/commands.rt:146:9
 returns : tie.Need-returns

@@ -7,12 +7,6 @@ use Rattle.commands.proofs.CommandLaws.{two-bytes}
 use borrow.Author.Needs.{needs}
 use Rattle.commands.proofs.commands.command_at.Statement.{statement}
 use Rattle.commands.proofs.commands.command_at.Tie as tie
-use Rattle.commands.proofs.commands.command_at.Reads as reads
-use Rattle.commands.proofs.commands.command_at.Lts as lts
-use Rattle.commands.proofs.commands.after_lf.Reads as after-lf-reads
-use Rattle.commands.proofs.commands.pair_of.Reads as pair-of-reads
-use Rattle.commands.proofs.commands.word_of.Reads as word-of-reads
-use Rattle.text.proofs.trim.Reads as trim-reads
 
 -- src/commands.rt:159:9
 after-lf-requires : tie.Need-after-lf-requires

@@ -4,10 +4,6 @@ use Rattle.commands.proofs.CommandLaws.{marks-itself}
 use borrow.Author.Needs.{needs}
 use Rattle.commands.proofs.commands.mark_at.Statement.{statement}
 use Rattle.commands.proofs.commands.mark_at.Tie as tie
-use Rattle.commands.proofs.commands.mark_at.Reads as reads
-use Rattle.commands.proofs.commands.mark_at.Lts as lts
-use Rattle.commands.proofs.commands.command_at.Reads as command-at-reads
-use Rattle.commands.proofs.commands.no_mark.Reads as no-mark-reads
 
 -- src/commands.rt:185:8
 no-mark-requires : tie.Need-no-mark-requires

@@ -5,9 +5,6 @@ use Rattle.commands.proofs.CommandLaws.{marks-none}
 use borrow.Author.Needs.{needs}
 use Rattle.commands.proofs.commands.no_mark.Statement.{statement}
 use Rattle.commands.proofs.commands.no_mark.Tie as tie
-use Rattle.commands.proofs.commands.no_mark.Reads as reads
-use Rattle.commands.proofs.commands.no_mark.Lts as lts
-use Rattle.commands.proofs.commands.after_lf.Reads as after-lf-reads
 
 -- src/commands.rt:172:9
 after-lf-requires : tie.Need-after-lf-requires

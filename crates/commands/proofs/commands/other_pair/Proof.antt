@@ -4,8 +4,6 @@ use native.Mathlib.Omega.{arith}
 use Rattle.commands.proofs.CommandLaws.{code-pair, none-other}
 use Rattle.commands.proofs.commands.other_pair.Statement.{statement}
 use Rattle.commands.proofs.commands.other_pair.Tie as tie
-use Rattle.commands.proofs.commands.other_pair.Reads as reads
-use Rattle.commands.proofs.commands.other_pair.Lts as lts
 
 -- src/commands.rt:49:9
 returns : tie.Need-returns

@@ -6,10 +6,6 @@ use Rattle.commands.proofs.CommandLaws.{pair-code, code-word, none-p, n
 use borrow.Author.Needs.{needs}
 use Rattle.commands.proofs.commands.pair_of.Statement.{statement}
 use Rattle.commands.proofs.commands.pair_of.Tie as tie
-use Rattle.commands.proofs.commands.pair_of.Reads as reads
-use Rattle.commands.proofs.commands.pair_of.Lts as lts
-use Rattle.commands.proofs.commands.other_pair.Reads as other-pair-reads
-use Rattle.commands.proofs.commands.small.Reads as small-reads
 
 -- src/commands.rt:67:9
 small-requires : tie.Need-small-requires

@@ -6,8 +6,6 @@ use Rattle.lin_spec.specs.White.{lower}
 use borrow.Author.Needs.{needs}
 use Rattle.commands.proofs.commands.small.Statement.{statement}
 use Rattle.commands.proofs.commands.small.Tie as tie
-use Rattle.commands.proofs.commands.small.Reads as reads
-use Rattle.commands.proofs.commands.small.Lts as lts
 
 -- src/commands.rt:35:9
 returns : tie.Need-returns

@@ -4,10 +4,6 @@ use Rattle.commands.proofs.CommandLaws.{word-here, word-next}
 use borrow.Author.Needs.{needs}
 use Rattle.commands.proofs.commands.word_of.Statement.{statement}
 use Rattle.commands.proofs.commands.word_of.Tie as tie
-use Rattle.commands.proofs.commands.word_of.Reads as reads
-use Rattle.commands.proofs.commands.word_of.Lts as lts
-use Rattle.commands.proofs.commands.other_word_of.Reads as other-word-of-reads
-use Rattle.text.proofs.same_word.Reads as same-word-reads
 
 -- src/commands.rt:29:21
 slice-aggregate-same-word : tie.Need-slice-aggregate-same-word

@@ -3,8 +3,6 @@
 use borrow.Author.Needs.{needs}
 use Rattle.commands.proofs.fields.counted.Statement.{statement}
 use Rattle.commands.proofs.fields.counted.Tie as tie
-use Rattle.commands.proofs.fields.counted.Reads as reads
-use Rattle.commands.proofs.fields.counted.Lts as lts
 
 -- src/fields.rt:190:31
 enum-told : tie.Need-enum-told

@@ -4,8 +4,6 @@ use Rattle.commands.proofs.FieldLaws.{dealer-none, dealer-here}
 use borrow.Author.Needs.{needs}
 use Rattle.commands.proofs.fields.is_dealer.Statement.{statement}
 use Rattle.commands.proofs.fields.is_dealer.Tie as tie
-use Rattle.commands.proofs.fields.is_dealer.Reads as reads
-use Rattle.commands.proofs.fields.is_dealer.Lts as lts
 
 -- src/fields.rt:121:9
 returns : tie.Need-returns

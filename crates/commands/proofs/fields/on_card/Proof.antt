@@ -10,12 +10,6 @@ use Rattle.commands.proofs.FieldLaws.{off, changed}
 use borrow.Author.Needs.{needs}
 use Rattle.commands.proofs.fields.on_card.Statement.{statement}
 use Rattle.commands.proofs.fields.on_card.Tie as tie
-use Rattle.commands.proofs.fields.on_card.Reads as reads
-use Rattle.commands.proofs.fields.on_card.Lts as lts
-use Rattle.commands.proofs.fields.counted.Reads as counted-reads
-use Rattle.text.proofs.shown.Reads as shown-reads
-use Rattle.cards.proofs.read_card.Reads as read-card-reads
-use Rattle.text.proofs.trim.Reads as trim-reads
 
 -- src/fields.rt:180:9
 returns : tie.Need-returns

@@ -10,11 +10,6 @@ use native.Mathlib.Omega.{arith}
 use borrow.Author.Needs.{needs}
 use Rattle.commands.proofs.fields.on_claim.Statement.{statement}
 use Rattle.commands.proofs.fields.on_claim.Tie as tie
-use Rattle.commands.proofs.fields.on_claim.Reads as reads
-use Rattle.commands.proofs.fields.on_claim.Lts as lts
-use Rattle.text.proofs.shown.Reads as shown-reads
-use Rattle.text.proofs.read_number.Reads as read-number-reads
-use Rattle.text.proofs.trim.Reads as trim-reads
 
 -- src/fields.rt:147:9
 returns : tie.Need-returns

@@ -5,8 +5,6 @@ use Rattle.commands.proofs.FieldLaws.{off, changed}
 use borrow.Author.Needs.{needs}
 use Rattle.commands.proofs.fields.on_count.Statement.{statement}
 use Rattle.commands.proofs.fields.on_count.Tie as tie
-use Rattle.commands.proofs.fields.on_count.Reads as reads
-use Rattle.commands.proofs.fields.on_count.Lts as lts
 
 -- src/fields.rt:169:9
 returns : tie.Need-returns

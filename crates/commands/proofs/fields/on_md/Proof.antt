@@ -1,17 +1,12 @@
 -- `commands::on_md` meets its contract: by the dealer's digit.
 -- Assumes nothing.
 use Rattle.commands.proofs.FieldLaws.{off, changed}
-use mathlib.Core.Path.{_≡_, ap, sym, _∙_}
+use mathlib.Core.Path.{ap, sym, _∙_}
 use Rattle.lin_spec.specs.White.{trim}
 use Rattle.commands.specs.Fields.{isDealer}
 use borrow.Author.Needs.{needs}
 use Rattle.commands.proofs.fields.on_md.Statement.{statement}
 use Rattle.commands.proofs.fields.on_md.Tie as tie
-use Rattle.commands.proofs.fields.on_md.Reads as reads
-use Rattle.commands.proofs.fields.on_md.Lts as lts
-use Rattle.commands.proofs.fields.is_dealer.Reads as is-dealer-reads
-use Rattle.text.proofs.shown.Reads as shown-reads
-use Rattle.text.proofs.trim.Reads as trim-reads
 
 -- src/fields.rt:131:9
 returns : tie.Need-returns

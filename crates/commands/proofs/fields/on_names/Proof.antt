@@ -1,7 +1,6 @@
 -- `commands::on_names` meets its contract: the pieces of the value.
 -- Assumes nothing.
 use mathlib.Core.Path.{ap, _∙_}
-use lib.ListN.{length}
 use mathlib.Core.List.{List}
 use Prim.Native.Nat.{ℕ}
 use denote.Ref.{now}
@@ -11,10 +10,6 @@ use Rattle.commands.proofs.FieldLaws.{off, changed, names-by, value-end
 use borrow.Author.Needs.{needs}
 use Rattle.commands.proofs.fields.on_names.Statement.{statement}
 use Rattle.commands.proofs.fields.on_names.Tie as tie
-use Rattle.commands.proofs.fields.on_names.Reads as reads
-use Rattle.commands.proofs.fields.on_names.Lts as lts
-use Rattle.text.proofs.shown.Reads as shown-reads
-use Rattle.commands.proofs.fields.split_names.Reads as split-names-reads
 
 -- src/fields.rt:63:9
 returns : tie.Need-returns

@@ -5,8 +5,6 @@ use mathlib.Core.Path.{refl}
 use Rattle.commands.proofs.FieldLaws.{off, changed}
 use Rattle.commands.proofs.fields.on_present.Statement.{statement}
 use Rattle.commands.proofs.fields.on_present.Tie as tie
-use Rattle.commands.proofs.fields.on_present.Reads as reads
-use Rattle.commands.proofs.fields.on_present.Lts as lts
 
 -- src/fields.rt:52:9
 returns : tie.Need-returns

@@ -7,11 +7,6 @@ use Rattle.lin_spec.specs.Board.{readSv}
 use borrow.Author.Needs.{needs}
 use Rattle.commands.proofs.fields.on_sv.Statement.{statement}
 use Rattle.commands.proofs.fields.on_sv.Tie as tie
-use Rattle.commands.proofs.fields.on_sv.Reads as reads
-use Rattle.commands.proofs.fields.on_sv.Lts as lts
-use Rattle.commands.proofs.fields.read_sv.Reads as read-sv-reads
-use Rattle.text.proofs.shown.Reads as shown-reads
-use Rattle.text.proofs.trim.Reads as trim-reads
 
 -- src/fields.rt:111:9
 returns : tie.Need-returns

@@ -4,8 +4,6 @@ use Rattle.commands.proofs.FieldLaws.{off, changed}
 use borrow.Author.Tests.{eq-eqb, ne-eqb}
 use Rattle.commands.proofs.fields.on_value.Statement.{statement}
 use Rattle.commands.proofs.fields.on_value.Tie as tie
-use Rattle.commands.proofs.fields.on_value.Reads as reads
-use Rattle.commands.proofs.fields.on_value.Lts as lts
 
 -- src/fields.rt:39:9
 returns : tie.Need-returns

@@ -4,9 +4,6 @@ use Rattle.commands.proofs.FieldLaws.{sv-n, sv-e, sv-b, sv-none}
 use borrow.Author.Needs.{needs}
 use Rattle.commands.proofs.fields.read_sv.Statement.{statement}
 use Rattle.commands.proofs.fields.read_sv.Tie as tie
-use Rattle.commands.proofs.fields.read_sv.Reads as reads
-use Rattle.commands.proofs.fields.read_sv.Lts as lts
-use Rattle.text.proofs.same_word.Reads as same-word-reads
 
 -- src/fields.rt:95:21
 slice-aggregate-same-word : tie.Need-slice-aggregate-same-word

@@ -7,9 +7,6 @@ use mathlib.Core.Path.{refl}
 use Rattle.commands.proofs.FieldLaws.{Named, find-most, name-place, name-last, name-next, names-done}
 use Rattle.commands.proofs.fields.split_names.Statement.{statement}
 use Rattle.commands.proofs.fields.split_names.Tie as tie
-use Rattle.commands.proofs.fields.split_names.Reads as reads
-use Rattle.commands.proofs.fields.split_names.Lts as lts
-use Rattle.text.proofs.find_byte.Reads as find-byte-reads
 
 abbrev Inv-loop : tie.InvT-loop
 Inv-loop value start names₀ place₀ seat₀ names place seat = Named value start names₀ names place seat

@@ -5,9 +5,6 @@ use native.Mathlib.Omega.{arith}
 use borrow.Author.Needs.{needs}
 use Rattle.commands.proofs.steps.next_known.Statement.{statement}
 use Rattle.commands.proofs.steps.next_known.Tie as tie
-use Rattle.commands.proofs.steps.next_known.Reads as reads
-use Rattle.commands.proofs.steps.next_known.Lts as lts
-use Rattle.commands.proofs.steps.next_command.Reads as next-command-reads
 
 -- src/steps.rt:43:11
 next-command-requires : tie.Need-next-command-requires

@@ -1,7 +1,6 @@
 -- `document::put_document` meets its contract: a turn takes one run off what is left to write.
 -- Assumes nothing.
 use Prim.Native.Nat.{_+_, _-_, _≤_}
-use mathlib.Core.Path.{_≡_}
 use mathlib.Core.List.{[], _++_}
 use native.Mathlib.Omega.{arith}
 use lib.ListN.{length, drop}

@@ -4,7 +4,6 @@ use Prim.Native.Nat.{ℕ}
 use mathlib.Core.List.{List}
 use lib.ListN.{drop}
 use denote.Ref.{now}
-use borrow.Author.Needs.{needs}
 use Rattle.output.specs.Put.{joined}
 use Rattle.output.proofs.Laws.{Left, start, roomy, step, finish}
 use Rattle.document_writer.specs.Rows.{rowPieces, rowText}

@@ -3,7 +3,7 @@
 use Rattle.text.proofs.ListLaws.{same-length, same-end, same-differ, same-next}
 use Rattle.lin_spec.specs.Base.{eqList}
 use lib.ListN.{length, drop}
-use mathlib.Core.Path.{_≡_, refl}
+use mathlib.Core.Path.{_≡_}
 use native.Mathlib.Omega.{arith}
 use Prim.Native.Nat.{_-_}
 use Rattle.equality.proofs.bytes.same_bytes.Statement.{statement}

@@ -4,7 +4,6 @@ use Prim.Native.Nat.{_-_}
 use native.Mathlib.Omega.{arith}
 use mathlib.Core.Path.{_≡_, refl, _∙_}
 use lib.ListN.{length, drop}
-use borrow.Author.Needs.{needs}
 use Rattle.lin_spec.specs.Base.{eqList}
 use Rattle.equality.proofs.bytes.sixteens_end.Statement.{statement}
 use Rattle.equality.proofs.bytes.sixteens_end.Tie as tie

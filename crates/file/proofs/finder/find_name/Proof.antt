@@ -1,7 +1,7 @@
 -- `file::find_name` meets its contract: each answer by the tests that led there.
 -- Assumes nothing.
 use Rattle.file.proofs.FinderLaws.{find-long, find-name-long, find-ill, find-name-ill, find-counted, first-ready}
-use mathlib.Core.Path.{_≡_, refl}
+use mathlib.Core.Path.{refl}
 use borrow.Author.Needs.{needs}
 use Rattle.file.proofs.finder.find_name.Statement.{statement}
 use Rattle.file.proofs.finder.find_name.Tie as tie

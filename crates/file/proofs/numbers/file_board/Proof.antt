@@ -1,7 +1,6 @@
 -- `file::file_board` meets its contract.
 -- Assumes nothing.
 use Rattle.file.proofs.NumberLaws.{ready, given, stop-is, stop-within, board-refused, board-found, board-missing}
-use native.Mathlib.Omega.{arith}
 use borrow.Author.Needs.{needs}
 use Rattle.file.proofs.numbers.file_board.Statement.{statement}
 use Rattle.file.proofs.numbers.file_board.Tie as tie

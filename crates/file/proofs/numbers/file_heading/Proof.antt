@@ -1,7 +1,6 @@
 -- `file::file_heading` meets its contract.
 -- Assumes nothing.
 use Rattle.file.proofs.NumberLaws.{ready, given, stop-is, stop-within, heading-refused, heading-found, heading-missing}
-use native.Mathlib.Omega.{arith}
 use borrow.Author.Needs.{needs}
 use Rattle.file.proofs.numbers.file_heading.Statement.{statement}
 use Rattle.file.proofs.numbers.file_heading.Tie as tie

@@ -3,9 +3,6 @@
 use borrow.Author.Needs.{needs}
 use Rattle.host_numbers.proofs.records.bad_names.Statement.{statement}
 use Rattle.host_numbers.proofs.records.bad_names.Tie as tie
-use Rattle.host_numbers.proofs.records.bad_names.Reads as reads
-use Rattle.host_numbers.proofs.records.bad_names.Lts as lts
-use Rattle.host_numbers.proofs.codes.bad_three.Reads as bad-three-reads
 
 bad-three-requires : tie.Need-bad-three-requires
 bad-three-requires c κs = search needs

@@ -2,7 +2,7 @@
 -- Assumes nothing.
 use mathlib.Core.Path.{sym, _∙_}
 use denote.Ref.{now}
-use Rattle.lent.specs.Checks.{lookOf, WholeIfTorn}
+use Rattle.lent.specs.Checks.{lookOf}
 use Rattle.lent.proofs.LentLaws.{head-any}
 use borrow.Author.Needs.{needs}
 use Rattle.lent.proofs.checks.head_meets.Statement.{statement}

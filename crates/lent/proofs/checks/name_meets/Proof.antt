@@ -7,7 +7,7 @@ use lib.ListN.{length, drop}
 use borrow.Author.Needs.{needs}
 use Rattle.lin_spec.specs.Base.{any}
 use Rattle.lin_spec.specs.Records.{span}
-use Rattle.lent.specs.Checks.{lookOf, WholeIfTorn}
+use Rattle.lent.specs.Checks.{lookOf}
 use Rattle.text.proofs.ListLaws.{any-end, any-found, any-next}
 use Rattle.lent.proofs.checks.name_meets.Statement.{statement}
 use Rattle.lent.proofs.checks.name_meets.Tie as tie

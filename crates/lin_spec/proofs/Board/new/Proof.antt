@@ -3,9 +3,6 @@
 use borrow.Author.Needs.{needs}
 use Rattle.lin_spec.proofs.Board.new.Statement.{statement}
 use Rattle.lin_spec.proofs.Board.new.Tie as tie
-use Rattle.lin_spec.proofs.Board.new.Reads as reads
-use Rattle.lin_spec.proofs.Board.new.Lts as lts
-use Rattle.lin_spec.proofs.Deal.new.Reads as new-reads
 
 -- src/lib.rt:164:13
 new-requires : tie.Need-new-requires

@@ -3,9 +3,6 @@
 use borrow.Author.Needs.{needs}
 use Rattle.lin_spec.proofs.Heading.refused.Statement.{statement}
 use Rattle.lin_spec.proofs.Heading.refused.Tie as tie
-use Rattle.lin_spec.proofs.Heading.refused.Reads as reads
-use Rattle.lin_spec.proofs.Heading.refused.Lts as lts
-use Rattle.lin_spec.proofs.Board.new.Reads as new-reads
 
 -- src/lib.rt:198:13
 new-requires : tie.Need-new-requires

@@ -1,6 +1,6 @@
 -- `pbn::claim_of` meets its contract: what the tests read is the result, since it fits 32 bits.
 -- Assumes nothing.
-use mathlib.Core.Path.{_≡_, ap, _∙_}
+use mathlib.Core.Path.{ap, _∙_}
 use native.Mathlib.Omega.{arith}
 use lib.IntN.{ℤ}
 use mir.Syntax.{w32}
@@ -9,7 +9,6 @@ use mir.ValLaws.{toZ-ofZ}
 use Rattle.pbn.proofs.DealingLaws.{claimBy, claim-below, claim-beyond, claim-within}
 use Rattle.pbn.proofs.dealing.claim_of.Statement.{statement}
 use Rattle.pbn.proofs.dealing.claim_of.Tie as tie
-use Rattle.pbn.proofs.dealing.claim_of.Reads as reads
 
 -- the result as the machine reads it
 abbrev read : ℤ → ℤ

@@ -2,7 +2,6 @@
 -- Assumes nothing.
 use mathlib.Core.Path.{ap}
 use Rattle.lin_spec.specs.declared.Heading.{Heading}
-use Rattle.lin_spec.specs.declared.Converted.{Converted}
 use borrow.Author.Needs.{needs}
 use Rattle.pbn.proofs.entry.refused.Statement.{statement}
 use Rattle.pbn.proofs.entry.refused.Tie as tie

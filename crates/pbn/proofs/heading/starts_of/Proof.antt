@@ -1,7 +1,6 @@
 -- `pbn::starts_of` meets its contract: each place by the lengths before it, all of them within the limit.
 -- Assumes nothing.
 use native.Mathlib.Omega.{arith}
-use mathlib.Core.Path.{_∙_}
 use denote.Ref.{now}
 use Rattle.pbn.proofs.MadeLaws.{starts-within, starts-are}
 use borrow.Author.Needs.{needs}

@@ -1,10 +1,6 @@
 -- `pbn::put_texts` meets its contract: two puts, the second cleaned where it stands.
 -- Assumes nothing.
-use native.Mathlib.Omega.{arith}
-use mathlib.Core.Path.{ap, _∙_}
-use lib.ListN.{length}
 use denote.Ref.{now}
-use Rattle.output.proofs.Laws.{length-overlay}
 use Rattle.pbn.proofs.MadeLaws.{names-fit, raw-fit, texts-put, raw-ends}
 use borrow.Author.Needs.{needs}
 use Rattle.pbn.proofs.made.put_texts.Statement.{statement}

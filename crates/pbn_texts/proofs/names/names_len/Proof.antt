@@ -4,7 +4,6 @@ use mathlib.Core.Path.{_≡_}
 use native.Mathlib.Omega.{arith}
 use lib.ListN.{length}
 use denote.Ref.{now}
-use Rattle.lin_spec.specs.declared.MaybeSpan.{MaybeSpan}
 use Rattle.pbn_texts.proofs.NameLaws.{names-long}
 use borrow.Author.Needs.{needs}
 use Rattle.pbn_texts.proofs.names.names_len.Statement.{statement}

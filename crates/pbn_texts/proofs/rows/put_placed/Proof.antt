@@ -2,7 +2,7 @@
 -- Assumes nothing.
 use native.Mathlib.Omega.{arith}
 use denote.Ref.{now}
-use Rattle.pbn_texts.proofs.RowLaws.{row-dropped, note-is, row-after, row-kept}
+use Rattle.pbn_texts.proofs.RowLaws.{row-dropped, row-after, row-kept}
 use borrow.Author.Needs.{needs}
 use Rattle.pbn_texts.proofs.rows.put_placed.Statement.{statement}
 use Rattle.pbn_texts.proofs.rows.put_placed.Tie as tie

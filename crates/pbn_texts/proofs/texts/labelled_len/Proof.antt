@@ -2,7 +2,7 @@
 -- Assumes nothing.
 use denote.Ref.{now}
 use native.Mathlib.Omega.{arith}
-use mathlib.Core.Path.{ap, _∙_}
+use mathlib.Core.Path.{ap}
 use lib.ListN.{length}
 use Rattle.pbn_texts.proofs.TextLaws.{labelled-yes, labelled-no, labels-long}
 use borrow.Author.Needs.{needs}

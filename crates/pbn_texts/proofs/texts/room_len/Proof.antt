@@ -2,8 +2,6 @@
 -- Assumes nothing.
 use denote.Ref.{now}
 use native.Mathlib.Omega.{arith}
-use mathlib.Core.Path.{ap}
-use lib.ListN.{length}
 use Rattle.pbn_texts.proofs.TextLaws.{room-long, room-none}
 use borrow.Author.Needs.{needs}
 use Rattle.pbn_texts.proofs.texts.room_len.Statement.{statement}

@@ -5,14 +5,6 @@ use mathlib.Core.Path.{_≡_}
 use borrow.Author.Needs.{needs}
 use Rattle.pbncheck.proofs.made.put_calls.Statement.{statement}
 use Rattle.pbncheck.proofs.made.put_calls.Tie as tie
-use Rattle.pbncheck.proofs.made.put_calls.Reads as reads
-use Rattle.pbncheck.proofs.made.put_calls.Lts as lts
-use Rattle.boardcheck.proofs.span_of.Reads as span-of-reads
-use Rattle.pbncheck.proofs.made.call_of.Reads as call-of-reads
-use Rattle.pbncheck.proofs.made.put_call.Reads as put-call-reads
-use Rattle.std.proofs.num.wrapping_add_usize.Reads as wrapping-add-usize-reads
-use Rattle.text.proofs.part.Reads as part-reads
-use Rattle.vectors.proofs.field_at.Reads as field-at-reads
 
 abbrev Inv-loop : tie.InvT-loop
 Inv-loop file words₀ calls next₀ used₀ at₀ left₀ words next used at left = length words ≡ length words₀

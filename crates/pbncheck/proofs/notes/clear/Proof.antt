@@ -4,9 +4,6 @@ use Prim.Native.Nat.{_-_}
 use borrow.Author.Needs.{needs}
 use Rattle.pbncheck.proofs.notes.clear.Statement.{statement}
 use Rattle.pbncheck.proofs.notes.clear.Tie as tie
-use Rattle.pbncheck.proofs.notes.clear.Reads as reads
-use Rattle.pbncheck.proofs.notes.clear.Lts as lts
-use Rattle.pbncheck.proofs.notes.put_absent.Reads as put-absent-reads
 
 abbrev Inv-loop : tie.InvT-loop
 Inv-loop notes₀ n₀ notes n = Unit {0}

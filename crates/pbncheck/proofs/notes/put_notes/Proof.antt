@@ -3,12 +3,6 @@
 use borrow.Author.Needs.{needs}
 use Rattle.pbncheck.proofs.notes.put_notes.Statement.{statement}
 use Rattle.pbncheck.proofs.notes.put_notes.Tie as tie
-use Rattle.pbncheck.proofs.notes.put_notes.Reads as reads
-use Rattle.pbncheck.proofs.notes.put_notes.Lts as lts
-use Rattle.boardcheck.proofs.span_of.Reads as span-of-reads
-use Rattle.pbncheck.proofs.notes.put_note.Reads as put-note-reads
-use Rattle.vectors.proofs.field_at.Reads as field-at-reads
-use Rattle.vectors.proofs.number_at.Reads as number-at-reads
 
 abbrev Inv-loop : tie.InvT-loop
 Inv-loop file at count notes₀ next₀ left₀ notes next left = Unit {0}

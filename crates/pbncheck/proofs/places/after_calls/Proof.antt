@@ -3,11 +3,6 @@
 use borrow.Author.Needs.{needs}
 use Rattle.pbncheck.proofs.places.after_calls.Statement.{statement}
 use Rattle.pbncheck.proofs.places.after_calls.Tie as tie
-use Rattle.pbncheck.proofs.places.after_calls.Reads as reads
-use Rattle.pbncheck.proofs.places.after_calls.Lts as lts
-use Rattle.pbncheck.proofs.places.after_row.Reads as after-row-reads
-use Rattle.std.proofs.num.wrapping_add_usize.Reads as wrapping-add-usize-reads
-use Rattle.vectors.proofs.field_at.Reads as field-at-reads
 
 abbrev Inv-loop : tie.InvT-loop
 Inv-loop file rows p₀ next₀ row₀ left₀ p next row left = Unit {0}

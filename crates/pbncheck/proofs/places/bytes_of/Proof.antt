@@ -3,10 +3,6 @@
 use borrow.Author.Needs.{needs}
 use Rattle.pbncheck.proofs.places.bytes_of.Statement.{statement}
 use Rattle.pbncheck.proofs.places.bytes_of.Tie as tie
-use Rattle.pbncheck.proofs.places.bytes_of.Reads as reads
-use Rattle.pbncheck.proofs.places.bytes_of.Lts as lts
-use Rattle.std.proofs.num.wrapping_add_usize.Reads as wrapping-add-usize-reads
-use Rattle.vectors.proofs.field_at.Reads as field-at-reads
 
 abbrev Inv-loop : tie.InvT-loop
 Inv-loop file at fields sum₀ next₀ left₀ sum next left = Unit {0}

@@ -1,7 +1,7 @@
 -- `replay_annotation::answers::text_within` is safe: the bytes that it lends are no more than there are.
 -- Assumes nothing.
 use borrow.Author.Needs.{needs}
-use lib.ListN.{length, length-take}
+use lib.ListN.{length-take}
 use native.Mathlib.Omega.{arith}
 use Rattle.replay_annotation.proofs.answers.text_within.Statement.{statement}
 use Rattle.replay_annotation.proofs.answers.text_within.Tie as tie

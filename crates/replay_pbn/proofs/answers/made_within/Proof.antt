@@ -1,14 +1,10 @@
 -- `replay_pbn::answers::made_within` is safe: what it lends is no more than there is.
 -- Assumes nothing.
 use native.Mathlib.Omega.{arith}
-use lib.ListN.{length, length-take}
+use lib.ListN.{length-take}
 use borrow.Author.Needs.{needs}
 use Rattle.replay_pbn.proofs.answers.made_within.Statement.{statement}
 use Rattle.replay_pbn.proofs.answers.made_within.Tie as tie
-use Rattle.replay_pbn.proofs.answers.made_within.Reads as reads
-use Rattle.replay_pbn.proofs.answers.made_within.Lts as lts
-use Rattle.boardcheck.proofs.least.Reads as least-reads
-use Rattle.pbn.proofs.from_board.Reads as from-board-reads
 
 least-requires : tie.Need-least-requires
 least-requires c κs = search needs

@@ -4,9 +4,6 @@ use Prim.Native.Nat.{_-_}
 use borrow.Author.Needs.{needs}
 use Rattle.replay_pbn.proofs.order.choices.Statement.{statement}
 use Rattle.replay_pbn.proofs.order.choices.Tie as tie
-use Rattle.replay_pbn.proofs.order.choices.Reads as reads
-use Rattle.replay_pbn.proofs.order.choices.Lts as lts
-use Rattle.replay_pbn.proofs.order.tried.Reads as tried-reads
 
 abbrev Inv-loop : tie.InvT-loop
 Inv-loop space s₀ n₀ s n = Unit {0}

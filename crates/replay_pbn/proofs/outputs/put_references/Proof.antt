@@ -4,9 +4,6 @@ use Prim.Native.Nat.{_-_}
 use borrow.Author.Needs.{needs}
 use Rattle.replay_pbn.proofs.outputs.put_references.Statement.{statement}
 use Rattle.replay_pbn.proofs.outputs.put_references.Tie as tie
-use Rattle.replay_pbn.proofs.outputs.put_references.Reads as reads
-use Rattle.replay_pbn.proofs.outputs.put_references.Lts as lts
-use Rattle.replay_pbn.proofs.outputs.put_reference.Reads as put-reference-reads
 
 abbrev Inv-loop : tie.InvT-loop
 Inv-loop text₀ n₀ text n = Unit {0}

@@ -4,10 +4,6 @@ use Prim.Native.Nat.{_-_}
 use borrow.Author.Needs.{needs}
 use Rattle.replay_pbn.proofs.refusals.spans.Statement.{statement}
 use Rattle.replay_pbn.proofs.refusals.spans.Tie as tie
-use Rattle.replay_pbn.proofs.refusals.spans.Reads as reads
-use Rattle.replay_pbn.proofs.refusals.spans.Lts as lts
-use Rattle.replay_pbn.proofs.refusals.lent.Reads as lent-reads
-use Rattle.vectors.proofs.counted.Reads as counted-reads
 
 abbrev Inv-loop : tie.InvT-loop
 Inv-loop text start len number s₀ place₀ s place = Unit {0}

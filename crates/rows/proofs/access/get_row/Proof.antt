@@ -41,7 +41,6 @@ use Rattle.rows.specs.declared.CallRow.{CallRow}
 use Rattle.rows.proofs.Walking.{vals, mach, on, off, fits-place}
 use Rattle.rows.proofs.CallRow as T
 use Rattle.rows.proofs.CallRow.Laws as T′
-use Rattle.rows.proofs.access.get_row.Key.{name as #rows·get-row}
 use Rattle.rows.proofs.access.get_row as f
 use Rattle.rows.proofs.access.get_row.Statement as stated
 use Rattle.rows.proofs.access.get_row.Code as code

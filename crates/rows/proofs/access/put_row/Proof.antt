@@ -46,7 +46,6 @@ use Rattle.rows.specs.Rows.{emptyRow}
 use Rattle.rows.proofs.Walking.{vals, mach, on, off, fits-place}
 use Rattle.rows.proofs.CallRow as T
 use Rattle.rows.proofs.CallRow.Laws as T′
-use Rattle.rows.proofs.access.put_row.Key.{name as #rows·put-row}
 use Rattle.rows.proofs.access.put_row as f
 use Rattle.rows.proofs.access.put_row.Statement as stated
 use Rattle.rows.proofs.access.put_row.Code as code

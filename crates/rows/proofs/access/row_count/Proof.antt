@@ -34,7 +34,6 @@ use denote.Triple.Walked.{says, Stays, stay-none-slice, walkOf, AllGo, goes-none
 use denote.Exit.{yes}
 use Rattle.rows.specs.declared.CallRow.{CallRow}
 use Rattle.rows.proofs.CallRow as T
-use Rattle.rows.proofs.access.row_count.Key.{name as #rows·row-count}
 use Rattle.rows.proofs.access.row_count as f
 use Rattle.rows.proofs.access.row_count.Statement as stated
 use Rattle.rows.proofs.access.row_count.Code as code

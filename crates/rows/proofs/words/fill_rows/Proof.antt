@@ -59,13 +59,10 @@ use Rattle.rows.proofs.CallRow as T
 use Rattle.rows.proofs.CallRow.Laws as T′
 use Rattle.rows.proofs.words.rows_both as rows-both
 use Rattle.rows.proofs.words.rows_both.Symbol as rows-both-def
-use Rattle.rows.proofs.words.rows_both.Symbol.{name as #rows·rows-both}
 use Rattle.rows.proofs.words.rows_both.Met as rows-both-thm
 use Rattle.rows.proofs.words.row_at as row-at
 use Rattle.rows.proofs.words.row_at.Symbol as row-at-def
-use Rattle.rows.proofs.words.row_at.Symbol.{name as #rows·row-at}
 use Rattle.rows.proofs.words.row_at.Met as row-at-thm
-use Rattle.rows.proofs.words.fill_rows.Key.{name as #rows·fill-rows}
 use Rattle.rows.proofs.words.fill_rows as f
 use Rattle.rows.proofs.words.fill_rows.Statement as stated
 use Rattle.rows.proofs.words.fill_rows.Code as code

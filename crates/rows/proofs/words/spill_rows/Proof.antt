@@ -60,13 +60,10 @@ use Rattle.rows.proofs.CallRow as T
 use Rattle.rows.proofs.CallRow.Laws as T′
 use Rattle.rows.proofs.words.rows_both as rows-both
 use Rattle.rows.proofs.words.rows_both.Symbol as rows-both-def
-use Rattle.rows.proofs.words.rows_both.Symbol.{name as #rows·rows-both}
 use Rattle.rows.proofs.words.rows_both.Met as rows-both-thm
 use Rattle.rows.proofs.words.put_words as put-words
 use Rattle.rows.proofs.words.put_words.Symbol as put-words-def
-use Rattle.rows.proofs.words.put_words.Symbol.{name as #rows·put-words}
 use Rattle.rows.proofs.words.put_words.Met as put-words-thm
-use Rattle.rows.proofs.words.spill_rows.Key.{name as #rows·spill-rows}
 use Rattle.rows.proofs.words.spill_rows as f
 use Rattle.rows.proofs.words.spill_rows.Statement as stated
 use Rattle.rows.proofs.words.spill_rows.Code as code

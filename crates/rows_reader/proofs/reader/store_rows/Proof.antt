@@ -64,9 +64,7 @@ use Rattle.row_steps.proofs.steps.RowStep as S
 use Rattle.row_steps.proofs.steps.RowStep.Laws as S′
 use Rattle.row_steps.proofs.next_row as next-row
 use Rattle.row_steps.proofs.next_row.Symbol as next-row-def
-use Rattle.row_steps.proofs.next_row.Symbol.{name as #rows·next-row}
 use Rattle.row_steps.proofs.next_row.Met as next-row-thm
-use Rattle.rows_reader.proofs.reader.store_rows.Key.{name as #rows·store-rows}
 use Rattle.rows_reader.proofs.reader.store_rows as f
 use Rattle.rows_reader.proofs.reader.store_rows.Statement as stated
 use Rattle.rows_reader.proofs.reader.store_rows.Code as code

@@ -7,7 +7,7 @@ use Rattle.lin_spec.specs.Reading.{stream}
 use Rattle.lin_spec.specs.Base.{ascii}
 use lib.ListN.{length}
 use borrow.Author.Needs.{needs}
-use mathlib.Core.Path.{_≡_, refl, sym, _∙_}
+use mathlib.Core.Path.{_≡_, refl, _∙_}
 use native.Mathlib.Omega.{arith}
 use Prim.Native.Nat.{_-_}
 use Rattle.sections.proofs.sections.holds_qx.Statement.{statement}

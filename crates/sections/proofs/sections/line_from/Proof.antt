@@ -1,7 +1,6 @@
 -- `file::line_from` meets its contract: the line ends at the next LF or at the end.
 -- Assumes nothing.
 use Rattle.sections.proofs.SectionLaws.{line-stop, line-is}
-use mathlib.Core.Path.{_≡_, ap, _∙_}
 use native.Mathlib.Omega.{arith}
 use borrow.Author.Needs.{needs}
 use Rattle.sections.proofs.sections.line_from.Statement.{statement}

@@ -9,11 +9,6 @@ use native.Mathlib.Omega.{arith}
 use Prim.Native.Nat.{_-_}
 use Rattle.sections.proofs.sections.part_from.Statement.{statement}
 use Rattle.sections.proofs.sections.part_from.Tie as tie
-use Rattle.sections.proofs.sections.part_from.Reads as reads
-use Rattle.sections.proofs.sections.part_from.Lts as lts
-use Rattle.commands.proofs.mark_at.Reads as mark-at-reads
-use Rattle.document.proofs.next_pipe.Reads as next-pipe-reads
-use Rattle.sections.proofs.sections.moved_back.Reads as moved-back-reads
 
 abbrev Inv-loop : tie.InvT-loop
 Inv-loop text at back₀ board₀ c₀ back board c = Walks text at back c board

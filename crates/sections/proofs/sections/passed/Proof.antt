@@ -1,6 +1,5 @@
 -- `file::passed` meets its contract.
 -- Assumes nothing.
-use mathlib.Core.Path.{_≡_, ap}
 use borrow.Author.Needs.{needs}
 use Rattle.sections.proofs.sections.passed.Statement.{statement}
 use Rattle.sections.proofs.sections.passed.Tie as tie

@@ -5,8 +5,6 @@ use Rattle.text.proofs.DigitLaws.{plus-none, plus-here, plus-not}
 use borrow.Author.Needs.{needs}
 use Rattle.text.proofs.digits.after_plus.Statement.{statement}
 use Rattle.text.proofs.digits.after_plus.Tie as tie
-use Rattle.text.proofs.digits.after_plus.Reads as reads
-use Rattle.text.proofs.digits.after_plus.Lts as lts
 
 -- src/digits.rt:17:9
 returns : tie.Need-returns

@@ -1,18 +1,13 @@
 -- `text::read_number` meets its contract: a turn takes one digit off what is left to count.
 -- Assumes nothing.
-use Prim.Native.Nat.{_+_, _-_, _≤_, _<_}
+use Prim.Native.Nat.{_-_}
 use native.Mathlib.Omega.{arith}
-use mathlib.Core.Path.{_≡_, refl, sym, _∙_}
+use mathlib.Core.Path.{refl, sym, _∙_}
 use lib.ListN.{length}
 use borrow.Author.Tests.{not-true, not-false}
 use Rattle.text.proofs.DigitLaws.{Counted, digit-least, count-turn, number-empty, number-bad, number-is, number-over}
 use Rattle.text.proofs.digits.read_number.Statement.{statement}
 use Rattle.text.proofs.digits.read_number.Tie as tie
-use Rattle.text.proofs.digits.read_number.Reads as reads
-use Rattle.text.proofs.digits.read_number.Lts as lts
-use Rattle.text.proofs.digits.after_plus.Reads as after-plus-reads
-use Rattle.text.proofs.digits.is_digit.Reads as is-digit-reads
-use Rattle.text.proofs.digits.next_number.Reads as next-number-reads
 
 abbrev Inv-loop : tie.InvT-loop
 Inv-loop s bound t top n₀ i₀ n i = Counted t top i n

@@ -6,10 +6,6 @@ use Rattle.lin_spec.specs.Utf8.{utf8}
 use borrow.Author.Needs.{needs}
 use Rattle.text.proofs.parts.faulty.Statement.{statement}
 use Rattle.text.proofs.parts.faulty.Tie as tie
-use Rattle.text.proofs.parts.faulty.Reads as reads
-use Rattle.text.proofs.parts.faulty.Lts as lts
-use Rattle.text.proofs.parts.part.Reads as part-reads
-use Rattle.text.proofs.utf8.is_utf8.Reads as is-utf8-reads
 
 -- src/parts.rt:33:28
 enum-told : tie.Need-enum-told

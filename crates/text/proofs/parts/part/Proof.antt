@@ -4,8 +4,6 @@ use borrow.Author.Needs.{needs}
 use Rattle.text.proofs.PartLaws.{part-past, part-to-end, part-within}
 use Rattle.text.proofs.parts.part.Statement.{statement}
 use Rattle.text.proofs.parts.part.Tie as tie
-use Rattle.text.proofs.parts.part.Reads as reads
-use Rattle.text.proofs.parts.part.Lts as lts
 
 -- src/parts.rt:13:9
 slice-aggregate-result : tie.Need-slice-aggregate-result

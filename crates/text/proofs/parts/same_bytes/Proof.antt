@@ -8,8 +8,6 @@ use native.Mathlib.Omega.{arith}
 use Prim.Native.Nat.{_-_}
 use Rattle.text.proofs.parts.same_bytes.Statement.{statement}
 use Rattle.text.proofs.parts.same_bytes.Tie as tie
-use Rattle.text.proofs.parts.same_bytes.Reads as reads
-use Rattle.text.proofs.parts.same_bytes.Lts as lts
 
 abbrev Inv-loop : tie.InvT-loop
 Inv-loop a b i₀ i = eqList (drop i a) (drop i b) ≡ eqList a b

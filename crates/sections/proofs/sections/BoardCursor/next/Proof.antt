@@ -1,8 +1,6 @@
 -- `BoardCursor::next` meets its contract: each answer by the tests that led there.
 -- Assumes nothing.
 use Rattle.sections.proofs.SectionLaws.{line-short, line-ended, line-passed, part-ended, part-passed}
-use Rattle.lin_spec.specs.File.{Section}
-use mathlib.Core.Path.{_≡_, ap}
 use native.Mathlib.Omega.{arith}
 use borrow.Author.Needs.{needs}
 use Rattle.sections.proofs.sections.BoardCursor.next.Statement.{statement}
