@@ -44,22 +44,10 @@ pub(crate) struct Head {
 }
 
 // The heading after one token more, whose command has the number k.
-pub(crate) fn step(text: &[u8], mut h: Head, k: u8, v: Span) -> Head
+pub(crate) fn step(text: &[u8], h: Head, k: u8, v: Span) -> Head
     requires { ⌜ (endOf v ≤ length (now text)) × (length (now text) < 2 ^ 32) × (h .calls < 2 ^ 32) × (h .cards < 2 ^ 32) ⌝ }
     ensures { λ r. ⌜ Stepped (now (text .entry)) h k v r ⌝ }
 {
-    // Most tokens are cards, calls, or of no command that a heading knows.
-    if MC < k {
-        return h;
-    }
-    if k == PC {
-        h.cards = on_card(text, true, v, h.cards);
-        return h;
-    }
-    if k == MB {
-        h.calls = on_count(true, h.calls);
-        return h;
-    }
     let old = h.names;
     let old_md = h.md;
     let old_vulnerability = h.vulnerability;
@@ -129,7 +117,9 @@ pub(crate) fn read_head(text: &[u8], at: usize) -> Head
         c = q + 1;
         if k == PC {
             h.cards = on_card(text, true, value, h.cards);
-        } else if MC < k {} else if k == MB {
+        } else if MC < k {
+            // None of the commands that a board knows.
+        } else if k == MB {
             h.calls = on_count(true, h.calls);
         } else {
             h = step(text, h, k, value);

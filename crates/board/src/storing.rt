@@ -82,7 +82,9 @@ pub(crate) fn read_into(text: &[u8], at: usize, rows: &mut [u32], cards: &mut [u
         c = q + 1;
         if k == PC {
             h.cards = put_card(cards, h.cards, text, value);
-        } else if MC < k {} else if k == MB {
+        } else if MC < k {
+            // None of the commands that a board knows.
+        } else if k == MB {
             let call = call_of(text, value, MaybeSpan::Absent);
             n = put_call(rows, n, call);
             h.calls = on_count(true, h.calls);

@@ -1,10 +1,10 @@
 // The commands that a board knows, by their numbers in the list `words`. (01: Tokens, "Commands are trimmed .."; Board)
+use text::lower_byte;
 use text::same_word;
 use text::trim;
 ghost use mathlib.Core.Path.{_≡_};
 ghost use mathlib.Core.Bool.{true};
 ghost use mathlib.Core.List.{[], _∷_};
-ghost use Rattle.lin_spec.specs.White.{lower};
 ghost use Rattle.commands.specs.Commands.{words, firstWord, codeOf, commandOf, SameFrom, Marks};
 ghost use Prim.Native.Nat.{_-_, _≤_};
 ghost use lib.ListN.{length, drop};
@@ -30,19 +30,6 @@ pub const AH: u8 = 8;
 
 pub const MC: u8 = 9;
 
-// A capital of ASCII as the small letter, any other byte as it is.
-fn small(b: u8) -> u8
-    ensures { λ r. ⌜ r ≡ lower b ⌝ }
-{
-    if b < 0x41 {
-        return b;
-    }
-    if 0x5A < b {
-        return b;
-    }
-    b + 0x20
-}
-
 // The number of the word of two small letters, the first neither p nor m.
 fn other_pair(x: u8, y: u8) -> u8
     requires { ⌜ (x ≡ 112 → ⊥) × (x ≡ 109 → ⊥) ⌝ }
@@ -67,8 +54,8 @@ fn other_pair(x: u8, y: u8) -> u8
 fn pair_of(a: u8, b: u8) -> u8
     ensures { λ r. ⌜ r ≡ commandOf (a ∷ b ∷ []) ⌝ }
 {
-    let x = small(a);
-    let y = small(b);
+    let x = lower_byte(a);
+    let y = lower_byte(b);
     if x == b'p' {
         if y == b'c' {
             return PC;

@@ -9,7 +9,7 @@ use mathlib.Core.List.{List, [], _∷_, map}
 use mathlib.Core.Option.{none, some}
 use lib.ListN.{length, getD, drop, drop-of-length-le, length-map}
 use lib.Seq.{drop-cons, drop-nil}
-use lib.Dec.{T, eqb, ltb, ltb→lt}
+use lib.Dec.{eqb}
 use borrow.Author.Tests.{eq-eqb, ne-eqb, lt-ltb, le-ltb}
 use Rattle.lin_spec.specs.Base.{pick, eqAll, eqList}
 use Rattle.lin_spec.specs.Records.{span, limit, bytesAt}
@@ -26,14 +26,14 @@ use Rattle.lin_spec.specs.declared.Verdict.{Verdict}
 use Rattle.lin_spec.specs.declared.Verdict.the-variants.{Accepted, Refused}
 use Rattle.lin_spec.specs.declared.Refusal.{Refusal}
 use Rattle.lin_spec.specs.declared.Refusal.the-variants.{TextTooLong, OutOfRange, SpanPastEnd, SpanNotUtf8}
-use Rattle.lin_spec.proofs.Base.{split, eq-list, and-left, and-right}
+use Rattle.lin_spec.proofs.Base.{split, eq-list}
 use Rattle.lin_spec.proofs.Checks.{unless-refused, unless-passed}
 use Rattle.lent.specs.Calls.{callAt}
 use Rattle.lent.specs.declared.checks.Faults.{Faults}
 use Rattle.lent.specs.Checks.{verdictOf, Found}
 use Rattle.lent.proofs.LentLaws.{rows-cons, rows-count, no-rows, rows-end}
 use Rattle.equality.proofs.EqualityMeaning.{deal-self}
-use Rattle.equality.specs.Parts.{callBytes, callsBytes, sameDealt, sameTexts, samePlay, bothChecks, bothChecked, Sixteen}
+use Rattle.equality.specs.Parts.{callBytes, callsBytes, sameDealt, sameTexts, samePlay, bothChecks, bothChecked}
 
 -- One part, and those after it: a part that differs decides, one that is the same leaves it to the others
 
@@ -77,29 +77,6 @@ module _ (a b : List ℕ) (l : length a ≡ length b) (i : ℕ) (t : Bool) (v : 
       and-assoc t (eqb (getD a i 0) (getD b i 0)) (eqList (drop (i + 1) a) (drop (i + 1) b))
       ∙ (let z : (t && eqList (drop i a) (drop i b)) ≡ (t && (eqb (getD a i 0) (getD b i 0) && eqList (drop (i + 1) a) (drop (i + 1) b))) = rw (add-one, drop-cons a i 0 h, drop-cons b i 0 (let k : i < length b = omega arith in k)) refl in sym z)
       ∙ v
-
--- Bytes, by sixteens
-
-abbrev like : (a b : List ℕ) (i : ℕ) → Bool
-like a b i = eqb (getD a i 0) (getD b i 0)
-
-module _ (a b : List ℕ) (l : length a ≡ length b) where
-  like-one : (i : ℕ) → i < length a → like a b i ≡ true → eqList (drop (i + 1) a) (drop (i + 1) b) ≡ eqList (drop i a) (drop i b)
-  unfolding eqAll
-  like-one i h e = rw (add-one, drop-cons a i 0 h, drop-cons b i 0 (let k : i < length b = omega arith in k), e) refl
-
-  pub sixteen-same : (i : ℕ) → i + 16 ≤ length a → (like a b i && like a b (i + 1) && like a b (i + 2) && like a b (i + 3) && like a b (i + 4) && like a b (i + 5) && like a b (i + 6) && like a b (i + 7) && like a b (i + 8) && like a b (i + 9) && like a b (i + 10) && like a b (i + 11) && like a b (i + 12) && like a b (i + 13) && like a b (i + 14) && like a b (i + 15)) ≡ true → Sixteen a b i
-  sixteen-same i h e = record { within = h; after = to 15 tt (to 14 tt (to 13 tt (to 12 tt (to 11 tt (to 10 tt (to 9 tt (to 8 tt (to 7 tt (to 6 tt (to 5 tt (to 4 tt (to 3 tt (to 2 tt (to 1 tt one)))))))))))))) e }
-    where
-      one : like a b i ≡ true → eqList (drop (i + 1) a) (drop (i + 1) b) ≡ eqList (drop i a) (drop i b)
-      one f = like-one i (omega arith) f
-
-      to : (k : ℕ) → T (ltb k 16) → {t : Bool} → (t ≡ true → eqList (drop (i + k) a) (drop (i + k) b) ≡ eqList (drop i a) (drop i b)) → (t && like a b (i + k)) ≡ true
-          → eqList (drop (i + suc k) a) (drop (i + suc k) b) ≡ eqList (drop i a) (drop i b)
-      to k m {t} f e =
-          let d : i + suc k ≡ i + k + 1 = omega arith in
-          let n = ltb→lt k 16 m in
-          rw d (like-one (i + k) (omega arith) (and-right t (like a b (i + k)) e) ∙ f (and-left t (like a b (i + k)) e))
 
 -- two deals with the same counts are the same
 pub same-counts : (d e : List ℕ) → true ≡ eqList d e → true ≡ sameDeal d e

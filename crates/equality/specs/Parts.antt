@@ -1,10 +1,8 @@
 -- The comparison of two lent boards in parts, and the checks of both. (01: equality; Eight refusals)
-use Prim.Native.Nat.{ℕ, _+_, _≤_}
-use mathlib.Core.Path.{_≡_}
+use Prim.Native.Nat.{ℕ}
 use mathlib.Core.Bool.{Bool, _&&_, _||_}
 use mathlib.Core.List.{List, [], _∷_, map}
 use mathlib.Core.Option.{Option}
-use lib.ListN.{length, drop}
 use lib.Dec.{eqb}
 use Rattle.lin_spec.specs.Base.{eqList}
 use Rattle.lin_spec.specs.Records.{bytesAt, optionOf}
@@ -57,8 +55,3 @@ bothChecks other x y =
 
 abbrev pub bothChecked : (other : Bool) (x y : Lent) → Answer Unit
 bothChecked other x y = unless (bothChecks other x y) tt
-
--- a has sixteen bytes from the place i on, and b has the same: what follows decides
-pub record Sixteen (a b : List ℕ) (i : ℕ) : Type 0 where
-  pub within : i + 16 ≤ length a
-  pub after : eqList (drop (i + 16) a) (drop (i + 16) b) ≡ eqList (drop i a) (drop i b)

@@ -1,9 +1,9 @@
 // Boards compared: the checks of both, then field by field up to the first that differs. (01: equality; Eight refusals)
-use crate::bytes::same_bytes;
 use crate::hands::same_deal;
 use crate::texts::same_calls;
 use crate::texts::same_names;
 use crate::texts::same_text;
+use compare::same_bytes;
 use lent::Head;
 use lent::faults_of;
 use lent::head_of;

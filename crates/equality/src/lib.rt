@@ -1,6 +1,5 @@
 // Whether a board equals another, as `LinData` compares them. (01: equality; upstream's mod.rs)
 mod boards;
-mod bytes;
 mod hands;
 mod texts;
 

@@ -1,5 +1,5 @@
 // Texts and calls compared by bytes, each span out of its own text. (01: equality)
-use crate::bytes::same_bytes;
+use compare::same_bytes;
 use lent::call_at;
 use lin_spec::Call;
 use lin_spec::MaybeSpan;

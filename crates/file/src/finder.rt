@@ -1,6 +1,7 @@
 // The name finder. (01: "the finder counts a file's boards with a given name ..")
 use crate::numbers::Counted;
 use board::names_at;
+use compare::same_bytes;
 use lin_spec::LIMIT;
 use lin_spec::Refusal;
 use lin_spec::Span;
@@ -9,7 +10,6 @@ use sections::BoardStep;
 use sections::Section;
 use sections::holds_qx;
 use text::part;
-use text::same_bytes;
 use text::well_formed_len;
 ghost use mathlib.Core.Path.{_≡_};
 ghost use lib.ListN.{length};

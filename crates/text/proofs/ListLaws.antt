@@ -1,17 +1,14 @@
--- Laws of lists, as a loop goes through them: the next word, whether some element passes a test, whether two texts are the same. (01: Records)
+-- Laws of lists, as a loop goes through them: the next word, whether some element passes a test. (01: Records)
 -- Assumes nothing.
 use Prim.Native.Nat.{ℕ, suc, _+_, _≤_, _<_}
 use native.Mathlib.Numerals.{add-one}
 use native.Mathlib.Omega.{arith}
 use mathlib.Core.Path.{_≡_, refl, ap, sym, _∙_}
-use mathlib.Core.Bool.{Bool, true, false, _&&_, _||_}
+use mathlib.Core.Bool.{Bool, true, false, _||_}
 use mathlib.Core.List.{List, _∷_}
 use lib.ListN.{length, getD, drop, drop-of-length-le}
 use lib.Seq.{drop-cons}
-use lib.Dec.{eqb}
-use borrow.Author.Tests.{eq-eqb, ne-eqb}
-use Rattle.lin_spec.specs.Base.{any, eqList, eqAll}
-use Rattle.lin_spec.proofs.Base.{eq-length}
+use Rattle.lin_spec.specs.Base.{any}
 
 -- one word off the front
 pub next-word : (ws : List ℕ) (i j : ℕ) → j ≡ i + 1 → i < length ws → drop i ws ≡ getD ws i 0 ∷ drop j ws
@@ -34,25 +31,3 @@ module _ {A : Type 0} (f : A → Bool) (d : A) (xs : List A) (i : ℕ) (v : any 
 
     pub any-next : t ≡ false → any f (drop (i + 1) xs) ≡ any f xs
     any-next q = (let z : any f (drop (i + 1) xs) ≡ (t || any f (drop (i + 1) xs)) = simp q in z) ∙ sym any-cons ∙ v
-
--- Two texts, byte by byte
-
-module _ (a b : List ℕ) where
-  pub same-length : (length a ≡ length b → ⊥) → false ≡ eqList a b
-  same-length h = sym (eq-length a b h)
-
-  module _ (l : length a ≡ length b) (i : ℕ) (v : eqList (drop i a) (drop i b) ≡ eqList a b) where
-    pub same-end : length a ≤ i → true ≡ eqList a b
-    unfolding eqAll
-    same-end h = (let z = rw (drop-of-length-le a h, drop-of-length-le b (let k : length b ≤ i = omega arith in k)) at v in z)
-
-    module _ (h : i < length a) where
-      same-cons : eqList (drop i a) (drop i b) ≡ (eqb (getD a i 0) (getD b i 0) && eqList (drop (i + 1) a) (drop (i + 1) b))
-      unfolding eqAll
-      same-cons = rw (add-one, drop-cons a i 0 h, drop-cons b i 0 (let k : i < length b = omega arith in k)) refl
-
-      pub same-differ : (getD a i 0 ≡ getD b i 0 → ⊥) → false ≡ eqList a b
-      same-differ d = sym (sym v ∙ same-cons ∙ simp (ne-eqb _ _ d))
-
-      pub same-next : getD a i 0 ≡ getD b i 0 → eqList (drop (i + 1) a) (drop (i + 1) b) ≡ eqList a b
-      same-next e = (let z : eqList (drop (i + 1) a) (drop (i + 1) b) ≡ (eqb (getD a i 0) (getD b i 0) && eqList (drop (i + 1) a) (drop (i + 1) b)) = simp (eq-eqb _ _ e) in z) ∙ sym same-cons ∙ v

@@ -1,8 +1,7 @@
-// Parts of a text, spans, the next place of a byte, and texts that are the same. (01: Records; refusals 5 and 6)
+// Parts of a text, spans, and the next place of a byte. (01: Records; refusals 5 and 6)
 use crate::utf8::is_utf8;
 use lin_spec::Span;
 ghost use mathlib.Core.Path.{_≡_};
-ghost use Rattle.lin_spec.specs.Base.{eqList};
 ghost use Prim.Native.Nat.{_≤_};
 ghost use lib.ListN.{length};
 ghost use Rattle.lin_spec.specs.Records.{part as partOf, endOf, bytesAt};
@@ -146,21 +145,4 @@ pub fn find_byte(s: &[u8], c: u8, from: usize) -> usize
         return from + 3;
     }
     find_far(s, c, from + 4)
-}
-
-// Whether two texts have the same bytes.
-pub fn same_bytes(a: &[u8], b: &[u8]) -> bool
-    ensures { λ r. ⌜ r ≡ eqList (now (a .entry)) (now (b .entry)) ⌝ }
-{
-    if a.len() != b.len() {
-        return false;
-    }
-    let mut i = 0;
-    while i < a.len() {
-        if a[i] != b[i] {
-            return false;
-        }
-        i += 1;
-    }
-    true
 }

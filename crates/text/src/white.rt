@@ -167,7 +167,7 @@ pub fn is_blank(s: &[u8]) -> bool
 }
 
 // A capital of ASCII as the small letter, any other byte as it is.
-fn lower_byte(b: u8) -> u8
+pub fn lower_byte(b: u8) -> u8
     ensures { λ r. ⌜ r ≡ lower b ⌝ }
 {
     if b < 0x41 {

@@ -1,12 +1,12 @@
--- `equality::bytes::sixteens_end` meets its contract. The loop's invariant: what is left decides. The measure is what is left of the length.
+-- `compare::bytes::sixteens_end` meets its contract. The loop's invariant: what is left decides. The measure is what is left of the length.
 -- Assumes nothing.
 use Prim.Native.Nat.{_-_}
 use native.Mathlib.Omega.{arith}
 use mathlib.Core.Path.{_≡_, refl, _∙_}
 use lib.ListN.{length, drop}
 use Rattle.lin_spec.specs.Base.{eqList}
-use Rattle.equality.proofs.bytes.sixteens_end.Statement.{statement}
-use Rattle.equality.proofs.bytes.sixteens_end.Tie as tie
+use Rattle.compare.proofs.bytes.sixteens_end.Statement.{statement}
+use Rattle.compare.proofs.bytes.sixteens_end.Tie as tie
 
 abbrev Inv-loop : tie.InvT-loop
 Inv-loop a b i₀ i = (eqList (drop i a) (drop i b) ≡ eqList a b) × (length a ≡ length b)

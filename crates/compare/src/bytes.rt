@@ -1,9 +1,9 @@
-// Bytes compared, by sixteens. (01: equality, "Fields compare by bytes")
+// Bytes compared, by sixteens. (01: equality, "Fields compare by bytes"; names, "being the same when their bytes are")
 ghost use mathlib.Core.Path.{_≡_};
 ghost use mathlib.Core.Bool.{true};
 ghost use lib.ListN.{length, drop};
 ghost use Rattle.lin_spec.specs.Base.{eqList};
-ghost use Rattle.equality.specs.Parts.{Sixteen};
+ghost use Rattle.compare.specs.Bytes.{Sixteen};
 
 // Tests sixteen bytes of each from `i` on. Promised is what the loop needs: where it says true, they are there and are the same.
 fn sixteen_same(a: &[u8], b: &[u8], i: usize) -> bool
@@ -47,7 +47,7 @@ fn sixteens_end(a: &[u8], b: &[u8]) -> usize
 }
 
 // Whether two texts have the same bytes.
-pub(crate) fn same_bytes(a: &[u8], b: &[u8]) -> bool
+pub fn same_bytes(a: &[u8], b: &[u8]) -> bool
     ensures { λ r. ⌜ r ≡ eqList (now (a .entry)) (now (b .entry)) ⌝ }
 {
     if a.len() != b.len() {

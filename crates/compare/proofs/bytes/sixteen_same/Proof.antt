@@ -1,12 +1,12 @@
--- `equality::bytes::sixteen_same` meets its contract.
+-- `compare::bytes::sixteen_same` meets its contract.
 -- Assumes nothing.
 use native.Mathlib.Omega.{arith}
 use mathlib.Core.Bool.{false≢true}
 use denote.Ref.{now}
 use borrow.Author.Needs.{needs}
-use Rattle.equality.proofs.EqualityLaws.{sixteen-same}
-use Rattle.equality.proofs.bytes.sixteen_same.Statement.{statement}
-use Rattle.equality.proofs.bytes.sixteen_same.Tie as tie
+use Rattle.compare.proofs.ByteLaws.{sixteen-same}
+use Rattle.compare.proofs.bytes.sixteen_same.Statement.{statement}
+use Rattle.compare.proofs.bytes.sixteen_same.Tie as tie
 
 returns : tie.Need-returns
 returns c = λ e. absurd (false≢true e)

@@ -1,13 +1,13 @@
--- `equality::same_bytes` meets its contract: a turn passes two bytes that are equal.
+-- `compare::same_bytes` meets its contract: a turn passes two bytes that are equal.
 -- Assumes nothing.
-use Rattle.text.proofs.ListLaws.{same-length, same-end, same-differ, same-next}
+use Rattle.compare.proofs.ByteLaws.{same-length, same-end, same-differ, same-next}
 use Rattle.lin_spec.specs.Base.{eqList}
 use lib.ListN.{length, drop}
 use mathlib.Core.Path.{_≡_}
 use native.Mathlib.Omega.{arith}
 use Prim.Native.Nat.{_-_}
-use Rattle.equality.proofs.bytes.same_bytes.Statement.{statement}
-use Rattle.equality.proofs.bytes.same_bytes.Tie as tie
+use Rattle.compare.proofs.bytes.same_bytes.Statement.{statement}
+use Rattle.compare.proofs.bytes.same_bytes.Tie as tie
 
 abbrev Inv-loop : tie.InvT-loop
 Inv-loop a b i₀ i = eqList (drop i a) (drop i b) ≡ eqList a b
