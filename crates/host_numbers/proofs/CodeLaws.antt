@@ -22,6 +22,8 @@ use Rattle.lin_spec.specs.declared.Vulnerability.the-variants.{None, NorthSouth
 use Rattle.lin_spec.specs.declared.Board.{Board}
 use Rattle.host_numbers.specs.Boards.{vulnerabilityNumber, placeNumbers, textNumbers, claimFlag, claimNumber, boardNumbers}
 use Rattle.host_numbers.specs.Codes.{seatOf, vulnerabilityOf, spansOf, textOf, claimOf, boardOf, badGiven, badCodes}
+use Rattle.lin_spec.specs.Board.{Present as Holds}
+use Rattle.lin_spec.specs.Lent.{claimOf as claimIn}
 
 -- the spans of eight words
 

@@ -13,7 +13,7 @@ ghost use Rattle.host_numbers.specs.Codes.{seatOf, vulnerabilityOf, span
 
 // The parts of a board, each for any number.
 
-pub fn seat_of(code: u32) -> Seat
+pub(crate) fn seat_of(code: u32) -> Seat
     ensures { λ r. ⌜ r ≡ seatOf code ⌝ }
 {
     match code {
@@ -24,7 +24,7 @@ pub fn seat_of(code: u32) -> Seat
     }
 }
 
-pub fn vulnerability_of(code: u32) -> Vulnerability
+pub(crate) fn vulnerability_of(code: u32) -> Vulnerability
     ensures { λ r. ⌜ r ≡ vulnerabilityOf code ⌝ }
 {
     match code {
@@ -58,7 +58,7 @@ fn names_of(words: [u32; 8]) -> [Span; 4]
     [s, w, n, e]
 }
 
-pub fn text_of(x: LinText) -> MaybeSpan
+pub(crate) fn text_of(x: LinText) -> MaybeSpan
     ensures { λ r. ⌜ r ≡ textOf x ⌝ }
 {
     if x.present == 0 {
@@ -104,14 +104,14 @@ pub fn head_of(b: LinBoard) -> Head
 }
 
 // Whether one of three texts is neither there nor absent.
-pub fn bad_three(x: LinText, y: LinText, z: LinText) -> bool
+pub(crate) fn bad_three(x: LinText, y: LinText, z: LinText) -> bool
     ensures { λ r. ⌜ r ≡ badThree x y z ⌝ }
 {
     (1 < x.present) | ((1 < y.present) | (1 < z.present))
 }
 
 // Whether a number is neither given nor absent, or is given and more than it may be.
-pub fn bad_given(given: u32, number: u32, most: u32) -> bool
+pub(crate) fn bad_given(given: u32, number: u32, most: u32) -> bool
     ensures { λ r. ⌜ r ≡ badGiven given number most ⌝ }
 {
     (1 < given) | ((given == 1) & (most < number))

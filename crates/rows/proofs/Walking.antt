@@ -11,6 +11,7 @@ use denote.Struct.Laws as LL
 use Rattle.rows.specs.declared.CallRow.{CallRow}
 use Rattle.rows.proofs.CallRow as T
 use Rattle.rows.proofs.CallRow.Laws as T′
+use lib.Dec.{T as Holds}
 
 abbrev pub vals : CallRow → List Val
 vals = LL.vals T.the-type T′.the-laws

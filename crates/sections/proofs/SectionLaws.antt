@@ -37,6 +37,7 @@ use Rattle.sections.specs.declared.sections.BoardCursor.{BoardCursor}
 use Rattle.commands.specs.Commands.{Marks}
 use Rattle.commands.specs.Steps.{TokenAt}
 use Rattle.commands.proofs.StepLaws.{command-is}
+use Rattle.document.specs.Steps.{openedOf as openedAt}
 
 -- qx in the tokens from a place on
 module _ (s : List ℕ) (at k : ℕ) (v : Span) (n : ℕ) (t : TokenAt s at k v n) where

@@ -45,6 +45,7 @@ use Rattle.rows.proofs.access.get_row as f
 use Rattle.rows.proofs.access.get_row.Statement as stated
 use Rattle.rows.proofs.access.get_row.Code as code
 use Rattle.rows.proofs.access.get_row.Code.Mir as mir
+use Rattle.rows.proofs.access.get_row.Key.{name as #rows·get-row}
 
 abbrev Arg : Type 0
 Arg = RefT (List CallRow) × (ℕ × (CallRow × Unit {0}))

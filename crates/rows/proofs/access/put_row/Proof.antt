@@ -50,6 +50,7 @@ use Rattle.rows.proofs.access.put_row as f
 use Rattle.rows.proofs.access.put_row.Statement as stated
 use Rattle.rows.proofs.access.put_row.Code as code
 use Rattle.rows.proofs.access.put_row.Code.Mir as mir
+use Rattle.rows.proofs.access.put_row.Key.{name as #rows·put-row}
 
 abbrev Arg : Type 0
 Arg = RefT (List CallRow) × (ℕ × (CallRow × Unit {0}))

@@ -37,6 +37,7 @@ use Rattle.rows.proofs.CallRow as T
 use Rattle.rows.proofs.access.row_count as f
 use Rattle.rows.proofs.access.row_count.Statement as stated
 use Rattle.rows.proofs.access.row_count.Code as code
+use Rattle.rows.proofs.access.row_count.Key.{name as #rows·row-count}
 
 abbrev Arg : Type 0
 Arg = RefT (List CallRow) × Unit {0}

@@ -67,6 +67,9 @@ use Rattle.rows.proofs.words.fill_rows as f
 use Rattle.rows.proofs.words.fill_rows.Statement as stated
 use Rattle.rows.proofs.words.fill_rows.Code as code
 use Rattle.rows.proofs.words.fill_rows.Code.Mir as mir
+use Rattle.rows.proofs.words.rows_both.Symbol.{name as #rows·rows-both}
+use Rattle.rows.proofs.words.row_at.Symbol.{name as #rows·row-at}
+use Rattle.rows.proofs.words.fill_rows.Key.{name as #rows·fill-rows}
 
 abbrev Arg : Type 0
 Arg = RefT (List CallRow) × (RefT (List ℕ) × Unit {0})

@@ -68,6 +68,9 @@ use Rattle.rows.proofs.words.spill_rows as f
 use Rattle.rows.proofs.words.spill_rows.Statement as stated
 use Rattle.rows.proofs.words.spill_rows.Code as code
 use Rattle.rows.proofs.words.spill_rows.Code.Mir as mir
+use Rattle.rows.proofs.words.rows_both.Symbol.{name as #rows·rows-both}
+use Rattle.rows.proofs.words.put_words.Symbol.{name as #rows·put-words}
+use Rattle.rows.proofs.words.spill_rows.Key.{name as #rows·spill-rows}
 
 abbrev Arg : Type 0
 Arg = RefT (List CallRow) × (RefT (List ℕ) × Unit {0})

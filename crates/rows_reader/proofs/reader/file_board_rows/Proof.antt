@@ -66,6 +66,10 @@ use Rattle.row_steps.proofs.heading_of.Met as heading-of-thm
 use Rattle.rows_reader.proofs.reader.file_board_rows as f
 use Rattle.rows_reader.proofs.reader.file_board_rows.Statement as stated
 use Rattle.rows_reader.proofs.reader.file_board_rows.Code as code
+use Rattle.row_steps.proofs.file_headed.Symbol.{name as #rows·file-headed}
+use Rattle.rows_reader.proofs.reader.store_rows.Symbol.{name as #rows·store-rows}
+use Rattle.row_steps.proofs.heading_of.Symbol.{name as #rows·heading-of}
+use Rattle.rows_reader.proofs.reader.file_board_rows.Key.{name as #rows·file-board-rows}
 
 abbrev Arg : Type 0
 Arg = RefT (List ℕ) × (ℕ × (RefT (List CallRow) × (RefT (List ℕ) × Unit {0})))

@@ -66,6 +66,10 @@ use Rattle.row_steps.proofs.heading_of.Met as heading-of-thm
 use Rattle.rows_reader.proofs.reader.parse_lin_rows as f
 use Rattle.rows_reader.proofs.reader.parse_lin_rows.Statement as stated
 use Rattle.rows_reader.proofs.reader.parse_lin_rows.Code as code
+use Rattle.row_steps.proofs.text_headed.Symbol.{name as #rows·text-headed}
+use Rattle.rows_reader.proofs.reader.store_rows.Symbol.{name as #rows·store-rows}
+use Rattle.row_steps.proofs.heading_of.Symbol.{name as #rows·heading-of}
+use Rattle.rows_reader.proofs.reader.parse_lin_rows.Key.{name as #rows·parse-lin-rows}
 
 abbrev Arg : Type 0
 Arg = RefT (List ℕ) × (RefT (List CallRow) × (RefT (List ℕ) × Unit {0}))

@@ -69,6 +69,8 @@ use Rattle.rows_reader.proofs.reader.store_rows as f
 use Rattle.rows_reader.proofs.reader.store_rows.Statement as stated
 use Rattle.rows_reader.proofs.reader.store_rows.Code as code
 use Rattle.rows_reader.proofs.reader.store_rows.Code.Mir as mir
+use Rattle.row_steps.proofs.next_row.Symbol.{name as #rows·next-row}
+use Rattle.rows_reader.proofs.reader.store_rows.Key.{name as #rows·store-rows}
 
 abbrev Arg : Type 0
 Arg = RefT (List CallRow) × (RefT (List ℕ) × (ℕ × (ℕ × (ℕ × Unit {0}))))
