@@ -10,19 +10,17 @@ use mathlib.Core.Option.{Option, none, some}
 use lib.ListN.{length, getD}
 use lib.Dec.{eqb, leb}
 use borrow.Author.Tests.{ne-eqb, leb-true}
+use Rattle.lin_spec.specs.Base.{ascii}
 use Rattle.lin_spec.specs.White.{lower}
 use Rattle.lin_spec.specs.Cards.{indexOf, suitOf, rankOf, cardOf, readCard}
-use Rattle.lin_spec.proofs.Base.{picked, and-left}
-use Rattle.lin_spec.proofs.Cards.{Under}
-use Rattle.cards.specs.Letters.{lookupOf, orElse}
+use Rattle.lin_spec.proofs.Base.{picked, and-left, allBelow, same-below}
+use Rattle.lin_spec.proofs.Cards.{rank-letter}
+use Rattle.cards.specs.Letters.{lookupOf}
 use Rattle.cards.specs.declared.letters.Lookup.{Lookup}
 use Rattle.cards.specs.declared.letters.Lookup.the-variants.{Found, Nothing}
 
--- what a letter gives; and what two letters give, each of them gives
-pub one : {A : Type 0} (f : ℕ → A) (x b : ℕ) (o : A) → o ≡ f x → b ≡ x → o ≡ f b
-one f x b o p e = p ∙ ap f (sym e)
-
-pub either : {A : Type 0} (f : ℕ → A) (x y b : ℕ) (o : A) → o ≡ f x → o ≡ f y → (b ≡ x) ⊎ (b ≡ y) → o ≡ f b
+-- what two letters give, each of them gives
+pub either : (f : ℕ → Option ℕ) (x y b : ℕ) (o : Option ℕ) → o ≡ f x → o ≡ f y → (b ≡ x) ⊎ (b ≡ y) → o ≡ f b
 either f x y b o p q (inl e) = p ∙ ap f (sym e)
 either f x y b o p q (inr e) = q ∙ ap f (sym e)
 
@@ -40,44 +38,45 @@ other-low b k l h =
     ne-eqb (lower b) k
     (picked (λ n. n ≡ k → ⊥) (leb 0x41 b && leb b 0x5A) (λ t e. omega (arith, leb-true 0x41 b (and-left _ _ t))) (λ _ e. h e))
 
+-- a digit from 2 on is its rank
+pub digit-rank : (b : ℕ) → 0x32 ≤ b → b ≤ 0x39 → some (b - 0x32) ≡ rankOf b
+unfolding allBelow
+digit-rank b p q =
+    let e : 0x32 + (b - 0x32) ≡ b = omega arith in
+    sym (rank-letter (b - 0x32) (omega arith))
+    ∙ ap rankOf (same-below (λ k. getD (ascii "23456789TJQKA") k 0) (λ k. 0x32 + k) 8 refl (b - 0x32) (omega arith) ∙ e)
+
 -- a byte that is no suit letter
 pub no-suit : (b : ℕ) → ((b ≡ 0x53) ⊎ (b ≡ 0x73) → ⊥) → ((b ≡ 0x48) ⊎ (b ≡ 0x68) → ⊥) → ((b ≡ 0x44) ⊎ (b ≡ 0x64) → ⊥)
     → ((b ≡ 0x43) ⊎ (b ≡ 0x63) → ⊥) → none ≡ suitOf b
 unfolding suitOf indexOf
 no-suit b s h d c = simp (other b 0x53 s, other b 0x48 h, other b 0x44 d, other b 0x43 c)
 
+-- a byte that is no digit from 2 on is none of them
+other-digit : (b : ℕ) → (0x32 ≤ b → b ≤ 0x39 → ⊥) → (k : ℕ) → k < 8 → eqb (lower b) (0x32 + k) ≡ false
+other-digit b h k l = other-low b (0x32 + k) (omega arith) (λ e. h (omega arith) (omega arith))
+
 -- a byte that is no rank letter
-pub no-rank : (b : ℕ) → (b ≡ 0x32 → ⊥) → (b ≡ 0x33 → ⊥) → (b ≡ 0x34 → ⊥) → (b ≡ 0x35 → ⊥) → (b ≡ 0x36 → ⊥) → (b ≡ 0x37 → ⊥) → (b ≡ 0x38 → ⊥)
-    → (b ≡ 0x39 → ⊥) → ((b ≡ 0x54) ⊎ (b ≡ 0x74) → ⊥) → ((b ≡ 0x4A) ⊎ (b ≡ 0x6A) → ⊥) → ((b ≡ 0x51) ⊎ (b ≡ 0x71) → ⊥)
-    → ((b ≡ 0x4B) ⊎ (b ≡ 0x6B) → ⊥) → ((b ≡ 0x41) ⊎ (b ≡ 0x61) → ⊥) → none ≡ rankOf b
+pub no-rank : (b : ℕ) → (0x32 ≤ b → b ≤ 0x39 → ⊥) → ((b ≡ 0x54) ⊎ (b ≡ 0x74) → ⊥) → ((b ≡ 0x4A) ⊎ (b ≡ 0x6A) → ⊥)
+    → ((b ≡ 0x51) ⊎ (b ≡ 0x71) → ⊥) → ((b ≡ 0x4B) ⊎ (b ≡ 0x6B) → ⊥) → ((b ≡ 0x41) ⊎ (b ≡ 0x61) → ⊥) → none ≡ rankOf b
 unfolding rankOf indexOf
-no-rank b d2 d3 d4 d5 d6 d7 d8 d9 t j q k a =
-    let low = other-low b in
+no-rank b n t j q k a =
+    let d = other-digit b n in
     simp (
-      low 0x32 (omega arith) d2,
-      low 0x33 (omega arith) d3,
-      low 0x34 (omega arith) d4,
-      low 0x35 (omega arith) d5,
-      low 0x36 (omega arith) d6,
-      low 0x37 (omega arith) d7,
-      low 0x38 (omega arith) d8,
-      low 0x39 (omega arith) d9,
+      d 0 (omega arith),
+      d 1 (omega arith),
+      d 2 (omega arith),
+      d 3 (omega arith),
+      d 4 (omega arith),
+      d 5 (omega arith),
+      d 6 (omega arith),
+      d 7 (omega arith),
       other b 0x54 t,
       other b 0x4A j,
       other b 0x51 q,
       other b 0x4B k,
       other b 0x41 a,
     )
-
--- The number of a letter, where k stands for none
-
-pub number-found : (k : ℕ) (o : Option ℕ) (n : ℕ) → n ≡ orElse k o → n < k → some n ≡ o
-number-found k none n e h = absurd (omega arith)
-number-found k (some m) n e h = ap some e
-
-pub number-none : (k : ℕ) (o : Option ℕ) (n : ℕ) → n ≡ orElse k o → k ≤ n → Under k o → none ≡ o
-number-none k none n e h u = refl
-number-none k (some m) n e h u = absurd (omega arith)
 
 -- What a lookup's answer says
 

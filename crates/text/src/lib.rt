@@ -17,7 +17,6 @@ pub use utf8::is_utf8;
 pub use utf8::well_formed_len;
 pub use utf8::width;
 pub use white::is_blank;
-pub use white::is_command;
 pub use white::lower_byte;
 pub use white::same_word;
 pub use white::trim;

@@ -4,7 +4,7 @@ ghost use mathlib.Core.Bool.{true};
 ghost use mathlib.Core.List.{[], _∷_};
 ghost use Prim.Native.Nat.{_≤_};
 ghost use lib.ListN.{length, take, drop, getD};
-ghost use Rattle.lin_spec.specs.White.{whiteAt, trimStart, trimEnd, trim, blank, lower, sameWord, isCommand};
+ghost use Rattle.lin_spec.specs.White.{whiteAt, trimStart, trimEnd, trim, blank, lower, sameWord};
 ghost use Rattle.text.specs.White.{isWhite, whiteBack, last};
 
 // One byte that is a white space character: U+0009 to U+000D, 0020.
@@ -194,11 +194,4 @@ pub fn same_word(s: &[u8], w: &[u8]) -> bool
         i += 1;
     }
     true
-}
-
-// A token's command is the word w, which is in small letters.
-pub fn is_command(command: &[u8], w: &[u8]) -> bool
-    ensures { λ r. ⌜ r ≡ isCommand (now (command .entry)) (now (w .entry)) ⌝ }
-{
-    same_word(trim(command), w)
 }
