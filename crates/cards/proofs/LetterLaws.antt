@@ -1,82 +1,48 @@
--- Letters as the code tests them: a byte that is one of two, a digit, a byte that is none; and a card by its two letters. (01: Records)
+-- Letters as the code looks them up, in a table; and a card by its two letters. (01: Records)
 -- Assumes nothing.
 use Prim.Native.Nat.{ℕ, _+_, _-_, _*_, _≤_, _<_}
 use native.Mathlib.Omega.{arith}
 use mathlib.Core.Path.{_≡_, refl, ap, sym, _∙_}
-use mathlib.Core.Bool.{false, _&&_}
+use mathlib.Core.Bool.{true}
 use mathlib.Core.List.{List, [], _∷_}
-use mathlib.Core.Logic.{_⊎_, inl, inr}
 use mathlib.Core.Option.{Option, none, some}
 use lib.ListN.{length, getD}
 use lib.Dec.{eqb, leb}
-use borrow.Author.Tests.{ne-eqb, leb-true}
-use Rattle.lin_spec.specs.Base.{ascii}
-use Rattle.lin_spec.specs.White.{lower}
-use Rattle.lin_spec.specs.Cards.{indexOf, suitOf, rankOf, cardOf, readCard}
-use Rattle.lin_spec.proofs.Base.{picked, and-left, allBelow, same-below}
-use Rattle.lin_spec.proofs.Cards.{rank-letter}
-use Rattle.cards.specs.Letters.{lookupOf}
+use borrow.Author.Tests.{leb-true}
+use Rattle.lin_spec.specs.Cards.{suitOf, rankOf, cardOf, readCard}
+use Rattle.lin_spec.proofs.Base.{allBelow, below, same-below}
+use Rattle.lin_spec.proofs.Cards.{Under}
+use Rattle.cards.specs.Letters.{lookupOf, orElse}
 use Rattle.cards.specs.declared.letters.Lookup.{Lookup}
 use Rattle.cards.specs.declared.letters.Lookup.the-variants.{Found, Nothing}
 
--- what two letters give, each of them gives
-pub either : (f : ℕ → Option ℕ) (x y b : ℕ) (o : Option ℕ) → o ≡ f x → o ≡ f y → (b ≡ x) ⊎ (b ≡ y) → o ≡ f b
-either f x y b o p q (inl e) = p ∙ ap f (sym e)
-either f x y b o p q (inr e) = q ∙ ap f (sym e)
+-- The number of a letter by a table of the bytes from `0` to `z`, with a for 0; k stands for none
 
--- a byte that is neither k nor its small letter has another small letter
-other : (b k : ℕ) → ((b ≡ k) ⊎ (b ≡ k + 0x20) → ⊥) → eqb (lower b) (k + 0x20) ≡ false
-unfolding lower
-other b k h =
-    ne-eqb (lower b) (k + 0x20)
-    (picked (λ n. n ≡ k + 0x20 → ⊥) (leb 0x41 b && leb b 0x5A) (λ _ e. h (inl (omega arith))) (λ _ e. h (inr e)))
+module _ (f : ℕ → Option ℕ) (k : ℕ) where
+  pub below-letters : allBelow (λ b. eqb k (orElse k (f b))) 0x30 ≡ true → (c : ℕ) → c < 0x30 → k ≡ orElse k (f c)
+  below-letters h c l = same-below (λ _. k) (λ b. orElse k (f b)) 0x30 h c l
 
--- below the small letters only the byte itself is k
-other-low : (b k : ℕ) → k < 0x61 → (b ≡ k → ⊥) → eqb (lower b) k ≡ false
-unfolding lower
-other-low b k l h =
-    ne-eqb (lower b) k
-    (picked (λ n. n ≡ k → ⊥) (leb 0x41 b && leb b 0x5A) (λ t e. omega (arith, leb-true 0x41 b (and-left _ _ t))) (λ _ e. h e))
+  pub above-letters : allBelow (λ i. eqb k (orElse k (f (0x7B + i)))) 0x85 ≡ true → (c : ℕ) → 0x7A < c → c < 0x100 → k ≡ orElse k (f c)
+  above-letters h c l m =
+      let e : 0x7B + (c - 0x7B) ≡ c = omega arith in
+      same-below (λ _. k) (λ i. orElse k (f (0x7B + i))) 0x85 h (c - 0x7B) (omega arith) ∙ ap (λ (x : ℕ). orElse k (f x)) e
 
--- a digit from 2 on is its rank
-pub digit-rank : (b : ℕ) → 0x32 ≤ b → b ≤ 0x39 → some (b - 0x32) ≡ rankOf b
-unfolding allBelow
-digit-rank b p q =
-    let e : 0x32 + (b - 0x32) ≡ b = omega arith in
-    sym (rank-letter (b - 0x32) (omega arith))
-    ∙ ap rankOf (same-below (λ k. getD (ascii "23456789TJQKA") k 0) (λ k. 0x32 + k) 8 refl (b - 0x32) (omega arith) ∙ e)
+  pub by-table : (t : List ℕ) → allBelow (λ i. eqb (getD t i 0 - 0x61) (orElse k (f (0x30 + i)))) 0x4B ≡ true → (c : ℕ) → 0x30 ≤ c → c ≤ 0x7A
+      → getD t (c - 0x30) 0 - 0x61 ≡ orElse k (f c)
+  by-table t h c l m =
+      let e : 0x30 + (c - 0x30) ≡ c = omega arith in
+      same-below (λ i. getD t i 0 - 0x61) (λ i. orElse k (f (0x30 + i))) 0x4B h (c - 0x30) (omega arith) ∙ ap (λ (x : ℕ). orElse k (f x)) e
 
--- a byte that is no suit letter
-pub no-suit : (b : ℕ) → ((b ≡ 0x53) ⊎ (b ≡ 0x73) → ⊥) → ((b ≡ 0x48) ⊎ (b ≡ 0x68) → ⊥) → ((b ≡ 0x44) ⊎ (b ≡ 0x64) → ⊥)
-    → ((b ≡ 0x43) ⊎ (b ≡ 0x63) → ⊥) → none ≡ suitOf b
-unfolding suitOf indexOf
-no-suit b s h d c = simp (other b 0x53 s, other b 0x48 h, other b 0x44 d, other b 0x43 c)
+pub table-least : (t : List ℕ) → allBelow (λ i. leb 0x61 (getD t i 0)) 0x4B ≡ true → (i : ℕ) → i < 0x4B → 0x61 ≤ getD t i 0
+table-least t h i l = leb-true 0x61 (getD t i 0) (below (λ j. leb 0x61 (getD t j 0)) 0x4B h i l)
 
--- a byte that is no digit from 2 on is none of them
-other-digit : (b : ℕ) → (0x32 ≤ b → b ≤ 0x39 → ⊥) → (k : ℕ) → k < 8 → eqb (lower b) (0x32 + k) ≡ false
-other-digit b h k l = other-low b (0x32 + k) (omega arith) (λ e. h (omega arith) (omega arith))
+pub number-found : (k : ℕ) (o : Option ℕ) (n : ℕ) → n ≡ orElse k o → n < k → some n ≡ o
+number-found k none n e h = absurd (omega arith)
+number-found k (some m) n e h = ap some e
 
--- a byte that is no rank letter
-pub no-rank : (b : ℕ) → (0x32 ≤ b → b ≤ 0x39 → ⊥) → ((b ≡ 0x54) ⊎ (b ≡ 0x74) → ⊥) → ((b ≡ 0x4A) ⊎ (b ≡ 0x6A) → ⊥)
-    → ((b ≡ 0x51) ⊎ (b ≡ 0x71) → ⊥) → ((b ≡ 0x4B) ⊎ (b ≡ 0x6B) → ⊥) → ((b ≡ 0x41) ⊎ (b ≡ 0x61) → ⊥) → none ≡ rankOf b
-unfolding rankOf indexOf
-no-rank b n t j q k a =
-    let d = other-digit b n in
-    simp (
-      d 0 (omega arith),
-      d 1 (omega arith),
-      d 2 (omega arith),
-      d 3 (omega arith),
-      d 4 (omega arith),
-      d 5 (omega arith),
-      d 6 (omega arith),
-      d 7 (omega arith),
-      other b 0x54 t,
-      other b 0x4A j,
-      other b 0x51 q,
-      other b 0x4B k,
-      other b 0x41 a,
-    )
+pub number-none : (k : ℕ) (o : Option ℕ) (n : ℕ) → n ≡ orElse k o → k ≤ n → Under k o → none ≡ o
+number-none k none n e h u = refl
+number-none k (some m) n e h u = absurd (omega arith)
 
 -- What a lookup's answer says
 

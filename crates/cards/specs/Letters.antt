@@ -15,3 +15,8 @@ lookupOf Nothing = none
 abbrev pub maybeOf : MaybeCard → Option ℕ
 maybeOf (Card c) = some c
 maybeOf NoCard = none
+
+-- the number, or the one that stands for none
+abbrev pub orElse : (other : ℕ) → Option ℕ → ℕ
+orElse k none = k
+orElse k (some n) = n

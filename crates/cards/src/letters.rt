@@ -1,7 +1,7 @@
 // The letters of suits and ranks, and the text of one card. (01: Records; Board, pc)
 ghost use mathlib.Core.Path.{_≡_};
 ghost use Rattle.lin_spec.specs.Cards.{suitOf, rankOf, readCard};
-ghost use Rattle.cards.specs.Letters.{lookupOf, maybeOf};
+ghost use Rattle.cards.specs.Letters.{lookupOf, maybeOf, orElse};
 
 // The number of the suit or rank that a letter stands for, if it stands for one.
 pub enum Lookup {
@@ -9,32 +9,63 @@ pub enum Lookup {
     Nothing,
 }
 
-// S, H, D, C are the suits 0 to 3, in either case.
+// The suit of each byte from `0` to `z`, a to d for S, H, D, C, in either case; e for none. A table, since cards come in any order: a branch for each
+// letter would be foretold wrongly.
+const SUITS: [u8; 75] =
+    *b"eeeeeeeeeeeeeeeeeeedceeebeeeeeeeeeeaeeeeeeeeeeeeeeedceeebeeeeeeeeeeaeeeeeee";
+
+// The rank of each of them, a to m for 2 to 9, T, J, Q, K, A, in either case; n for none.
+const RANKS: [u8; 75] =
+    *b"nnabcdefghnnnnnnnmnnnnnnnnjlnnnnnknninnnnnnnnnnnnmnnnnnnnnjlnnnnnknninnnnnn";
+
+// The suit of a byte, 4 where it has none.
+fn suit_number(c: u8) -> u8
+    ensures { λ r. ⌜ r ≡ orElse 4 (suitOf c) ⌝ }
+{
+    if c < b'0' {
+        return 4;
+    }
+    if b'z' < c {
+        return 4;
+    }
+    let at = (c - b'0') as usize;
+    SUITS[at] - b'a'
+}
+
+// The rank of a byte, 13 where it has none.
+fn rank_number(c: u8) -> u8
+    ensures { λ r. ⌜ r ≡ orElse 13 (rankOf c) ⌝ }
+{
+    if c < b'0' {
+        return 13;
+    }
+    if b'z' < c {
+        return 13;
+    }
+    let at = (c - b'0') as usize;
+    RANKS[at] - b'a'
+}
+
+// The suit that a letter stands for: S, H, D, C are 0 to 3.
 pub fn suit_of(c: u8) -> Lookup
     ensures { λ r. ⌜ lookupOf r ≡ suitOf c ⌝ }
 {
-    match c {
-        b'S' | b's' => Lookup::Found(0),
-        b'H' | b'h' => Lookup::Found(1),
-        b'D' | b'd' => Lookup::Found(2),
-        b'C' | b'c' => Lookup::Found(3),
-        _ => Lookup::Nothing,
+    let n = suit_number(c);
+    if n < 4 {
+        return Lookup::Found(n);
     }
+    Lookup::Nothing
 }
 
-// 2 to 9, T, J, Q, K, A are the ranks 0 to 12, in either case.
+// The rank that a letter stands for: 2 to 9, T, J, Q, K, A are 0 to 12.
 pub fn rank_of(c: u8) -> Lookup
     ensures { λ r. ⌜ lookupOf r ≡ rankOf c ⌝ }
 {
-    match c {
-        b'2'..=b'9' => Lookup::Found(c - b'2'),
-        b'T' | b't' => Lookup::Found(8),
-        b'J' | b'j' => Lookup::Found(9),
-        b'Q' | b'q' => Lookup::Found(10),
-        b'K' | b'k' => Lookup::Found(11),
-        b'A' | b'a' => Lookup::Found(12),
-        _ => Lookup::Nothing,
+    let n = rank_number(c);
+    if n < 13 {
+        return Lookup::Found(n);
     }
+    Lookup::Nothing
 }
 
 // A card, 0 to 51, if the text is one.

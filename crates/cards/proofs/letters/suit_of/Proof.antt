@@ -1,30 +1,19 @@
--- `cards::letters::suit_of` meets its contract: each arm's letters by computation, the others by the law that they are none. (01: Records)
+-- `cards::letters::suit_of` meets its contract: by the number, which is below 4 where there is one. (01: Records)
 -- Assumes nothing.
-use mathlib.Core.Path.{refl}
-use Rattle.lin_spec.specs.White.{lower}
-use Rattle.lin_spec.specs.Cards.{indexOf, suitOf}
-use Rattle.cards.proofs.LetterLaws.{either, no-suit}
+use borrow.Author.Needs.{needs}
+use Rattle.lin_spec.proofs.Cards.{suit-under}
+use Rattle.cards.proofs.LetterLaws.{number-found, number-none}
 use Rattle.cards.proofs.letters.suit_of.Statement.{statement}
 use Rattle.cards.proofs.letters.suit_of.Tie as tie
 
+suit-number-requires : tie.Need-suit-number-requires
+suit-number-requires c κs = search needs
+
 returns : tie.Need-returns
-unfolding suitOf indexOf lower
-returns c = either suitOf 0x53 0x73 _ _ refl refl (c .match .keys1)
+returns c = number-found 4 _ _ (c .before .suit-number .ensures) (c .if1 .taken)
 
 returns-2 : tie.Need-returns-2
-unfolding suitOf indexOf lower
-returns-2 c = either suitOf 0x48 0x68 _ _ refl refl (c .match .keys2)
-
-returns-3 : tie.Need-returns-3
-unfolding suitOf indexOf lower
-returns-3 c = either suitOf 0x44 0x64 _ _ refl refl (c .match .keys3)
-
-returns-4 : tie.Need-returns-4
-unfolding suitOf indexOf lower
-returns-4 c = either suitOf 0x43 0x63 _ _ refl refl (c .match .keys4)
-
-returns-5 : tie.Need-returns-5
-returns-5 c = let m = c .match .rest in no-suit _ (m .0 .0 .0 .1) (m .0 .0 .1) (m .0 .1) (m .1)
+returns-2 c = number-none 4 _ _ (c .before .suit-number .ensures) (c .if1 .left) (suit-under _)
 
 pub suit-of-spec : {M : Type 1} → statement M
-suit-of-spec = tie.close (tie.spec returns returns-2 returns-3 returns-4 returns-5)
+suit-of-spec = tie.close (tie.spec suit-number-requires returns returns-2)
