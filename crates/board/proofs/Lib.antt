@@ -1,6 +1,1 @@
-pub mod HeadLaws
-pub mod DealingLaws
-pub mod CallLaws
-pub mod PlayLaws
 pub mod ReaderLaws
-pub mod StoringLaws

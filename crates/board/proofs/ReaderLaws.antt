@@ -35,6 +35,7 @@ use Rattle.lin_spec.specs.declared.Verdict.the-variants.{Accepted, Refused}
 use Rattle.lin_spec.specs.declared.Heading.{Heading}
 use Rattle.lin_spec.proofs.Base.{picked, split, and-left, and-right, eq-length}
 use Rattle.lin_spec.proofs.White.{trim-most}
+use Rattle.lin_spec.proofs.Accepted.{words-length}
 use Rattle.lin_spec.proofs.Tokens.{joined, joined-cut}
 use Rattle.lin_spec.proofs.Rules.{over-change}
 use Rattle.lin_spec.proofs.Checks.{unless-refused, unless-passed}
@@ -47,16 +48,18 @@ use Rattle.document.specs.declared.tokens.Opened.{Opened}
 use Rattle.document.specs.declared.tokens.Opened.the-variants.{At, Refused as Shut}
 use Rattle.lin_spec.specs.Lent.{claimOf}
 use Rattle.commands.specs.Fields.{more}
-use Rattle.board.specs.Head.{freshHead, onCount, onCard, Leaves}
-use Rattle.board.specs.Dealing.{held, dealtFrom}
-use Rattle.board.specs.Calls.{isPresent, placeOf, rowOf, rowWords, with, callsAfter, callsFrom}
-use Rattle.board.specs.Play.{before, cardsFrom, Gives as Card·Gives}
-use Rattle.board.specs.Reader.{boardAt, headOf, Ample, Counted}
-use Rattle.board.specs.Storing.{Fits, Stored}
-use Rattle.board.specs.declared.heading.Head.{Head}
-use Rattle.board.specs.declared.dealing.Dealt.{Dealt}
-use Rattle.board.specs.declared.play.NextCard.{NextCard}
-use Rattle.board.proofs.DealingLaws.{dealt-last}
+use Rattle.board_steps.specs.Head.{freshHead, onCount, onCard, Leaves}
+use Rattle.board_steps.specs.Dealing.{held, dealtFrom}
+use Rattle.board_steps.specs.Calls.{isPresent, placeOf, rowOf, rowWords, with, callsAfter, callsFrom}
+use Rattle.board_steps.specs.Play.{before, cardsFrom, Gives as Card·Gives}
+use Rattle.board_steps.specs.Head.{boardAt}
+use Rattle.board.specs.Reader.{headOf, Ample, Counted}
+use Rattle.board_steps.specs.Storing.{Fits, Stored}
+use Rattle.board_steps.specs.declared.heading.Head.{Head}
+use Rattle.board_steps.specs.declared.dealing.Dealt.{Dealt}
+use Rattle.board_steps.specs.declared.play.NextCard.{NextCard}
+use Rattle.board_steps.proofs.DealingLaws.{dealt-last}
+use Rattle.board_steps.proofs.CallLaws.{annotated-length}
 
 -- The calls one at a time are the board's
 
@@ -104,12 +107,6 @@ cards-after s (token w v ∷ ts) cs = go (isCommand w (ascii "pc")) (readCard (t
     go false o f = f cs
 
 -- A heading's counts are the lengths of the board's lists
-
-pub annotated-length : (v : Span) (cs : List (CallOf Span)) → length (annotated v cs) ≡ length cs
-unfolding annotated
-annotated-length v [] = refl
-annotated-length v (c ∷ []) = refl
-annotated-length v (c ∷ d ∷ cs) = ap suc (annotated-length v (d ∷ cs))
 
 calls-count : (s : List ℕ) (ts : List (TokenOf Span)) → length (over (onCalls (spanText s)) [] ts) ≡ over onCount 0 ts
 calls-count s ts = over-change length (onCalls (spanText s)) onCount step ts []
@@ -265,21 +262,6 @@ unfolding boardFrom over
 read-names s at h l = l .names
 
 -- Rows of six words
-
-pub words-cons : (c : CallOf Span) (cs : List (CallOf Span)) → callWords (c ∷ cs) ≡ rowWords (rowOf c) ++ callWords cs
-unfolding callWords rowWords
-words-cons c cs = go (c .annotation)
-  where
-    go : (o : Option Span)
-        → c .bid .start ∷ c .bid .len ∷ flag (c .alerted) ∷ (annotationWords o ++ callWords cs)
-        ≡ c .bid .start ∷ c .bid .len ∷ flag (c .alerted) ∷ isPresent o ∷ placeOf o .start ∷ placeOf o .len ∷ callWords cs
-    go none = refl
-    go (some x) = refl
-
-pub words-length : (cs : List (CallOf Span)) → length (callWords cs) ≡ 6 * length cs
-unfolding callWords rowWords
-words-length [] = refl
-words-length (c ∷ cs) = ap length (words-cons c cs) ∙ (let h = words-length cs in omega arith)
 
 -- what a card that was called for and taken apart says
 pub given-card : (s : List ℕ) (at : ℕ) (r v : NextCard) → Card·Gives s at r → r ≡ v → Card·Gives s at v

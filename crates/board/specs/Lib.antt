@@ -1,6 +1,1 @@
-pub mod Head
-pub mod Dealing
-pub mod Calls
-pub mod Play
 pub mod Reader
-pub mod Storing

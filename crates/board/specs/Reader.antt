@@ -1,22 +1,18 @@
--- The board that the tokens of a text from a place on give. (01: Board)
+-- The heading that is answered, and what refusal 3 asks. (01: Board; Eight refusals, 3)
 use Prim.Native.Nat.{ℕ, _≤_, _/_}
 use mathlib.Core.Path.{_≡_}
 use mathlib.Core.List.{List}
 use lib.ListN.{length}
 use Rattle.lin_spec.specs.Records.{optionOf}
-use Rattle.lin_spec.specs.Board.{BoardOf, boardFrom}
 use Rattle.lin_spec.specs.Refusals.{unless}
 use Rattle.lin_spec.specs.Refusals.Answer.{refused}
-use Rattle.lin_spec.specs.Reading.{spanText, stream, fewRows}
-use Rattle.lin_spec.specs.declared.Span.{Span}
+use Rattle.lin_spec.specs.Reading.{fewRows}
 use Rattle.lin_spec.specs.declared.Heading.{Heading}
 use Rattle.lin_spec.specs.declared.Verdict.{Verdict}
 use Rattle.lin_spec.specs.declared.Verdict.the-variants.{Accepted, Refused}
-use Rattle.board.specs.Dealing.{dealtFrom}
-use Rattle.board.specs.declared.heading.Head.{Head}
-
-abbrev pub boardAt : (s : List ℕ) (at : ℕ) → BoardOf Span
-boardAt s at = boardFrom (spanText s) (stream s at)
+use Rattle.board_steps.specs.Head.{boardAt}
+use Rattle.board_steps.specs.Dealing.{dealtFrom}
+use Rattle.board_steps.specs.declared.heading.Head.{Head}
 
 -- a heading that was read, with dealer and deal
 abbrev pub headOf : (s : List ℕ) → Head → Heading

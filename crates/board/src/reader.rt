@@ -1,10 +1,10 @@
 // The entries of `parse_lin`, and what they share with the reader of a file. (01: Board; File, "A heading call ..")
-use crate::dealing::dealt_by;
-use crate::heading::Head;
-use crate::heading::read_head;
-use crate::play::NextCard;
-use crate::play::next_card;
-use crate::storing::read_into;
+use board_steps::dealt_by;
+use board_steps::Head;
+use board_steps::read_head;
+use board_steps::NextCard;
+use board_steps::next_card;
+use board_steps::read_into;
 use document::Cursor;
 use document::Opened;
 use document::open;
@@ -22,7 +22,8 @@ ghost use lib.ListN.{length};
 ghost use Rattle.output.specs.Put.{Room, Put};
 ghost use Rattle.lin_spec.specs.Refusals.{unless};
 ghost use Rattle.lin_spec.specs.Reading.{headingOf, fewRows, Reading, stored, readHeading, readBoard};
-ghost use Rattle.board.specs.Reader.{boardAt, headOf, Ample, Counted};
+ghost use Rattle.board_steps.specs.Head.{boardAt};
+ghost use Rattle.board.specs.Reader.{headOf, Ample, Counted};
 
 // Stores every card from a place on.
 pub fn put_cards(cards: &mut [u8], text: &[u8], at: usize) -> usize

@@ -20,7 +20,7 @@ use Rattle.lin_spec.specs.declared.Refusal.the-variants.{TextTooLong, NotUtf8}
 use Rattle.lin_spec.proofs.Base.{picked}
 use Rattle.lin_spec.proofs.Utf8.{short, whole-text}
 use Rattle.lin_spec.proofs.File.{remaining, Found, all-remain}
-use Rattle.board.specs.Reader.{boardAt}
+use Rattle.board_steps.specs.Head.{boardAt}
 use Rattle.sections.specs.Sections.{sectionOf, standingOf}
 use Rattle.file.specs.Numbers.{Ready, Finds}
 use Rattle.sections.specs.declared.sections.Section.{Section}

@@ -26,7 +26,7 @@ use Rattle.lin_spec.proofs.Base.{and-left, and-right, split}
 use Rattle.lin_spec.proofs.Checks.{unless-same, unless-refused, unless-passed}
 use Rattle.lin_spec.proofs.Document.{opened}
 use Rattle.lin_spec.proofs.File.{remaining, Found, Visited, visits, all-remain}
-use Rattle.board.specs.Reader.{boardAt}
+use Rattle.board_steps.specs.Head.{boardAt}
 use Rattle.sections.specs.Sections.{sectionOf, standingOf, openedOf, visitOf}
 use Rattle.file.specs.Numbers.{first, Ready, Counts, Holds, Board, Numbers}
 use Rattle.sections.specs.declared.sections.Section.{Section}

@@ -21,7 +21,7 @@ use Rattle.lin_spec.specs.declared.Refusal.the-variants.{TextTooLong, OutputToo
 use Rattle.lin_spec.specs.declared.Heading.{Heading}
 use Rattle.lin_spec.proofs.Checks.{unless-refused, unless-passed}
 use Rattle.lin_spec.proofs.File.{remaining, Found, all-remain}
-use Rattle.board.specs.Reader.{boardAt}
+use Rattle.board_steps.specs.Head.{boardAt}
 use Rattle.sections.specs.Sections.{sectionOf, standingOf, openedOf}
 use Rattle.file.specs.Numbers.{Ready}
 use Rattle.sections.specs.declared.sections.Section.{Section}

@@ -50,6 +50,7 @@ use Rattle.output.specs.Put.{Put}
 use Rattle.listing.specs.Lines.{sectionLine}
 use Rattle.listing_lines.proofs.LineLaws.{header-long, field-long, lengths-long, board-long, refusal-long}
 use Rattle.listing.proofs.FileLaws.{rest, rest-begin, rest-end, rest-on, list-over}
+use Rattle.board_steps.proofs.CallLaws.{annotated-length}
 
 -- Digits
 
@@ -149,12 +150,6 @@ over-grows f g at (piece x (piece y r)) b =
     let l = g x (span (at + (length x + 1)) (length y)) b in
     let q : length (x ++ pipe ∷ (y ++ pipe ∷ joined pipe r)) ≡ length x + suc (length y + suc (length (joined pipe r))) = simp length-append in
     omega arith
-
-annotated-length : {A : Type 0} (v : A) (cs : List (CallOf A)) → length (annotated v cs) ≡ length cs
-unfolding annotated
-annotated-length v [] = refl
-annotated-length v (c ∷ []) = refl
-annotated-length v (c ∷ d ∷ cs) = ap suc (annotated-length v (d ∷ cs))
 
 calls-grow : (t c : List ℕ) (v : Span) (b : List (CallOf Span)) → length (onCalls (spanText t) c v b) ≤ length b + 1
 calls-grow t c v b =

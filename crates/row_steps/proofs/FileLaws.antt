@@ -10,7 +10,7 @@ use Rattle.lin_spec.specs.File.{openBoards, sections, boardsOf, numbered}
 use Rattle.lin_spec.specs.declared.Span.{Span}
 use Rattle.lin_spec.specs.declared.Refusal.{Refusal}
 use Rattle.lin_spec.specs.declared.Refusal.the-variants.{NoBoard}
-use Rattle.board.specs.Reader.{boardAt}
+use Rattle.board_steps.specs.Head.{boardAt}
 use Rattle.sections.specs.Sections.{openedOf}
 use Rattle.file.specs.Numbers.{Board, Holds}
 use Rattle.sections.specs.declared.sections.BoardCursor.{BoardCursor}

@@ -32,10 +32,10 @@ use Rattle.document.specs.Steps.{openedOf}
 use Rattle.document.specs.declared.tokens.Opened.{Opened}
 use Rattle.document.specs.declared.tokens.Opened.the-variants.{At, Refused}
 use Rattle.document.specs.declared.tokens.Cursor.{Cursor}
-use Rattle.board.specs.Calls.{rowOf, callsFrom, CallAt, Gives}
-use Rattle.board.specs.Reader.{boardAt}
-use Rattle.board.specs.declared.calls.NextCall.{NextCall}
-use Rattle.board.specs.declared.calls.NextCall.the-variants.{Found, Ended}
+use Rattle.board_steps.specs.Calls.{rowOf, callsFrom, CallAt, Gives}
+use Rattle.board_steps.specs.Head.{boardAt}
+use Rattle.board_steps.specs.declared.calls.NextCall.{NextCall}
+use Rattle.board_steps.specs.declared.calls.NextCall.the-variants.{Found, Ended}
 use Rattle.rows.specs.declared.CallRow.{CallRow}
 use Rattle.row_steps.specs.declared.steps.RowStep.{RowStep}
 use Rattle.row_steps.specs.declared.steps.Headed.{Headed}

@@ -15,8 +15,8 @@ use Rattle.lin_spec.specs.File.{noBoard, fileSpans, numbered}
 use Rattle.lin_spec.specs.declared.Span.{Span}
 use Rattle.lin_spec.specs.declared.RowKind.the-variants.{Calls, Cards}
 use Rattle.lin_spec.specs.declared.Refusal.{Refusal}
-use Rattle.board.specs.Calls.{callsFrom}
-use Rattle.board.specs.Reader.{boardAt}
+use Rattle.board_steps.specs.Calls.{callsFrom}
+use Rattle.board_steps.specs.Head.{boardAt}
 use Rattle.row_steps.specs.declared.steps.RowStep.{RowStep}
 use Rattle.row_steps.specs.declared.steps.Headed.{Headed}
 use Rattle.rows.specs.Rows.{rowIn}

@@ -1,7 +1,7 @@
 // One call of a run of tokens as a row, and a board's heading with the place of its calls. (01: Board; File; Language form)
-use board::NextCall;
+use board_steps::NextCall;
 use board::heading_at;
-use board::next_call;
+use board_steps::next_call;
 use board::put_cards;
 use document::Cursor;
 use document::Opened;
@@ -20,7 +20,7 @@ use sections::open_boards;
 ghost use mathlib.Core.Path.{_≡_};
 ghost use Prim.Native.Nat.{_<_, _≤_, _^_};
 ghost use lib.ListN.{length, take};
-ghost use Rattle.board.specs.Reader.{boardAt};
+ghost use Rattle.board_steps.specs.Head.{boardAt};
 ghost use Rattle.lin_spec.specs.Refusals.{unless};
 ghost use Rattle.row_steps.specs.Steps.{fewStructs, textAnswer, fileAnswer, Steps, Heads, refusedHeaded};
 

@@ -28,7 +28,7 @@ use Rattle.lin_spec.specs.declared.Verdict.{Verdict}
 use Rattle.lin_spec.specs.declared.Verdict.the-variants.{Accepted, Refused}
 use Rattle.lin_spec.proofs.Accepted.{words-length, lent-back}
 use Rattle.lin_spec.proofs.ThirdDemand.{third-demand}
-use Rattle.board.specs.Calls.{rowOf}
+use Rattle.board_steps.specs.Calls.{rowOf}
 use Rattle.rows.specs.declared.CallRow.{CallRow}
 use Rattle.rows.specs.Rows.{called, rowIn, laid}
 use Rattle.row_steps.specs.Steps.{fileAnswer}

@@ -16,8 +16,8 @@ use Rattle.lin_spec.specs.Reading.{stream, headed}
 use Rattle.lin_spec.specs.declared.Span.{Span}
 use Rattle.lin_spec.specs.declared.Heading.{Heading}
 use Rattle.output.proofs.Laws.{overlay-nil}
-use Rattle.board.specs.Calls.{callsFrom}
-use Rattle.board.specs.Reader.{boardAt}
+use Rattle.board_steps.specs.Calls.{callsFrom}
+use Rattle.board_steps.specs.Head.{boardAt}
 use Rattle.board.proofs.ReaderLaws.{calls-are}
 use Rattle.rows.specs.declared.CallRow.{CallRow}
 use Rattle.row_steps.specs.declared.steps.RowStep.{RowStep}

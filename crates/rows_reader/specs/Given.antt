@@ -7,7 +7,7 @@ use Rattle.lin_spec.specs.Board.{BoardOf}
 use Rattle.lin_spec.specs.Lent.{Lent, meaning}
 use Rattle.lin_spec.specs.declared.Board.{Board}
 use Rattle.lin_spec.specs.declared.Verdict.the-variants.{Accepted}
-use Rattle.board.specs.Calls.{rowOf}
+use Rattle.board_steps.specs.Calls.{rowOf}
 use Rattle.rows.specs.declared.CallRow.{CallRow}
 use Rattle.rows.specs.Rows.{called}
 use Rattle.rows_reader.specs.Reader.{RowReading}

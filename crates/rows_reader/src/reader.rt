@@ -9,7 +9,7 @@ ghost use mathlib.Core.Path.{_≡_};
 ghost use mathlib.Core.List.{map};
 ghost use Prim.Native.Nat.{_<_, _≤_, _^_};
 ghost use lib.ListN.{length, take};
-ghost use Rattle.board.specs.Reader.{boardAt};
+ghost use Rattle.board_steps.specs.Head.{boardAt};
 ghost use Rattle.rows.specs.Rows.{rowIn, laid};
 ghost use Rattle.rows_reader.specs.Reader.{RowReading, readRows, fileRows};
 

@@ -1,8 +1,8 @@
 -- `board::put_cards` meets its contract: a turn takes one card off those that are left to store.
 -- Assumes nothing.
 use Rattle.board.proofs.ReaderLaws.{given-card, all-cards, card-left, cards-left}
-use Rattle.board.specs.Reader.{boardAt}
-use Rattle.board.specs.Play.{cardsFrom}
+use Rattle.board_steps.specs.Head.{boardAt}
+use Rattle.board_steps.specs.Play.{cardsFrom}
 use Rattle.output.proofs.Laws.{Left, roomy, step, finish}
 use Rattle.lin_spec.specs.Reading.{stream}
 use lib.ListN.{length}

@@ -40,7 +40,7 @@ use denote.Triple.Table.{entered, cited}
 use denote.Triple.Walked.{says, Stays, stay-slice, stay-none-slice, walkOf, AllGo, goes-slice, goes-none-slice, Walks, ends-at, walked, walk-meets}
 use denote.Exit.{yes}
 use Rattle.lin_spec.specs.declared.Heading.{Heading}
-use Rattle.board.specs.Reader.{boardAt}
+use Rattle.board_steps.specs.Head.{boardAt}
 use Rattle.rows.specs.declared.CallRow.{CallRow}
 use Rattle.row_steps.specs.declared.steps.Headed.{Headed}
 use Rattle.rows.specs.Rows.{rowIn, laid}

@@ -51,7 +51,7 @@ use denote.Triple.Walked.{says, needs, Stays, stay-slice, stay-none, stay-none-s
 use denote.Exit.{yes}
 use Rattle.lin_spec.specs.declared.Span.{Span}
 use Rattle.lin_spec.specs.Board.{CallOf}
-use Rattle.board.specs.Reader.{boardAt}
+use Rattle.board_steps.specs.Head.{boardAt}
 use Rattle.rows.specs.declared.CallRow.{CallRow}
 use Rattle.row_steps.specs.declared.steps.RowStep.{RowStep}
 use Rattle.rows.specs.Rows.{emptyRow, rowIn, laid}

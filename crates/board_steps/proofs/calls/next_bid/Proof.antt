@@ -1,0 +1,66 @@
+-- `board::next_bid` meets its contract: a turn takes a token that is no mb off those that are still to be read.
+-- Assumes nothing.
+use Rattle.board_steps.proofs.CallLaws.{from-end, from-mb, from-other}
+use Rattle.board_steps.specs.Calls.{callsFrom}
+use Rattle.lin_spec.specs.Reading.{stream}
+use Rattle.commands.proofs.StepLaws.{known}
+use lib.ListN.{length}
+use mathlib.Core.Path.{_≡_, refl, _∙_, sym}
+use borrow.Author.Needs.{needs}
+use native.Mathlib.Omega.{arith}
+use Prim.Native.Nat.{_-_}
+use Rattle.board_steps.proofs.calls.next_bid.Statement.{statement}
+use Rattle.board_steps.proofs.calls.next_bid.Tie as tie
+
+abbrev Inv-loop : tie.InvT-loop
+Inv-loop text c₀ c = callsFrom text (stream text (c .at)) ≡ callsFrom text (stream text (c₀ .at))
+
+abbrev μ-loop : tie.MeasureT-loop
+μ-loop text c₀ c = length text - c .at
+
+-- src/calls.rt:93:5
+loop-holds : tie.Need-loop-holds Inv-loop μ-loop
+loop-holds c = refl
+
+-- src/calls.rt:94:15
+next-known-requires : tie.Need-next-known-requires Inv-loop μ-loop
+next-known-requires c κs = c .before .before .pre
+
+-- src/calls.rt:95:26
+enum-known-k : tie.Need-enum-known-k Inv-loop μ-loop
+enum-known-k c = search needs
+
+-- src/calls.rt:97:21
+returns : tie.Need-returns Inv-loop μ-loop
+returns c = let t = known _ _ _ _ (c .before .before .before .before .next-known .ensures) (c .before .before .k .given .1) in (sym (c .before .before .before .before .before .loop .inv) ∙ from-mb _ _ _ _ _ t (c .if1 .taken), t .value)
+
+-- src/calls.rt:93:5
+loop-less : tie.Need-loop-less Inv-loop μ-loop
+loop-less c = let t = known _ _ _ _ (c .before .before .before .before .next-known .ensures) (c .before .before .k .given .1) in omega (arith, t .later, t .within)
+
+-- src/calls.rt:93:5
+loop-again : tie.Need-loop-again Inv-loop μ-loop
+loop-again c = from-other _ _ _ _ _ (known _ _ _ _ (c .before .before .before .before .next-known .ensures) (c .before .before .k .given .1)) (c .if1 .left) ∙ c .before .before .before .before .before .loop .inv
+
+-- src/calls.rt:102:17
+enum-told : tie.Need-enum-told Inv-loop μ-loop
+enum-told c = search needs
+
+-- src/calls.rt:102:17
+returns-2 : tie.Need-returns-2 Inv-loop μ-loop
+returns-2 c = sym (c .before .before .before .loop .inv) ∙ from-end _ _ (known _ _ _ _ (c .before .before .next-known .ensures) (c .enum-told .given .1))
+
+pub next-bid-spec : {M : Type 1} → statement M
+next-bid-spec =
+    tie.close
+    (tie.spec
+    Inv-loop
+    μ-loop
+    loop-holds
+    next-known-requires
+    enum-known-k
+    returns
+    loop-less
+    loop-again
+    enum-told
+    returns-2)

@@ -1,0 +1,75 @@
+-- `board::next_note` meets its contract: a turn takes a token that is no mb off those that are still to be read.
+-- Assumes nothing.
+use Rattle.board_steps.proofs.CallLaws.{after-end, after-mb, after-other}
+use Rattle.board_steps.specs.Calls.{callsAfter}
+use Rattle.lin_spec.specs.Reading.{stream}
+use Rattle.lin_spec.specs.declared.Span.{Span}
+use Rattle.lin_spec.specs.Board.{CallOf}
+use Rattle.lin_spec.specs.Records.{optionOf}
+use mathlib.Core.Option.{none}
+use Rattle.commands.proofs.StepLaws.{known}
+use lib.ListN.{length}
+use mathlib.Core.Path.{_≡_, refl, _∙_, sym}
+use borrow.Author.Needs.{needs}
+use native.Mathlib.Omega.{arith}
+use Prim.Native.Nat.{_-_}
+use Rattle.board_steps.proofs.calls.next_note.Statement.{statement}
+use Rattle.board_steps.proofs.calls.next_note.Tie as tie
+
+abbrev Inv-loop : tie.InvT-loop
+Inv-loop text annotation₀ c₀ annotation c = (x : CallOf Span) → callsAfter text x (optionOf annotation) (stream text (c .at)) ≡ callsAfter text x none (stream text (c₀ .at))
+
+abbrev μ-loop : tie.MeasureT-loop
+μ-loop text annotation₀ c₀ annotation c = length text - c .at
+
+-- src/calls.rt:115:5
+loop-holds : tie.Need-loop-holds Inv-loop μ-loop
+loop-holds c = λ x. refl
+
+-- src/calls.rt:116:15
+next-known-requires : tie.Need-next-known-requires Inv-loop μ-loop
+next-known-requires c κs = c .before .before .pre
+
+-- src/calls.rt:117:26
+enum-known-k : tie.Need-enum-known-k Inv-loop μ-loop
+enum-known-k c = search needs
+
+-- src/calls.rt:119:21
+returns : tie.Need-returns Inv-loop μ-loop
+returns c = λ x. sym (c .before .before .before .before .before .loop .inv x) ∙ after-mb _ _ _ _ _ (known _ _ _ _ (c .before .before .before .before .next-known .ensures) (c .before .before .k .given .1)) (c .if1 .taken) x _
+
+-- src/calls.rt:124:17
+on-present-requires : tie.Need-on-present-requires Inv-loop μ-loop
+on-present-requires c κs = tt
+
+-- src/calls.rt:115:5
+loop-less : tie.Need-loop-less Inv-loop μ-loop
+loop-less c = let t = known _ _ _ _ (c .before .before .before .before .before .next-known .ensures) (c .before .before .before .k .given .1) in omega (arith, t .later, t .within)
+
+-- src/calls.rt:115:5
+loop-again : tie.Need-loop-again Inv-loop μ-loop
+loop-again c = λ x. after-other _ _ _ _ _ (known _ _ _ _ (c .before .before .before .before .before .next-known .ensures) (c .before .before .before .k .given .1)) (c .before .if1 .left) x _ _ (c .on-present .ensures) ∙ c .before .before .before .before .before .before .loop .inv x
+
+-- src/calls.rt:128:17
+enum-told : tie.Need-enum-told Inv-loop μ-loop
+enum-told c = search needs
+
+-- src/calls.rt:128:17
+returns-2 : tie.Need-returns-2 Inv-loop μ-loop
+returns-2 c = λ x. sym (c .before .before .before .loop .inv x) ∙ after-end _ _ x _ (known _ _ _ _ (c .before .before .next-known .ensures) (c .enum-told .given .1))
+
+pub next-note-spec : {M : Type 1} → statement M
+next-note-spec =
+    tie.close
+    (tie.spec
+    Inv-loop
+    μ-loop
+    loop-holds
+    next-known-requires
+    enum-known-k
+    returns
+    on-present-requires
+    loop-less
+    loop-again
+    enum-told
+    returns-2)

@@ -1,0 +1,23 @@
+-- The dealer and the deal as the code holds them, from the value of the last md that is accepted. (01: Board, md)
+use mathlib.Core.List.{List}
+use mathlib.Core.Option.{Option, none, some}
+use Prim.Native.Nat.{ℕ}
+use Rattle.lin_spec.specs.Records.{bytesAt}
+use Rattle.lin_spec.specs.White.{trim}
+use Rattle.lin_spec.specs.Board.{Dealt as DealtBy, undealt, readMd}
+use Rattle.lin_spec.specs.declared.Span.{Span}
+use Rattle.lin_spec.specs.declared.Seat.{Seat}
+use Rattle.board_steps.specs.declared.dealing.MaybeSeat.{MaybeSeat}
+use Rattle.board_steps.specs.declared.dealing.MaybeSeat.the-variants.{Dealer, Nobody}
+use Rattle.board_steps.specs.declared.dealing.Dealt.{Dealt}
+
+abbrev pub seatOf : MaybeSeat → Option Seat
+seatOf (Dealer x) = some x
+seatOf Nobody = none
+
+abbrev pub held : Dealt → DealtBy
+held d = record { dealer = d .dealer; deal = d .deal .counts }
+
+abbrev pub dealtFrom : (s : List ℕ) → Option Span → DealtBy
+dealtFrom s none = undealt
+dealtFrom s (some v) = readMd (trim (bytesAt s v)) undealt

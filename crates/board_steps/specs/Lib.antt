@@ -1,0 +1,5 @@
+pub mod Head
+pub mod Dealing
+pub mod Calls
+pub mod Play
+pub mod Storing

@@ -1,0 +1,31 @@
+-- A board that is stored while its tokens are read. (01: Board; Records, "The calls stand in a list of rows ..")
+use Prim.Native.Nat.{ℕ, _≤_, _<_, _^_}
+use mathlib.Core.Path.{_≡_}
+use mathlib.Core.List.{List, [], _∷_}
+use lib.ListN.{length}
+use Rattle.lin_spec.specs.Output.{overlay}
+use Rattle.lin_spec.specs.Reading.{stream, callWords}
+use Rattle.lin_spec.specs.declared.Span.{Span}
+use Rattle.output.specs.Put.{joined}
+use Rattle.board_steps.specs.Head.{boardAt, freshHead, Leaves}
+use Rattle.board_steps.specs.declared.heading.Head.{Head}
+
+-- the last three words of a call that has an annotation
+abbrev pub notePieces : Span → List (List ℕ)
+notePieces v = (1 ∷ []) ∷ (v .start ∷ []) ∷ (v .len ∷ []) ∷ []
+
+unfoldable pub noteWords : Span → List ℕ
+noteWords v = joined (notePieces v)
+
+-- the board's calls and cards have places
+pub record Fits (s : List ℕ) (at : ℕ) (rows cards : List ℕ) : Type 0 where
+  pub within : at ≤ length s
+  pub short : length s < 2 ^ 32
+  pub calls : length (callWords (boardAt s at .calls)) ≤ length rows
+  pub play : length (boardAt s at .play) ≤ length cards
+
+-- h is the heading, and rows and cards hold the board's calls and cards
+pub record Stored (s : List ℕ) (at : ℕ) (rows₀ cards₀ : List ℕ) (h : Head) (rows cards : List ℕ) : Type 0 where
+  pub leaves : Leaves s (stream s at) h freshHead []
+  pub calls : rows ≡ overlay rows₀ 0 (callWords (boardAt s at .calls))
+  pub play : cards ≡ overlay cards₀ 0 (boardAt s at .play)

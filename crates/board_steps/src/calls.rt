@@ -1,0 +1,152 @@
+// The calls of a run of tokens, one at a time. (01: Board, mb and an)
+use commands::AN;
+use commands::Known;
+use commands::MB;
+use commands::next_known;
+use commands::on_present;
+use document::Cursor;
+use lin_spec::Call;
+use lin_spec::MaybeSpan;
+use lin_spec::Span;
+use text::shown;
+ghost use mathlib.Core.Path.{_≡_};
+ghost use mathlib.Core.List.{[], _∷_};
+ghost use Prim.Native.Nat.{_<_, _≤_, _^_};
+ghost use lib.ListN.{length};
+ghost use Rattle.lin_spec.specs.Board.{withoutEnd, callOf};
+ghost use Rattle.lin_spec.specs.Records.{optionOf, endOf};
+ghost use Rattle.lin_spec.specs.Reading.{spanText, flag};
+ghost use Rattle.board_steps.specs.Calls.{with, rowOf, Bids, Notes, Gives};
+
+// A call with the cursor after it, or no call.
+pub enum NextCall {
+    Found(Call, Cursor),
+    Ended,
+}
+
+// The value of an mb with the cursor after it, or none.
+enum Bid {
+    Made(Span, Cursor),
+    Ended,
+}
+
+// An annotation, with the cursor at the next mb or at the end.
+struct Note {
+    annotation: MaybeSpan,
+    cursor: Cursor,
+}
+
+// How long a value is without the exclamation marks at its end.
+fn bid_len(value: &[u8]) -> usize
+    ensures { λ r. ⌜ (r ≡ length (withoutEnd 0x21 (now (value .entry)))) × (r ≤ length (now (value .entry))) ⌝ }
+{
+    let mut n = value.len();
+    while 0 < n {
+        if value[n - 1] != b'!' {
+            return n;
+        }
+        n -= 1;
+    }
+    n
+}
+
+// 1 or 0.
+fn flag_of(b: bool) -> u32
+    ensures { λ r. ⌜ r ≡ flag b ⌝ }
+{
+    if b { 1 } else { 0 }
+}
+
+// The call of an mb value with an annotation or none.
+pub(crate) fn call_of(text: &[u8], v: Span, annotation: MaybeSpan) -> Call
+    requires { ⌜ endOf v ≤ length (now text) ⌝ }
+    ensures { λ r. ⌜ r ≡ rowOf (with (callOf (spanText (now (text .entry))) v) (optionOf annotation)) ⌝ }
+{
+    let n = bid_len(shown(text, v));
+    let bid = Span {
+        start: v.start,
+        len: n as u32,
+    };
+    let alerted = flag_of(n < v.len as usize);
+    match annotation {
+        MaybeSpan::Absent => Call {
+            bid,
+            alerted,
+            annotated: 0,
+            annotation: Span { start: 0, len: 0 },
+        },
+        MaybeSpan::Present(x) => Call {
+            bid,
+            alerted,
+            annotated: 1,
+            annotation: x,
+        },
+    }
+}
+
+// The next mb.
+fn next_bid(text: &[u8], cursor: Cursor) -> Bid
+    requires { ⌜ length (now text) < 2 ^ 32 ⌝ }
+    ensures { λ r. ⌜ Bids (now (text .entry)) (cursor .at) r ⌝ }
+{
+    let mut c = cursor;
+    loop {
+        match next_known(text, c) {
+            Known::Token(k, v, next) => {
+                if k == MB {
+                    return Bid::Made(v, next);
+                }
+                c = next;
+            }
+            Known::Ended => {
+                return Bid::Ended;
+            }
+        }
+    }
+}
+
+// The last an before the next mb.
+fn next_note(text: &[u8], cursor: Cursor) -> Note
+    requires { ⌜ length (now text) < 2 ^ 32 ⌝ }
+    ensures { λ r. ⌜ Notes (now (text .entry)) (cursor .at) r ⌝ }
+{
+    let mut annotation = MaybeSpan::Absent;
+    let mut c = cursor;
+    loop {
+        match next_known(text, c) {
+            Known::Token(k, v, next) => {
+                if k == MB {
+                    return Note {
+                        annotation,
+                        cursor: c,
+                    };
+                }
+                annotation = on_present(k == AN, v, annotation);
+                c = next;
+            }
+            Known::Ended => {
+                return Note {
+                    annotation,
+                    cursor: c,
+                };
+            }
+        }
+    }
+}
+
+// The next call.
+pub fn next_call(text: &[u8], cursor: Cursor) -> NextCall
+    requires { ⌜ length (now text) < 2 ^ 32 ⌝ }
+    ensures { λ r. ⌜ Gives (now (text .entry)) (cursor .at) r ⌝ }
+{
+    match next_bid(text, cursor) {
+        Bid::Made(v, c) => {
+            let note = next_note(text, c);
+            let annotation = note.annotation;
+            let after = note.cursor;
+            let call = call_of(text, v, annotation);
+            NextCall::Found(call, after)
+        }
+        Bid::Ended => NextCall::Ended,
+    }
+}

@@ -1,0 +1,99 @@
+// A board in one pass over its tokens: the heading kept, each call and each card stored as it is met. (01: Board, `from_tokens`)
+use crate::calls::call_of;
+use crate::heading::Head;
+use crate::heading::fresh_head;
+use crate::heading::step;
+use crate::play::card_at;
+use cards::MaybeCard;
+use commands::AN;
+use commands::MB;
+use commands::MC;
+use commands::PC;
+use commands::command_at;
+use commands::on_count;
+use document::next_pipe;
+use lin_spec::Call;
+use lin_spec::MaybeSpan;
+use lin_spec::Span;
+use output::put_byte;
+use output::put_word;
+ghost use mathlib.Core.Path.{_≡_};
+ghost use Rattle.output.specs.Put.{Room, Put};
+ghost use Rattle.board_steps.specs.Calls.{rowWords};
+ghost use Rattle.board_steps.specs.Play.{cardOf};
+ghost use Rattle.board_steps.specs.Storing.{noteWords, Fits, Stored};
+
+// Stores a call in a row of six words.
+fn put_call(rows: &mut [u32], at: usize, c: Call) -> usize
+    requires { ⌜ Room (now rows) at (rowWords c) ⌝ }
+    ensures { λ r. ⌜ Put (now (rows .entry)) at (rowWords c) (now (rows .exit)) r ⌝ }
+{
+    let bid = c.bid;
+    let annotation = c.annotation;
+    let a = put_word(rows, at, bid.start);
+    let b = put_word(rows, a, bid.len);
+    let d = put_word(rows, b, c.alerted);
+    let e = put_word(rows, d, c.annotated);
+    let f = put_word(rows, e, annotation.start);
+    put_word(rows, f, annotation.len)
+}
+
+// Stores an annotation in the last three words of a row.
+fn put_note(rows: &mut [u32], at: usize, v: Span) -> usize
+    requires { ⌜ Room (now rows) at (noteWords v) ⌝ }
+    ensures { λ r. ⌜ Put (now (rows .entry)) at (noteWords v) (now (rows .exit)) r ⌝ }
+{
+    let a = put_word(rows, at, 1);
+    let b = put_word(rows, a, v.start);
+    put_word(rows, b, v.len)
+}
+
+// Stores the card of a pc, if its value is one.
+fn put_card(cards: &mut [u8], at: usize, text: &[u8], v: Span) -> usize
+    requires { ⌜ Room (now cards) at (cardOf (now text) v) ⌝ }
+    ensures { λ r. ⌜ Put (now (cards .entry)) at (cardOf (now (text .entry)) v) (now (cards .exit)) r ⌝ }
+{
+    match card_at(text, PC, v) {
+        MaybeCard::Card(c) => put_byte(cards, at, c),
+        MaybeCard::Nothing => at,
+    }
+}
+
+// The heading that the tokens of a text from a place on give, with every call and card stored.
+pub fn read_into(text: &[u8], at: usize, rows: &mut [u32], cards: &mut [u8]) -> Head
+    requires { ⌜ Fits (now text) at (now rows) (now cards) ⌝ }
+    ensures { λ r. ⌜ Stored (now (text .entry)) at (now (rows .entry)) (now (cards .entry)) r (now (rows .exit)) (now (cards .exit)) ⌝ }
+{
+    let mut h = fresh_head();
+    let mut n = 0;
+    let mut c = at;
+    loop {
+        let p = next_pipe(text, c);
+        let v = p + 1;
+        let q = next_pipe(text, v);
+        if text.len() <= q {
+            return h;
+        }
+        let k = command_at(text, c, p);
+        let value = Span {
+            start: v as u32,
+            len: (q - v) as u32,
+        };
+        c = q + 1;
+        if k == PC {
+            h.cards = put_card(cards, h.cards, text, value);
+        } else if MC < k {
+            // None of the commands that a board knows.
+        } else if k == MB {
+            let call = call_of(text, value, MaybeSpan::Absent);
+            n = put_call(rows, n, call);
+            h.calls = on_count(true, h.calls);
+        } else if k == AN {
+            if 0 < n {
+                put_note(rows, n - 3, value);
+            }
+        } else {
+            h = step(text, h, k, value);
+        }
+    }
+}
