@@ -1,9 +1,9 @@
 // The entries of `parse_lin`, and what they share with the reader of a file. (01: Board; File, "A heading call ..")
-use board_steps::dealt_by;
 use board_steps::Head;
-use board_steps::read_head;
 use board_steps::NextCard;
+use board_steps::dealt_by;
 use board_steps::next_card;
+use board_steps::read_head;
 use board_steps::read_into;
 use document::Cursor;
 use document::Opened;

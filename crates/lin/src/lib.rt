@@ -37,7 +37,7 @@ pub use file::Counted;
 pub use file::count_boards;
 pub use file::file_board;
 pub use file::file_heading;
-pub use file::find_name;
+pub use finder::find_name;
 pub use sections::BoardCursor;
 pub use sections::BoardStep;
 pub use sections::OpenedBoards;

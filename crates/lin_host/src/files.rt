@@ -3,7 +3,7 @@ use file::Counted;
 use file::count_boards;
 use file::file_board;
 use file::file_heading;
-use file::find_name;
+use finder::find_name;
 use host_numbers::LinAnswer;
 use host_numbers::LinHeading;
 use host_numbers::heading_numbers;

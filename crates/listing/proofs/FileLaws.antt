@@ -32,7 +32,7 @@ use Rattle.file.proofs.NumberLaws.{Way, way-begin, way-on, number-board, number
 use Rattle.output.specs.Put.{Room, Put}
 use Rattle.output.proofs.Laws.{Left, start, roomy, step, finish, overlay-nil}
 use Rattle.listing.specs.Lines.{sectionLine}
-use Rattle.listing_lines.proofs.LineLaws.{header-long}
+use Rattle.listing_words.proofs.LineLaws.{header-long}
 use Rattle.listing_lines.proofs.Answers.{line-small, line-fits, line-done}
 
 -- A section's line

@@ -48,7 +48,7 @@ use Rattle.sections.specs.declared.sections.BoardCursor.{BoardCursor}
 use Rattle.file.proofs.NumberLaws.{Way, way-begin, way-on}
 use Rattle.output.specs.Put.{Put}
 use Rattle.listing.specs.Lines.{sectionLine}
-use Rattle.listing_lines.proofs.LineLaws.{header-long, field-long, lengths-long, board-long, refusal-long}
+use Rattle.listing_words.proofs.LineLaws.{header-long, field-long, lengths-long, board-long, refusal-long}
 use Rattle.listing.proofs.FileLaws.{rest, rest-begin, rest-end, rest-on, list-over}
 use Rattle.board_steps.proofs.CallLaws.{annotated-length}
 

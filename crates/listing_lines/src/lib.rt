@@ -1,6 +1,5 @@
 // The lines that the program linlist prints: the header, a board's line and a refusal's, each as an entry. (01: Program linlist)
 mod lines;
-mod words;
 
 pub use lines::board_line;
 pub use lines::board_line_len;

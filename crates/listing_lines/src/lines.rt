@@ -1,17 +1,17 @@
 // The lines: each put at a place that has room, its length, and as an entry that fills an output from the first byte on or is refused by 7.
 // (01: Program linlist; refusal 7)
-use crate::words::claim_len;
-use crate::words::field_len;
-use crate::words::lengths_len;
-use crate::words::put_claim;
-use crate::words::put_field;
-use crate::words::put_lengths;
-use crate::words::put_letters;
-use crate::words::put_number;
 use lin_spec::Heading;
 use lin_spec::Refusal;
 use lin_spec::Written;
 use lin_spec::room;
+use listing_words::claim_len;
+use listing_words::field_len;
+use listing_words::lengths_len;
+use listing_words::put_claim;
+use listing_words::put_field;
+use listing_words::put_lengths;
+use listing_words::put_letters;
+use listing_words::put_number;
 use output::decimal_len;
 use output::put_byte;
 use output::put_bytes;

@@ -1,7 +1,7 @@
 // The name finder over a text. (01: "the finder counts a file's boards with a given name ..")
 use crate::texts::Text;
-use file::find_name;
 use filecheck::count_is;
+use finder::find_name;
 use text::part;
 use vectors::Score;
 use vectors::counted;

@@ -1,8 +1,8 @@
 // One call of a run of tokens as a row, and a board's heading with the place of its calls. (01: Board; File; Language form)
-use board_steps::NextCall;
 use board::heading_at;
-use board_steps::next_call;
 use board::put_cards;
+use board_steps::NextCall;
+use board_steps::next_call;
 use document::Cursor;
 use document::Opened;
 use document::open;

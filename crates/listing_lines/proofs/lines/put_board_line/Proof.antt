@@ -7,8 +7,8 @@ use denote.Ref.{now}
 use Rattle.output.specs.Put.{joined}
 use Rattle.output.proofs.Laws.{Left, start, roomy, step, finish}
 use Rattle.lin_spec.specs.Listing.{boardLine}
-use Rattle.listing_lines.specs.Pieces.{boardPieces}
-use Rattle.listing_lines.proofs.LineLaws.{board-is}
+use Rattle.listing_words.specs.Pieces.{boardPieces}
+use Rattle.listing_words.proofs.LineLaws.{board-is}
 use Rattle.listing_lines.proofs.lines.put_board_line.Statement.{statement}
 use Rattle.listing_lines.proofs.lines.put_board_line.Tie as tie
 

@@ -1,0 +1,4 @@
+// The name finder. (01: names)
+mod finder;
+
+pub use finder::find_name;
