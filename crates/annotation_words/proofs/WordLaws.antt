@@ -18,9 +18,9 @@ use Rattle.lin_spec.specs.Annotation.{noteOf, run, isMark, charBytes, partLengt
 use Rattle.lin_spec.specs.Utf8.{first}
 use Rattle.lin_spec.specs.declared.Span.{Span}
 use Rattle.lin_spec.proofs.Base.{picked, allBelow, same-below}
-use Rattle.text.specs.Digits.{numberOf}
-use Rattle.text.specs.declared.digits.MaybeNumber.{MaybeNumber}
-use Rattle.text.specs.declared.digits.MaybeNumber.the-variants.{Number, Nothing as NoNumber}
+use Rattle.digits.specs.Digits.{numberOf}
+use Rattle.digits.specs.declared.digits.MaybeNumber.{MaybeNumber}
+use Rattle.digits.specs.declared.digits.MaybeNumber.the-variants.{Number, Nothing as NoNumber}
 use Rattle.output.specs.Put.{Room, Put}
 use Rattle.output.proofs.Laws.{overlay-nil}
 use Rattle.annotation_words.specs.declared.words.Word.{Word}

@@ -1,7 +1,7 @@
 // The part at the front of a raw annotation. (01: From PBN, "`=` to the next `=` (or the end); `$` with its digits; a run of `!` and `?`; else
 // one character")
+use digits::is_digit;
 use text::find_byte;
-use text::is_digit;
 use text::width;
 ghost use mathlib.Core.Path.{_≡_};
 ghost use Prim.Native.Nat.{_+_, _≤_, min};

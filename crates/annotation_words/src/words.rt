@@ -1,11 +1,11 @@
 // The word that a part gives, its length, and the word put after those before it. (01: From PBN, "`=n=` gives note n, .. or stays as written; `$1`
 // to `$6` give `!` `?` `!!` `??` `!?` `?!`; runs stay; others and empty words go")
 use crate::parts::is_mark;
+use digits::MaybeNumber;
+use digits::read_number;
 use lin_spec::Span;
 use output::put_byte;
 use output::put_bytes;
-use text::MaybeNumber;
-use text::read_number;
 use text::shown;
 ghost use mathlib.Core.Path.{_≡_};
 ghost use Prim.Native.Nat.{_<_};

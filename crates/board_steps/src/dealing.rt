@@ -4,7 +4,7 @@ use lin_spec::Deal;
 use lin_spec::MaybeSpan;
 use lin_spec::Seat;
 use text::shown;
-use text::trim;
+use white::trim;
 ghost use mathlib.Core.Path.{_≡_};
 ghost use Prim.Native.Nat.{_<_, _^_};
 ghost use lib.ListN.{length};

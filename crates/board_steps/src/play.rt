@@ -7,7 +7,7 @@ use commands::next_known;
 use document::Cursor;
 use lin_spec::Span;
 use text::shown;
-use text::trim;
+use white::trim;
 ghost use mathlib.Core.Path.{_≡_};
 ghost use mathlib.Core.Option.{none};
 ghost use Prim.Native.Nat.{_<_, _^_};

@@ -1,13 +1,13 @@
 // A board, put into an output at a place that has room, and how many bytes it has. (01: Writer)
 use crate::heading::heading_len;
 use crate::heading::put_heading;
-use cardtext::md_len;
-use cardtext::put_md;
 use cardtext::put_tricks;
 use cardtext::tricks_len;
 use cleaning::Marks;
 use cleaning::calls_len;
 use cleaning::put_calls;
+use dealtext::md_len;
+use dealtext::put_md;
 use lent::Head;
 use lin_spec::MaybeClaim;
 use lin_spec::Vulnerability;

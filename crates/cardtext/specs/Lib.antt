@@ -1,2 +1,1 @@
 pub mod Tricks
-pub mod Hands

@@ -12,7 +12,7 @@ const SUITS: [u8; 4] = *b"SHDC";
 const RANKS: [u8; 13] = *b"23456789TJQKA";
 
 // The letter of a suit.
-pub(crate) fn suit_letter(suit: usize) -> u8
+pub fn suit_letter(suit: usize) -> u8
     requires { ⌜ suit < 4 ⌝ }
     ensures { λ r. ⌜ r ≡ getD (ascii "SHDC") suit 0 ⌝ }
 {
@@ -20,7 +20,7 @@ pub(crate) fn suit_letter(suit: usize) -> u8
 }
 
 // The letter of a rank.
-pub(crate) fn rank_letter(rank: usize) -> u8
+pub fn rank_letter(rank: usize) -> u8
     requires { ⌜ rank < 13 ⌝ }
     ensures { λ r. ⌜ r ≡ getD (ascii "23456789TJQKA") rank 0 ⌝ }
 {

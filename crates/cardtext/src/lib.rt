@@ -1,12 +1,10 @@
-// Cards, hands and plays as text, put into a lent output. (01: Writer, md and pc; play text)
-mod deals;
-mod hands;
+// Cards and plays as text, put into a lent output. (01: Writer, pc; play text)
 mod letters;
 mod play;
 mod tricks;
 
-pub use deals::md_len;
-pub use deals::put_md;
+pub use letters::rank_letter;
+pub use letters::suit_letter;
 pub use play::format_cardplay_by_trick;
 pub use tricks::put_tricks;
 pub use tricks::tricks_len;

@@ -1,7 +1,7 @@
 // The commands that a board knows, by their numbers in the list `words`. (01: Tokens, "Commands are trimmed .."; Board)
-use text::lower_byte;
-use text::same_word;
-use text::trim;
+use white::lower_byte;
+use white::same_word;
+use white::trim;
 ghost use mathlib.Core.Path.{_≡_};
 ghost use mathlib.Core.Bool.{true};
 ghost use mathlib.Core.List.{[], _∷_};

@@ -1,16 +1,16 @@
 // What each command gives to a board's heading. `on` says that the token has the command. (01: Board)
 use cards::MaybeCard;
 use cards::read_card;
+use digits::MaybeNumber;
+use digits::read_number;
 use lin_spec::MaybeClaim;
 use lin_spec::MaybeSpan;
 use lin_spec::Span;
 use lin_spec::Vulnerability;
-use text::MaybeNumber;
 use text::find_byte;
-use text::read_number;
-use text::same_word;
 use text::shown;
-use text::trim;
+use white::same_word;
+use white::trim;
 ghost use mathlib.Core.Path.{_≡_};
 ghost use mathlib.Core.Bool.{_||_};
 ghost use mathlib.Core.Option.{Option, none, some};

@@ -12,7 +12,7 @@ use document::next_pipe;
 use document::open;
 use lin_spec::Refusal;
 use text::find_byte;
-use text::is_blank;
+use white::is_blank;
 ghost use mathlib.Core.Path.{_≡_};
 ghost use mathlib.Core.Bool.{_||_};
 ghost use Prim.Native.Nat.{_+_, _≤_};

@@ -1,7 +1,5 @@
-pub mod DigitLaws
 pub mod FindLaws
 pub mod ListLaws
 pub mod PartLaws
 pub mod TornLaws
 pub mod Utf8Laws
-pub mod WhiteLaws

@@ -1,5 +1,3 @@
-pub mod Digits
 pub mod Fault
 pub mod Find
 pub mod Utf8
-pub mod White

@@ -1,7 +1,7 @@
 -- `annotation::equals_word` meets its contract: what stands between the two is read as a number.
 -- Assumes nothing.
 use native.Mathlib.Omega.{arith}
-use Rattle.text.proofs.DigitLaws.{number-most}
+use Rattle.digits.proofs.DigitLaws.{number-most}
 use Rattle.annotation_words.proofs.WordLaws.{equals-short, equals-open, equals-note, equals-itself}
 use borrow.Author.Needs.{needs}
 use Rattle.annotation_words.proofs.words.equals_word.Statement.{statement}

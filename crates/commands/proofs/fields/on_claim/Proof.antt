@@ -1,10 +1,10 @@
 -- `commands::on_claim` meets its contract: the number of the trimmed value, or none.
 -- Assumes nothing.
-use Rattle.text.proofs.DigitLaws.{number-most}
+use Rattle.digits.proofs.DigitLaws.{number-most}
 use Rattle.commands.proofs.FieldLaws.{off, changed}
 use Rattle.lin_spec.specs.Board.{numberIn}
 use Rattle.lin_spec.specs.White.{trim}
-use Rattle.text.specs.Digits.{numberOf}
+use Rattle.digits.specs.Digits.{numberOf}
 use mathlib.Core.Path.{ap, sym, _∙_}
 use native.Mathlib.Omega.{arith}
 use borrow.Author.Needs.{needs}

@@ -1,0 +1,3 @@
+pub mod DealLaws
+pub mod EastLaws
+pub mod HandLaws

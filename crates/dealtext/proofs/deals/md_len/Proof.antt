@@ -1,0 +1,49 @@
+-- `cardtext::md_len` meets its contract: the hands, a digit and two commas.
+-- Assumes nothing.
+use native.Mathlib.Omega.{arith}
+use denote.Ref.{now}
+use borrow.Author.Needs.{needs}
+use Rattle.dealtext.proofs.DealLaws.{md-long}
+use Rattle.dealtext.proofs.deals.md_len.Statement.{statement}
+use Rattle.dealtext.proofs.deals.md_len.Tie as tie
+
+hand-text-len-requires : tie.Need-hand-text-len-requires
+hand-text-len-requires c κs = search needs
+
+hand-text-len-requires-2 : tie.Need-hand-text-len-requires-2
+hand-text-len-requires-2 c κs = search needs
+
+hand-text-len-requires-3 : tie.Need-hand-text-len-requires-3
+hand-text-len-requires-3 c κs = search needs
+
+east-len-requires : tie.Need-east-len-requires
+east-len-requires c κs = search needs
+
+add-result : tie.Need-add-result
+add-result c = search needs
+
+add-result-2 : tie.Need-add-result-2
+add-result-2 c = search needs
+
+add-result-3 : tie.Need-add-result-3
+add-result-3 c = search needs
+
+add-result-4 : tie.Need-add-result-4
+add-result-4 c = search needs
+
+returns : tie.Need-returns
+returns c = λ x. omega (arith, md-long x (now (c .before .before .before .before .args .counts)), c .before .before .before .hand-text-len .ensures .0, c .before .before .hand-text-len2 .ensures .0, c .before .hand-text-len3 .ensures .0, c .east-len .ensures .0)
+
+pub md-len-spec : {M : Type 1} → statement M
+md-len-spec =
+    tie.close
+    (tie.spec
+    hand-text-len-requires
+    hand-text-len-requires-2
+    hand-text-len-requires-3
+    east-len-requires
+    add-result
+    add-result-2
+    add-result-3
+    add-result-4
+    returns)

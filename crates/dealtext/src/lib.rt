@@ -1,0 +1,6 @@
+// Hands and deals as text, put into a lent output. (01: Writer, md)
+mod deals;
+mod hands;
+
+pub use deals::md_len;
+pub use deals::put_md;

@@ -1,0 +1,7 @@
+// White space and case. (01: Records, Tokens)
+mod white;
+
+pub use white::is_blank;
+pub use white::lower_byte;
+pub use white::same_word;
+pub use white::trim;
