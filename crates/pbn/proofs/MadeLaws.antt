@@ -44,8 +44,8 @@ use Rattle.pbn.specs.declared.heading.Starts.{Starts}
 use Rattle.pbn_texts.specs.declared.texts.Label.{Label}
 use Rattle.pbn_texts.specs.declared.texts.Label.the-variants.{Absent, Id, Number}
 use Rattle.pbn_texts.specs.Texts.{labelBy, titleText, labelsText, labelledText, roomText, headerText}
-use Rattle.pbn_texts.specs.Calls.{isKept, keptMany, bidBytes, noteBytes, callBytes, callsBytes}
-use Rattle.pbn_texts.specs.Rows.{threeText, notedText, rowText, placedRow, placedRows}
+use Rattle.pbn_calls.specs.Calls.{isKept, keptMany, bidBytes, noteBytes, callBytes, callsBytes}
+use Rattle.pbn_calls.specs.Rows.{threeText, notedText, rowText, placedRow, placedRows}
 use Rattle.pbn_texts.specs.Names.{namesText}
 use Rattle.pbn_texts.specs.Raw.{rawText}
 use Rattle.pbn.specs.Made.{bare, madeText, startsOf, textAt, madeHeading}

@@ -32,8 +32,8 @@ use Rattle.lin_spec.proofs.Checks.{unmet, unless-refused, unless-passed}
 use Rattle.output.specs.Put.{Room, Put}
 use Rattle.lent.specs.Checks.{verdictOf}
 use Rattle.pbn.specs.declared.heading.Starts.{Starts}
-use Rattle.pbn_texts.specs.Calls.{isKept, keptOne, keptMany, bidBytes, noteBytes, callBytes, callsBytes}
-use Rattle.pbn_texts.specs.Rows.{threeText, notedText, rowText, placedRow, placedRows}
+use Rattle.pbn_calls.specs.Calls.{isKept, keptOne, keptMany, bidBytes, noteBytes, callBytes, callsBytes}
+use Rattle.pbn_calls.specs.Rows.{threeText, notedText, rowText, placedRow, placedRows}
 use Rattle.pbn_checks.specs.Checks.{pbnChecks, checked}
 use Rattle.pbn.specs.Made.{bare, madeText, startsOf, counted, madeHeading, Ready, refusedBoard, storedBoard, fitted}
 use Rattle.pbn.proofs.MadeLaws.{kept-many, rows-are, starts-end, bare-within}

@@ -22,7 +22,7 @@ use Rattle.lin_spec.specs.declared.Heading.{Heading}
 use Rattle.lin_spec.specs.declared.Converted.{Converted}
 use Rattle.lin_spec.specs.declared.Refusal.{Refusal}
 use Rattle.pbn.specs.declared.heading.Starts.{Starts}
-use Rattle.pbn_texts.specs.Calls.{keptMany}
+use Rattle.pbn_calls.specs.Calls.{keptMany}
 
 -- the board without its calls and cards
 unfoldable pub bare : (p q : ℕ) (s : List ℕ) → PbnBoard → BoardOf (List ℕ)

@@ -9,7 +9,7 @@ use Rattle.lin_spec.specs.Pbn.{pbnRows}
 use Rattle.lin_spec.specs.declared.MaybeSpan.{MaybeSpan}
 use Rattle.pbn_texts.specs.declared.texts.Label.{Label}
 use Rattle.pbn_texts.specs.Texts.{titleText, labelledText}
-use Rattle.pbn_texts.specs.Calls.{callsBytes}
+use Rattle.pbn_calls.specs.Calls.{callsBytes}
 use Rattle.pbn_texts.specs.Raw.{rawText}
 
 pub raw-long : (s : List ℕ) (e d : MaybeSpan) (l : Label) (ns ws : List ℕ)

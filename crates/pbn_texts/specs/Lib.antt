@@ -1,5 +1,3 @@
 pub mod Texts
-pub mod Calls
 pub mod Names
 pub mod Raw
-pub mod Rows

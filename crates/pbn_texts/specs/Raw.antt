@@ -6,7 +6,7 @@ use Rattle.lin_spec.specs.declared.MaybeSpan.{MaybeSpan}
 use Rattle.output.specs.Put.{joined}
 use Rattle.pbn_texts.specs.declared.texts.Label.{Label}
 use Rattle.pbn_texts.specs.Texts.{titleText, labelledText}
-use Rattle.pbn_texts.specs.Calls.{callsBytes}
+use Rattle.pbn_calls.specs.Calls.{callsBytes}
 
 abbrev pub rawPieces : (s : List ℕ) (event date : MaybeSpan) → Label → (notes calls : List ℕ) → List (List ℕ)
 rawPieces s e d l ns ws = titleText s e d ∷ labelledText s l ∷ callsBytes s ns (pbnRows ws) ∷ []

@@ -1,20 +1,13 @@
-// What a board that is made of a PBN record holds, piece by piece: its names, its other texts before cleaning, the rows of its calls and its
-// cards. (01: From PBN)
-mod calls;
+// The names of a board that is made of a PBN record, and its other texts before cleaning. (01: From PBN)
 mod names;
 mod raw;
-mod rows;
 mod texts;
 
-pub use calls::kept_calls;
-pub use calls::kept_cards;
-pub use calls::put_cards;
 pub use names::name_spans;
 pub use names::names_len;
 pub use names::put_names;
 pub use raw::put_raw;
 pub use raw::raw_len;
-pub use rows::put_rows;
 pub use texts::Label;
 pub use texts::filled;
 pub use texts::label_of;

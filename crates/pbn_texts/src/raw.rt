@@ -1,6 +1,4 @@
 // The texts after the names, one after the other, before cleaning: title, room-and-board, header and those of the kept calls. (01: From PBN)
-use crate::calls::calls_len;
-use crate::calls::put_calls;
 use crate::texts::Label;
 use crate::texts::labelled_len;
 use crate::texts::put_labelled;
@@ -8,6 +6,8 @@ use crate::texts::put_title;
 use crate::texts::title_len;
 use lin_spec::MaybeSpan;
 use output::sat_add;
+use pbn_calls::calls_len;
+use pbn_calls::put_calls;
 ghost use mathlib.Core.Path.{_≡_};
 ghost use mathlib.Core.Bool.{false};
 ghost use lib.ListN.{length};
