@@ -2,18 +2,14 @@
 //! `annotation_text` makes of them. It is private upstream, so the answer is that
 //! of `from_board` for a board with one annotated call. `from_board` cleans the
 //! joined text: no raw annotation or note here has a pipe, CR or LF, so that
-//! cleaning changes nothing. A case is these fields:
-//!
-//! - the raw annotation;
-//! - the number n of notes, and 2n fields number, text, number, text ..;
-//! - 1 if there is a text, else 0; the text, empty where there is none.
+//! cleaning changes nothing.
 
 pub mod mixed;
 pub mod numbers;
 pub mod parts;
 
-use crate::{lin::LinData, vectors::Vectors};
-use bridge_types::{AnnotatedCall, Auction, Board, Call};
+use crate::{lin::LinData, steps::*, vectors::Vectors};
+use bridge_types::{AnnotatedCall, Auction, Board};
 use std::collections::{BTreeMap, HashSet};
 
 /// The texts of the notes that are given, by number.
@@ -57,7 +53,7 @@ pub fn plain(text: &str) -> String {
 /// What `from_board` makes of the annotation of its one call.
 fn text((raw, notes): &Case) -> Option<String> {
     let call = AnnotatedCall {
-        call: Call::Pass,
+        call: bridge_types::Call::Pass,
         annotation: Some(raw.clone()),
     };
     let auction = Auction {
@@ -80,12 +76,93 @@ pub(crate) fn put_notes(out: &mut Vectors, notes: &Notes) {
     }
 }
 
-fn put(out: &mut Vectors, case: &Case) {
-    out.field(case.0.as_bytes());
-    put_notes(out, &case.1);
-    let text = text(case);
-    out.number(text.is_some().into());
-    out.field(text.unwrap_or_default().as_bytes());
+/// Lends the notes, with texts that are added to others.
+pub(crate) fn lend_notes(s: &mut Steps, notes: &Notes, texts: &mut Vec<u8>) {
+    for (number, text) in notes {
+        let place = [1, texts.len() as u32, text.len() as u32];
+        s.set(NOTES + 3 * usize::from(*number), &place);
+        texts.extend(text.as_bytes());
+    }
+}
+
+/// Notes that are all absent, their places beyond every text.
+pub(crate) fn define_notes(s: &mut Steps) {
+    s.set(NO_NOTES, &[0, u32::MAX, u32::MAX].repeat(256));
+}
+
+/// The length of the text; the blocks that take all notes away, that hold the
+/// output to the text, and that ask for a text or for none.
+const LEN: usize = OWN_NUMBER;
+const CLEARED: usize = OWN_BLOCK;
+const TEXT_IS: usize = OWN_BLOCK + 1;
+const GIVEN: usize = OWN_BLOCK + 2;
+const ABSENT: usize = OWN_BLOCK + 3;
+
+/// More bytes than any text has.
+const MOST_BYTES: usize = 4_096;
+
+/// The answer is the text's length, the output has the text, and all after it is as
+/// it was.
+fn whole(b: &mut Steps, group: usize) {
+    b.call(Call::AnnotationText);
+    b.is(ANSWER, &[0, 0]);
+    b.same(ANSWER + 2, LEN);
+    b.is(ANSWER + 3, &[1]);
+    b.is(ANSWER + 4, &[0; 12]);
+    b.go(TEXT_IS);
+    b.copy(REST, LEN, 1, 1);
+    b.copy(REST_LEN, OUT_LEN, 1, 1);
+    b.sub(REST_LEN, LEN);
+    b.all_are(REST, MARK);
+    b.case(group);
+    b.mark_again();
+}
+
+fn define(s: &mut Steps) {
+    s.mark(MOST_BYTES);
+    define_notes(s);
+    s.block(CLEARED, |b| b.copy(NOTES, NO_NOTES, 768, 1));
+    // With room to spare, with exactly enough, and with a byte less.
+    s.block(GIVEN, |b| {
+        b.copy(ROOM, OUT_LEN, 1, 1);
+        whole(b, 0);
+        b.copy(ROOM, LEN, 1, 1);
+        whole(b, 1);
+        b.sub(ROOM, ONE);
+        b.call(Call::AnnotationText);
+        b.is(ANSWER, &[7, 0]);
+        b.same(ANSWER + 2, LEN);
+        b.is(ANSWER + 3, &[0; 13]);
+        b.stayed();
+        b.case(2);
+    });
+    // Where there is no text, no room is enough.
+    s.block(ABSENT, |b| {
+        b.copy(ROOM, OUT_LEN, 1, 1);
+        for group in 0..2 {
+            b.call(Call::AnnotationText);
+            b.answer(0, 0, 0);
+            b.stayed();
+            b.case(group);
+            b.set(ROOM, &[0]);
+        }
+    });
+}
+
+fn put(s: &mut Steps, case: &Case) {
+    let mut texts = case.0.as_bytes().to_vec();
+    s.go(CLEARED);
+    s.set(SPAN + 1, &[texts.len() as u32]);
+    lend_notes(s, &case.1, &mut texts);
+    s.lend(TEXT, &texts);
+    match text(case) {
+        Some(text) => {
+            s.set(LEN, &[text.len() as u32]);
+            s.block(TEXT_IS, |b| b.wrote(ZERO, text.as_bytes()));
+            s.go(GIVEN);
+        }
+        None => s.go(ABSENT),
+    }
 }
 
 pub fn all() -> Vec<Case> {
@@ -95,57 +172,19 @@ pub fn all() -> Vec<Case> {
 }
 
 pub fn vectors() -> Vectors {
-    let mut out = Vectors::new();
+    let mut s = Steps::new();
+    define(&mut s);
+    s.set(SPAN, &[0]);
     for case in all() {
-        out.case();
-        put(&mut out, &case);
+        put(&mut s, &case);
     }
-    out
+    s.say("annotation", &["text", "text exactly", "text a byte less"]);
+    s.done()
 }
 
 #[cfg(test)]
 mod tests {
     use super::*;
-    use crate::vectors::{fields, number};
-
-    #[test]
-    fn fields_of_a_case() {
-        let mut out = Vectors::new();
-        put(
-            &mut out,
-            &("=1=$2z".to_string(), table(&[(1, "weak"), (255, "")])),
-        );
-        let all = fields(out.bytes()).unwrap();
-        assert_eq!(
-            [all[0], all[3], all[5], all[7]],
-            ["=1=$2z", "weak", "", "weak ?"].map(str::as_bytes)
-        );
-        assert_eq!(
-            [all[1], all[2], all[4], all[6]].map(number),
-            [2, 1, 255, 1].map(Some)
-        );
-        assert_eq!(all.len(), 8);
-    }
-
-    #[test]
-    fn fields_give_the_cases_again() {
-        let vectors = super::vectors();
-        assert!(vectors.cases() >= 3_000 && vectors.bytes().len() <= 1_000_000);
-        let mut rest = fields(vectors.bytes()).unwrap().into_iter();
-        for case in all() {
-            assert_eq!(rest.next(), Some(case.0.as_bytes()));
-            assert_eq!(rest.next().and_then(number), Some(case.1.len()));
-            for (n, note) in &case.1 {
-                assert_eq!(rest.next().and_then(number), Some((*n).into()));
-                assert_eq!(rest.next(), Some(note.as_bytes()));
-            }
-            let text = text(&case);
-            assert_eq!(rest.next().and_then(number), Some(text.is_some().into()));
-            assert_eq!(rest.next(), Some(text.unwrap_or_default().as_bytes()));
-        }
-        assert_eq!(rest.next(), None);
-        assert!(super::vectors().bytes() == vectors.bytes());
-    }
 
     /// No answer depends on cleaning.
     #[test]

@@ -1,15 +1,6 @@
 //! Append cases: lists of append calls on one output, as document 01's plain book
-//! keeps them. A case is these fields:
-//!
-//! - the room, and the number m of calls;
-//! - m times: the fields of the board, as in the subject boards after the text;
-//!   1 if the call is accepted, else 0; the used count that it answers, or the
-//!   bytes that refusal 7 carries;
-//! - T, the text that is filed;
-//! - the number n of boards of L, and one field that holds n times the fields of
-//!   a board.
-//!
-//! The log is document 01's plain book; `parse_lin_file` over T must give L.
+//! keeps them: the answer of each call and the output after it, T, and the boards
+//! of L. The log is that book; `parse_lin_file` over T must give L.
 
 pub mod lists;
 pub mod log;
@@ -17,6 +8,7 @@ pub mod log;
 use crate::{
     boards, built,
     lin::{parse_lin_file, LinData},
+    steps::*,
     vectors::Vectors,
 };
 use log::{Answer, Log};
@@ -39,25 +31,91 @@ pub const GROUPS: &[Group] = &[
     ("random", lists::random),
 ];
 
-fn put(out: &mut Vectors, (room, calls): &List) {
-    let mut log = Log::default();
-    out.number(*room);
-    out.number(calls.len());
+/// The blocks that append a board, and that look at the used bytes.
+const APPENDED: usize = OWN_BLOCK;
+const USED_BYTES: usize = OWN_BLOCK + 1;
+
+/// More bytes than the room of any list.
+const MOST_BYTES: usize = 8_192;
+
+/// The groups: a case for each call, for each list or for each board.
+const LINES: [&str; 9] = [
+    "calls",
+    "used bytes",
+    "headings",
+    "boards",
+    "exact",
+    "few calls",
+    "few cards",
+    "few both",
+    "missing",
+];
+
+fn define(s: &mut Steps) {
+    lent::define(s, lent::ONE_BOARD);
+    readers::define(s, Call::FileHeading, Call::FileBoard, 2);
+    readers::define_file(s, 1, 8);
+    s.mark(MOST_BYTES);
+    // The used bytes are the beginning of T, and all after them as they were at
+    // first.
+    s.block(USED_BYTES, |b| {
+        b.set(REST, &[0]);
+        b.copy(REST_LEN, TEXT2 + 1, 1, 1);
+        b.is_text2(REST);
+        b.copy(REST, TEXT2 + 1, 1, 1);
+        b.copy(REST_LEN, OUT_LEN, 1, 1);
+        b.sub(REST_LEN, TEXT2 + 1);
+        b.all_are(REST, MARK);
+    });
+    s.block(APPENDED, |b| {
+        b.call(Call::Append);
+        b.is(ANSWER + 3, &[0; 5]);
+        b.is(HIGH, &[0; 8]);
+        b.go(USED_BYTES);
+    });
+}
+
+/// One call: its answer, and the output after it.
+fn put_call(s: &mut Steps, log: &mut Log, room: usize, board: &LinData) {
+    let mut texts = Vec::new();
+    lent::board(s, lent::ONE_BOARD, board, &mut texts);
+    s.lend(TEXT, &texts);
+    s.set(NUMBER, &[log.text.len() as u32]);
+    let (refusal, n) = match log.append(room, board) {
+        Answer::Used(n) => (0, n),
+        Answer::TooSmall(n) => (7, n),
+    };
+    s.set(TEXT2 + 1, &[log.text.len() as u32]);
+    s.go(APPENDED);
+    s.is(ANSWER, &[refusal, 0, n as u32]);
+    s.case(0);
+}
+
+fn put(s: &mut Steps, (room, calls): &List) {
+    let mut whole = Log::default();
     for board in calls {
-        boards::put(out, board);
-        let (accepted, n) = match log.append(*room, board) {
-            Answer::Used(n) => (1, n),
-            Answer::TooSmall(n) => (0, n),
-        };
-        out.number(accepted);
-        out.number(n);
+        whole.append(*room, board);
     }
-    out.field(log.text.as_bytes());
-    out.number(log.boards.len());
-    let mut inner = Vectors::new();
-    log.boards.iter().for_each(|b| boards::put(&mut inner, b));
-    out.field(inner.bytes());
-    check(&log);
+    check(&whole);
+    s.mark_again();
+    s.set(ROOM, &[*room as u32]);
+    s.lend(TEXT2, whole.text.as_bytes());
+    let mut log = Log::default();
+    for board in calls {
+        put_call(s, &mut log, *room, board);
+    }
+    // T, which the used bytes are, is read.
+    s.go(USED_BYTES);
+    s.set(COUNT_OF, &[log.boards.len() as u32]);
+    s.copy(TEXT, TEXT2, 2, 1);
+    s.go(COUNTED);
+    for board in &log.boards {
+        readers::read(s, board);
+        readers::next_number(s);
+    }
+    s.go(MISSING);
+    s.set(TEXT, &[0]);
+    s.set(NUMBER + 1, &[0]);
 }
 
 /// The upstream's reader finds the log's boards in its text: fields by bytes,
@@ -69,58 +127,33 @@ fn check(log: &Log) {
     assert!(read == kept, "{}", log.text);
 }
 
-fn alone(list: &List) -> Vec<u8> {
+/// What a list is told from others by.
+fn key((room, calls): &List) -> Vec<u8> {
     let mut out = Vectors::new();
-    put(&mut out, list);
+    out.number(*room);
+    calls.iter().for_each(|b| boards::put(&mut out, b));
     out.bytes().to_vec()
 }
 
 pub fn all() -> Vec<List> {
     let mut seen = HashSet::new();
     let all = GROUPS.iter().flat_map(|(_, lists)| lists());
-    all.filter(|l| seen.insert(alone(l))).collect()
+    all.filter(|l| seen.insert(key(l))).collect()
 }
 
 pub fn vectors() -> Vectors {
-    let mut out = Vectors::new();
+    let mut s = Steps::new();
+    define(&mut s);
     for list in all() {
-        out.case();
-        put(&mut out, &list);
+        put(&mut s, &list);
     }
-    out
+    s.say("appends", &LINES);
+    s.done()
 }
 
 #[cfg(test)]
 mod tests {
     use super::*;
-    use crate::vectors::{fields, number};
-
-    #[test]
-    fn fields_of_a_list() {
-        let mut out = Vectors::new();
-        put(&mut out, &(86, vec![built::fresh(); 3]));
-        let all = fields(out.bytes()).unwrap();
-        assert_eq!([all[0], all[1]].map(number), [Some(86), Some(3)]);
-        for (call, answer) in [[1, 43], [1, 86], [0, 43]].into_iter().enumerate() {
-            let at = 2 + 13 * call;
-            assert_eq!(all[at], [2, 0, 0, 0, 0, 0, 0]);
-            let stored = [all[at + 11], all[at + 12]].map(number);
-            assert_eq!(stored, answer.map(Some));
-        }
-        assert_eq!(all[41].len(), 86);
-        assert_eq!(number(all[42]), Some(2));
-        assert_eq!(fields(all[43]).unwrap().len(), 22);
-        assert_eq!(all.len(), 44);
-    }
-
-    #[test]
-    fn fields_give_the_cases_again() {
-        let vectors = super::vectors();
-        assert!(vectors.cases() >= 150 && vectors.bytes().len() <= 1_000_000);
-        assert!(fields(vectors.bytes()).is_some());
-        let again: Vec<u8> = all().iter().flat_map(alone).collect();
-        assert!(again == vectors.bytes());
-    }
 
     /// The replay has 8,192 bytes for an output, and lends 32 rows and 64 places
     /// for cards.
@@ -169,10 +202,7 @@ mod tests {
     fn every_group_has_lists_of_its_own() {
         let mut seen = HashSet::new();
         for (name, lists) in GROUPS {
-            let new = lists()
-                .into_iter()
-                .filter(|l| seen.insert(alone(l)))
-                .count();
+            let new = lists().into_iter().filter(|l| seen.insert(key(l))).count();
             println!("{name}: {new}");
             assert!(new > 0, "{name}");
         }

@@ -1,17 +1,5 @@
 //! Board cases: texts as one record each, and every field that `parse_lin`
-//! gives. A case is these fields:
-//!
-//! - the text;
-//! - seven bytes: the dealer, the vulnerability, whether there is a title, a
-//!   room and board, a header, a claim, and the claim;
-//! - the names S, W, N, E, the title, the room and board, the header, each
-//!   empty where it is absent;
-//! - the cards held, a byte each as often as it is held: seat times 52 plus
-//!   card;
-//! - a byte for each of the n calls: 1 if it is alerted, plus 2 if it is
-//!   annotated;
-//! - 2n fields bid, annotation, bid, annotation ..;
-//! - the cards played, a byte each.
+//! gives.
 //!
 //! Seats are S W N E as 0 to 3, cards suit times 13 plus rank, suits S H D C,
 //! ranks 2 to A. None, north-south, east-west and both vulnerable are 0 to 3.
@@ -23,6 +11,7 @@ pub mod traps;
 
 use crate::{
     lin::{parse_lin, BidWithAnnotation, LinData},
+    steps::{readers, Call, Steps, TEXT},
     texts,
     vectors::Vectors,
 };
@@ -116,7 +105,13 @@ pub(crate) fn text_of(x: &Option<String>) -> &[u8] {
     x.as_deref().unwrap_or("").as_bytes()
 }
 
-/// The fields of a board.
+/// The fields of a board: seven bytes, being the dealer, the vulnerability, whether
+/// there is a title, a room and board, a header, a claim, and the claim; the names S,
+/// W, N, E, the title, the room and board, the header, each empty where it is absent;
+/// the cards held, a byte each as often as it is held, seat times 52 plus card; a byte
+/// for each of the n calls, 1 if it is alerted, plus 2 if it is annotated; 2n fields
+/// bid, annotation, bid, annotation ..; the cards played, a byte each. Boards are told
+/// apart by them.
 pub(crate) fn put(out: &mut Vectors, board: &LinData) {
     out.field(&marks(board));
     board
@@ -136,14 +131,15 @@ pub(crate) fn put(out: &mut Vectors, board: &LinData) {
 }
 
 pub fn vectors() -> Vectors {
-    let mut out = Vectors::new();
+    let mut s = Steps::new();
+    readers::define(&mut s, Call::ParseHeading, Call::ParseLin, 0);
     for text in texts() {
         let Ok(board) = parse_lin(&text);
-        out.case();
-        out.field(text.as_bytes());
-        put(&mut out, &board);
+        s.lend(TEXT, text.as_bytes());
+        readers::read(&mut s, &board);
     }
-    out
+    s.say("boards", &readers::GROUPS);
+    s.done()
 }
 
 #[cfg(test)]
@@ -186,22 +182,6 @@ mod tests {
         let mut expected = vec![Vec::new(); 11];
         expected[0] = vec![2, 0, 0, 0, 0, 0, 0];
         assert_eq!(put_alone(""), expected);
-    }
-
-    #[test]
-    fn fields_give_the_cases_again() {
-        let vectors = super::vectors();
-        assert!(vectors.cases() >= 1_500 && vectors.bytes().len() <= 1_000_000);
-        let mut rest = fields(vectors.bytes()).unwrap().into_iter();
-        let mut cases = 0;
-        while let Some(text) = rest.next() {
-            let again = put_alone(std::str::from_utf8(text).unwrap());
-            assert!(again.iter().all(|field| rest.next() == Some(field)));
-            assert_eq!(again.len(), 11 + 2 * again[9].len());
-            cases += 1;
-        }
-        assert_eq!(cases, vectors.cases());
-        assert!(super::vectors().bytes() == vectors.bytes());
     }
 
     /// The replay lends 512 rows and as many places for cards, and the texts

@@ -1,12 +1,10 @@
 //! Equality cases: two boards, and whether `LinData` finds them equal, both ways
-//! round. A case is the fields of the one board and of the other, as in the
-//! subject boards after the text, then two bytes, 1 or 0: whether the one equals
-//! the other, and whether the other equals the one.
+//! round.
 
 pub mod hands;
 pub mod pairs;
 
-use crate::{boards, lin::LinData, vectors::Vectors};
+use crate::{boards, lin::LinData, steps::*, vectors::Vectors};
 use std::collections::HashSet;
 
 /// Two boards to be compared.
@@ -59,21 +57,79 @@ fn answer((a, b): &Pair) -> [u8; 2] {
     [(a == b).into(), (b == a).into()]
 }
 
+/// The answer that is expected, the block that asks, and the one that takes each
+/// board for the other.
+const EQUAL: usize = OWN_NUMBER;
+const ASKED: usize = OWN_BLOCK;
+const SWAP: usize = OWN_BLOCK + 1;
+/// Where one of them is kept meanwhile.
+const ASIDE: usize = KEPT;
+
+/// The groups: the one with the other, the other with the one, both in one text;
+/// and the one with the other in texts of their own.
+const LINES: [&str; 3] = ["left", "right", "apart"];
+
+fn define(s: &mut Steps) {
+    lent::define(s, lent::ONE_BOARD);
+    lent::define(s, lent::OTHER_BOARD);
+    s.block(ASKED, |b| {
+        b.call(Call::SameBoard);
+        b.is(ANSWER, &[0, 0]);
+        b.same(ANSWER + 2, EQUAL);
+        b.is(ANSWER + 3, &[0; 5]);
+        b.is(HIGH, &[0; 8]);
+    });
+    s.block(SWAP, |b| {
+        for (one, other, words) in [
+            (LENT_BOARD, LENT_BOARD2, 229),
+            (CARDS, CARDS2, 2),
+            (ROWS, ROWS2, 2),
+        ] {
+            b.copy(ASIDE, one, words, 1);
+            b.copy(one, other, words, 1);
+            b.copy(other, ASIDE, words, 1);
+        }
+    });
+}
+
+fn put(s: &mut Steps, pair: &Pair) {
+    let [left, right] = answer(pair);
+    let mut texts = Vec::new();
+    let mut own = Vec::new();
+    lent::board(s, lent::ONE_BOARD, &pair.0, &mut texts);
+    let begins = texts.len() as u32;
+    lent::board(s, lent::OTHER_BOARD, &pair.1, &mut own);
+    let both = [&texts[..], &own].concat();
+    s.lend(TEXT, &both);
+    s.set(TEXT2, &[begins, own.len() as u32]);
+    s.set(EQUAL, &[left.into()]);
+    s.go(ASKED);
+    s.case(2);
+    lent::board(s, lent::OTHER_BOARD, &pair.1, &mut texts);
+    s.set(TEXT2, &[0, both.len() as u32]);
+    s.go(ASKED);
+    s.case(0);
+    s.go(SWAP);
+    s.set(EQUAL, &[right.into()]);
+    s.go(ASKED);
+    s.case(1);
+    s.go(SWAP);
+}
+
 pub fn vectors() -> Vectors {
-    let mut out = Vectors::new();
+    let mut s = Steps::new();
+    define(&mut s);
     for pair in all() {
-        out.case();
-        boards::put(&mut out, &pair.0);
-        boards::put(&mut out, &pair.1);
-        out.field(&answer(&pair));
+        put(&mut s, &pair);
     }
-    out
+    s.say("equality", &LINES);
+    s.done()
 }
 
 #[cfg(test)]
 mod tests {
     use super::*;
-    use crate::{built, vectors::fields};
+    use crate::built;
 
     #[test]
     fn lopsided_hands() {
@@ -86,20 +142,6 @@ mod tests {
             board
         };
         assert_eq!(answer(&(composed("é"), composed("e\u{301}"))), [0, 0]);
-    }
-
-    #[test]
-    fn fields_give_the_cases_again() {
-        let vectors = super::vectors();
-        assert!(vectors.cases() >= 500 && vectors.bytes().len() <= 1_000_000);
-        let mut rest = fields(vectors.bytes()).unwrap().into_iter();
-        for pair in all() {
-            let own = key(&pair);
-            assert!(fields(&own).unwrap().iter().all(|f| rest.next() == Some(f)));
-            assert_eq!(rest.next(), Some(&answer(&pair)[..]));
-        }
-        assert_eq!(rest.next(), None);
-        assert!(super::vectors().bytes() == vectors.bytes());
     }
 
     /// Equal both ways, one way only, and neither.

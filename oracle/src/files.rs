@@ -1,22 +1,15 @@
-//! File cases: texts as files, and every board that `parse_lin_file` gives. A
-//! case is these fields:
-//!
-//! - the text;
-//! - the number m of names asked for;
-//! - 2m fields name, count, name, count .., a count being the number of boards
-//!   that have the name at one seat or more;
-//! - the number n of boards;
-//! - the boards, one field, which holds n times the fields of a board, as in
-//!   the subject boards after the text.
+//! File cases: texts as files, every board that `parse_lin_file` gives, and how
+//! many of them have a name at one seat or more.
 
+pub mod cursor;
 pub mod lines;
 pub mod mixed;
 pub mod names;
 pub mod parts;
 
 use crate::{
-    boards,
     lin::{parse_lin_file, LinData},
+    steps::*,
     texts,
     vectors::Vectors,
 };
@@ -57,84 +50,69 @@ fn having(boards: &[LinData], name: &str) -> usize {
     boards.iter().filter(has).count()
 }
 
-fn put(out: &mut Vectors, text: &str) {
+fn put(s: &mut Steps, text: &str) {
     let Ok(list) = parse_lin_file(text);
-    out.field(text.as_bytes());
-    let asked = names::asked(text, &list);
-    out.number(asked.len());
-    for name in &asked {
-        out.field(name.as_bytes());
-        out.number(having(&list, name));
+    s.lend(TEXT, text.as_bytes());
+    s.set(COUNT_OF, &[list.len() as u32]);
+    s.go(COUNTED);
+    s.go(cursor::OPENED);
+    for board in &list {
+        readers::read(s, board);
+        s.go(cursor::STEPPED);
     }
-    out.number(list.len());
-    let mut inner = Vectors::new();
-    list.iter().for_each(|board| boards::put(&mut inner, board));
-    out.field(inner.bytes());
+    s.go(cursor::ENDED);
+    s.go(MISSING);
+    for name in names::asked(text, &list) {
+        s.lend(TEXT2, name.as_bytes());
+        s.set(HAVING, &[having(&list, &name) as u32]);
+        s.go(FOUND);
+    }
 }
 
+/// The groups: a case for each text, for each board or for each name.
+const LINES: [&str; 10] = [
+    "counts",
+    "headings",
+    "boards",
+    "exact",
+    "few calls",
+    "few cards",
+    "few both",
+    "missing",
+    "cursor",
+    "names",
+];
+
+/// How many boards have the name, and the block that asks.
+const HAVING: usize = OWN_NUMBER;
+const FOUND: usize = OWN_BLOCK;
+
 pub fn vectors() -> Vectors {
-    let mut out = Vectors::new();
+    let mut s = Steps::new();
+    readers::define(&mut s, Call::FileHeading, Call::FileBoard, 1);
+    readers::define_file(&mut s, 0, 7);
+    cursor::define(&mut s, 8);
+    s.block(FOUND, |b| {
+        b.call(Call::FindName);
+        b.is(ANSWER, &[0, 0]);
+        b.same(ANSWER + 2, HAVING);
+        b.is(ANSWER + 3, &[0; 5]);
+        b.is(HIGH, &[0; 8]);
+        b.case(9);
+    });
     for text in texts() {
-        out.case();
-        put(&mut out, &text);
+        put(&mut s, &text);
     }
-    out
+    s.say("files", &LINES);
+    s.done()
 }
 
 #[cfg(test)]
 mod tests {
     use super::*;
-    use crate::vectors::{fields, number};
-
     fn boards(text: &str) -> Vec<LinData> {
         let Ok(list) = parse_lin_file(text);
         list
-    }
-
-    #[test]
-    fn fields_of_two_boards() {
-        let mut out = Vectors::new();
-        put(&mut out, "md|1|pn|a,,a|qx|r|md|2SA|");
-        let all = fields(out.bytes()).unwrap();
-        assert_eq!(all[0], b"md|1|pn|a,,a|qx|r|md|2SA|");
-        let asked = number(all[1]).unwrap();
-        let count = |name: &[u8]| {
-            let pair = all[2..2 + 2 * asked].chunks(2).find(|p| p[0] == name);
-            number(pair.unwrap()[1])
-        };
-        assert_eq!((count(b"a"), count(b"")), (Some(1), Some(2)));
-        assert_eq!(number(all[2 + 2 * asked]), Some(2));
-        assert_eq!(all.len(), 4 + 2 * asked);
-        let inner = fields(all[3 + 2 * asked]).unwrap();
-        assert_eq!(inner.len(), 22);
-        assert_eq!(inner[0], [0, 0, 0, 0, 0, 0, 0]);
-        assert_eq!(inner[11], [1, 0, 0, 1, 0, 0, 0]);
-        assert_eq!(
-            (inner[12], inner[14], inner[17], inner[19]),
-            (&b"a"[..], &b"a"[..], &b"r"[..], &[12][..])
-        );
-    }
-
-    #[test]
-    fn fields_give_the_cases_again() {
-        let vectors = super::vectors();
-        assert!(vectors.cases() >= 1_500 && vectors.bytes().len() <= 1_000_000);
-        let mut rest = fields(vectors.bytes()).unwrap().into_iter();
-        let mut cases = 0;
-        while let Some(text) = rest.next() {
-            let list = boards(std::str::from_utf8(text).unwrap());
-            for _ in 0..number(rest.next().unwrap()).unwrap() {
-                let name = std::str::from_utf8(rest.next().unwrap()).unwrap();
-                assert_eq!(number(rest.next().unwrap()), Some(having(&list, name)));
-            }
-            assert_eq!(number(rest.next().unwrap()), Some(list.len()));
-            let calls: usize = list.iter().map(|b| b.auction.len()).sum();
-            let inner = fields(rest.next().unwrap()).unwrap();
-            assert_eq!(inner.len(), 11 * list.len() + 2 * calls);
-            cases += 1;
-        }
-        assert_eq!(cases, vectors.cases());
-        assert!(super::vectors().bytes() == vectors.bytes());
     }
 
     /// The replay lends 32 rows, and 64 places for cards.

@@ -1,9 +1,9 @@
-//! Writes the upstream's answers as vector files: `oracle SUBJECT DIR`; and
-//! the stored runs of linlist: `oracle runs CRATES`.
+//! Writes the upstream's answers, and the cases by hand, as vector files:
+//! `oracle SUBJECT DIR`; and the stored runs of linlist: `oracle runs CRATES`.
 
 use oracle::{
-    annotation, appends, boards, equality, files, listing, pbn, tokens, utf8, vectors::Vectors,
-    writer,
+    annotation, appends, boards, by_hand, equality, files, listing, pbn, tokens, utf8,
+    vectors::Vectors, writer,
 };
 use std::{env, fs, io, path::Path, process::ExitCode};
 
@@ -64,7 +64,16 @@ const SUBJECTS: &[Subject] = &[
         about: "the board made of a PBN record, by from_board",
         vectors: pbn::vectors,
     },
+    Subject {
+        name: "by_hand",
+        about: "no answers of upstream: refusals and places, by hand from document 01",
+        vectors: by_hand::vectors,
+    },
 ];
+
+/// The bytes of a file that the program replay has room for.
+#[cfg(test)]
+const MOST_BYTES: usize = 1_310_720;
 
 fn main() -> ExitCode {
     let args: Vec<String> = env::args().skip(1).collect();
@@ -99,12 +108,7 @@ fn write(subject: &Subject, dir: &Path) -> io::Result<()> {
     let vectors = (subject.vectors)();
     fs::create_dir_all(dir)?;
     vectors.save(&dir.join(subject.name).with_extension("bin"))?;
-    println!(
-        "{}.bin: {} cases, {} bytes",
-        subject.name,
-        vectors.cases(),
-        vectors.bytes().len()
-    );
+    println!("{}.bin: {} bytes", subject.name, vectors.bytes().len());
     Ok(())
 }
 
@@ -121,7 +125,7 @@ fn write_runs(crates: &Path) -> io::Result<()> {
 
 #[cfg(test)]
 mod tests {
-    use super::{listing, SUBJECTS};
+    use super::{listing, MOST_BYTES, SUBJECTS};
     use std::{fs, path::Path};
 
     /// The vectors that the replay programs have are those of the generator.
@@ -129,8 +133,13 @@ mod tests {
     fn stored_vectors_are_fresh() {
         let crates = Path::new(env!("CARGO_MANIFEST_DIR")).join("../crates");
         for s in SUBJECTS {
-            let file = crates.join(format!("replay_{}/data/{}.bin", s.name, s.name));
+            let program = match s.name {
+                "listing" => "replay_listing",
+                _ => "replay",
+            };
+            let file = crates.join(format!("{program}/data/{}.bin", s.name));
             let stored = fs::read(&file).unwrap();
+            assert!(stored.len() <= MOST_BYTES);
             assert!(stored == (s.vectors)().bytes(), "{}", file.display());
         }
     }

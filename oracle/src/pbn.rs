@@ -1,30 +1,16 @@
 //! PBN cases: records as a PBN reader gives them, and the board that
-//! `from_board` makes of each. A case is these fields:
-//!
-//! - twelve bytes, 1 or 0 but for the dealer and the vulnerability: whether the
-//!   names S, W, N, E, the event, the date, the id, the number and the dealer are
-//!   given; the dealer, 0 where it is not; the vulnerability; whether there is a
-//!   result;
-//! - the names S, W, N, E, the event, the date, the id, each empty where it is
-//!   absent;
-//! - the number, and the result in two's complement, each 0 where it is absent;
-//! - the cards held;
-//! - four bytes for each of the n calls: its kind (pass, double, redouble, bid,
-//!   continue, blank as 0 to 5), the level and the strain of a bid (C D H S N as
-//!   0 to 4), else 0, and 1 if it is annotated, else 0;
-//! - n fields with the raw annotations, each empty where it is absent;
-//! - the play, a byte for each entry: a card, or 255 for a gap;
-//! - the number m of notes, and 2m fields number, text, number, text ..;
-//! - the fields of the board, as in the subject boards after the text.
+//! `from_board` makes of each.
 
 pub mod calls;
 pub mod heads;
 pub mod mixed;
+pub mod replayed;
 
 use crate::{
     annotation::{put_notes, Notes},
     boards,
     lin::LinData,
+    steps::Steps,
     vectors::Vectors,
 };
 use bridge_types::{
@@ -183,12 +169,7 @@ fn put_record(out: &mut Vectors, record: &Record) {
     put_notes(out, &record.notes);
 }
 
-fn put(out: &mut Vectors, record: &Record) {
-    put_record(out, record);
-    boards::put(out, &made(record));
-}
-
-/// What a record is stored as.
+/// What a record is told from others by.
 fn key(record: &Record) -> Vec<u8> {
     let mut out = Vectors::new();
     put_record(&mut out, record);
@@ -202,68 +183,19 @@ pub fn all() -> Vec<Record> {
 }
 
 pub fn vectors() -> Vectors {
-    let mut out = Vectors::new();
+    let mut s = Steps::new();
+    replayed::define(&mut s);
     for record in all() {
-        out.case();
-        put(&mut out, &record);
+        replayed::put(&mut s, &record);
     }
-    out
+    s.say("pbn", &replayed::LINES);
+    s.done()
 }
 
 #[cfg(test)]
 mod tests {
     use super::*;
-    use crate::{
-        built,
-        vectors::{fields, number},
-    };
-
-    #[test]
-    fn fields_of_a_case() {
-        let mut out = Vectors::new();
-        put(&mut out, &mixed::named()[0]);
-        let all = fields(out.bytes()).unwrap();
-        assert_eq!(all[0], [0, 0, 1, 0, 1, 1, 0, 1, 0, 0, 3, 1]);
-        let texts = [
-            b"".as_slice(),
-            b"",
-            b"N,1|",
-            b"",
-            b"Cup",
-            b"2026.09.14",
-            b"",
-        ];
-        assert_eq!(all[1..8], texts);
-        assert_eq!(number(all[8]), Some(6));
-        assert_eq!(all[9], (-1i32).to_le_bytes());
-        assert_eq!(all[10], [12]);
-        assert_eq!(all[11], [3, 1, 4, 1, 5, 0, 0, 0]);
-        assert_eq!(all[12..14], [b"=1=$2z".as_slice(), b""]);
-        assert_eq!(all[14], [255, 12]);
-        assert_eq!([all[15], all[16]].map(number), [Some(1), Some(1)]);
-        assert_eq!(all[17], b"weak");
-        assert_eq!(all[18], [3, 3, 1, 1, 1, 0, 0]);
-        let texts = [b"".as_slice(), b"", b"N1/", b"", b"Cup - 2026.09.14"];
-        assert_eq!(all[19..24], texts);
-        assert_eq!(all[24..26], [b"o6,BOARD 6".as_slice(), b"Board 6"]);
-        assert_eq!(all[26..28], [[12], [2]]);
-        assert_eq!(all[28..30], [b"1N".as_slice(), b"weak ?"]);
-        assert_eq!(all[30], [12]);
-        assert_eq!(all.len(), 31);
-    }
-
-    #[test]
-    fn fields_give_the_cases_again() {
-        let vectors = super::vectors();
-        assert!(vectors.cases() >= 2_000 && vectors.bytes().len() <= 1_000_000);
-        assert!(fields(vectors.bytes()).is_some());
-        let mut again = Vectors::new();
-        for record in all() {
-            put(&mut again, &record);
-        }
-        assert!(again.bytes() == vectors.bytes());
-        assert!(super::vectors().bytes() == vectors.bytes());
-    }
+    use crate::built;
 
     /// The records keep to document 01's ranges, and 128 rows, 128 places for cards
     /// and 16,384 bytes are enough for a replay.

@@ -1,8 +1,7 @@
-//! Token cases. A case is a field with the text, a number n of tokens, 2n
-//! fields command, value, command, value .., and a field with the trailing
-//! text.
+//! Token cases: texts, and their commands, values and trailing text by
+//! `LinDocument::parse`.
 
-use crate::{random::Rng, records, texts, vectors::Vectors};
+use crate::{random::Rng, records, steps::*, texts, vectors::Vectors};
 
 pub fn texts() -> Vec<String> {
     let mut all: Vec<String> = texts::NAMED.iter().map(|t| t.to_string()).collect();
@@ -32,44 +31,98 @@ pub fn texts() -> Vec<String> {
     texts::distinct(all)
 }
 
-pub fn vectors() -> Vectors {
-    let mut out = Vectors::new();
-    for text in texts() {
-        let (tokens, trailing) = crate::tokens(&text);
-        out.case();
-        out.field(text.as_bytes());
-        out.number(tokens.len());
-        for (command, value) in &tokens {
-            out.field(command.as_bytes());
-            out.field(value.as_bytes());
-        }
-        out.field(trailing.as_bytes());
+/// The blocks: a token, the end of the tokens, and the text written again.
+const FOUND: usize = OWN_BLOCK;
+const ENDED: usize = OWN_BLOCK + 1;
+const WRITTEN: usize = OWN_BLOCK + 2;
+
+/// More bytes than any text has.
+const MOST_BYTES: usize = 32_768;
+
+fn define(s: &mut Steps) {
+    s.mark(MOST_BYTES);
+    s.block(FOUND, |b| {
+        b.call(Call::Next);
+        b.copy(NUMBER, ANSWER + 5, 1, 1);
+        b.is(ANSWER + 6, &[0; 10]);
+    });
+    // No token more, and the cursor stays; what is left is from its place on.
+    s.block(ENDED, |b| {
+        b.call(Call::Next);
+        b.is(ANSWER, &[0; 5]);
+        b.same(ANSWER + 5, NUMBER);
+        b.is(ANSWER + 6, &[0; 10]);
+        b.call(Call::Trailing);
+        b.same(ANSWER, NUMBER);
+        b.is(ANSWER + 2, &[0; 14]);
+        b.copy(SPAN, ANSWER, 2, 1);
+    });
+    s.block(WRITTEN, |b| {
+        b.copy(ROOM, OUT_LEN, 1, 1);
+        b.call(Call::WriteDocument);
+        b.is(ANSWER, &[0, 0]);
+        b.same(ANSWER + 2, TEXT + 1);
+        b.is(ANSWER + 3, &[0; 13]);
+        b.copy(TEXT2, TEXT, 2, 1);
+        b.copy(REST, TEXT, 2, 1);
+        b.is_text2(REST);
+        b.copy(REST, TEXT + 1, 1, 1);
+        b.copy(REST_LEN, OUT_LEN, 1, 1);
+        b.sub(REST_LEN, TEXT + 1);
+        b.all_are(REST, MARK);
+        b.case(1);
+        b.mark_again();
+    });
+}
+
+/// The cursor over a text: each command and value, each place, the end and the
+/// trailing text. The rows of the tokens found are kept, and written again.
+fn put(s: &mut Steps, text: &str) {
+    let (tokens, trailing) = crate::tokens(text);
+    s.lend(TEXT, text.as_bytes());
+    s.call(Call::Open);
+    s.answer(0, 0, 0);
+    s.set(NUMBER, &[0]);
+    let mut next = 0;
+    for (n, (command, value)) in tokens.iter().enumerate() {
+        next += command.len() + value.len() + 2;
+        s.go(FOUND);
+        s.is(ANSWER, &[1]);
+        s.shows(ANSWER + 1, command.as_bytes());
+        s.shows(ANSWER + 3, value.as_bytes());
+        s.is(ANSWER + 5, &[next as u32]);
+        s.copy(READ_ROWS + 4 * n, ANSWER + 1, 4, 1);
     }
-    out
+    s.go(ENDED);
+    s.shows(ANSWER, trailing.as_bytes());
+    s.case(0);
+    s.set(ROWS + 1, &[4 * tokens.len() as u32]);
+    s.go(WRITTEN);
+}
+
+pub fn vectors() -> Vectors {
+    let mut s = Steps::new();
+    define(&mut s);
+    for text in texts() {
+        put(&mut s, &text);
+    }
+    s.say("tokens", &["tokens", "written"]);
+    s.done()
 }
 
 #[cfg(test)]
 mod tests {
-    use crate::vectors::{fields, number};
-
+    /// The tokens and the trailing text give every text again, and rows and bytes
+    /// are enough for them.
     #[test]
-    fn fields_give_the_cases_again() {
-        let vectors = super::vectors();
-        assert!(vectors.cases() >= 700 && vectors.bytes().len() <= 200_000);
-        let mut rest = fields(vectors.bytes()).unwrap().into_iter();
-        let mut cases = 0;
-        while let Some(text) = rest.next() {
-            let n = number(rest.next().unwrap()).unwrap();
-            let mut written = Vec::new();
-            for _ in 0..2 * n {
-                written.extend(rest.next().unwrap());
-                written.push(b'|');
-            }
-            written.extend(rest.next().unwrap());
-            assert_eq!(written, text);
-            cases += 1;
+    fn texts_are_given_again() {
+        let texts = super::texts();
+        assert!(texts.len() >= 700);
+        for text in texts {
+            let (tokens, trailing) = crate::tokens(&text);
+            let pairs = tokens.iter().map(|(c, v)| format!("{c}|{v}|"));
+            assert_eq!(pairs.collect::<String>() + &trailing, text);
+            assert!(4 * tokens.len() <= 8_192 && text.len() < super::MOST_BYTES);
         }
-        assert_eq!(cases, vectors.cases());
-        assert!(super::vectors().bytes() == vectors.bytes());
     }
 }

@@ -1,7 +1,7 @@
-//! UTF-8 cases. A case is a field with the bytes and the number of bytes of
-//! their longest well-formed start.
+//! UTF-8 cases: bytes, and the length of their longest well-formed start by
+//! `std::str::from_utf8`, as the cursor opens or refuses them.
 
-use crate::{random::Rng, records, texts, vectors::Vectors};
+use crate::{random::Rng, records, steps::*, texts, vectors::Vectors};
 
 /// Bytes at which some text stops being well formed, one for each kind.
 const FAULTS: &[&[u8]] = &[
@@ -119,32 +119,42 @@ pub fn texts() -> Vec<Vec<u8>> {
     texts::distinct(all)
 }
 
+/// The length of the longest well-formed start; the blocks of a text that is all
+/// well formed, and of one that is not.
+const WELL_FORMED: usize = OWN_NUMBER;
+const OPENED: usize = OWN_BLOCK;
+const REFUSED: usize = OWN_BLOCK + 1;
+
 pub fn vectors() -> Vectors {
-    let mut out = Vectors::new();
+    let mut s = Steps::new();
+    s.block(OPENED, |b| {
+        b.call(Call::Open);
+        b.answer(0, 0, 0);
+        b.case(0);
+    });
+    s.block(REFUSED, |b| {
+        b.call(Call::Open);
+        b.is(ANSWER, &[2, 0]);
+        b.same(ANSWER + 2, WELL_FORMED);
+        b.is(ANSWER + 3, &[0; 13]);
+        b.case(0);
+    });
     for text in texts() {
-        out.case();
-        out.field(&text);
-        out.number(crate::well_formed(&text));
+        let good = crate::well_formed(&text);
+        s.lend(TEXT, &text);
+        if good == text.len() {
+            s.go(OPENED);
+        } else {
+            s.set(WELL_FORMED, &[good as u32]);
+            s.go(REFUSED);
+        }
     }
-    out
+    s.say("utf8", &["starts"]);
+    s.done()
 }
 
 #[cfg(test)]
 mod tests {
-    use crate::vectors::{fields, number};
-
-    #[test]
-    fn fields_give_the_cases_again() {
-        let vectors = super::vectors();
-        assert!(vectors.cases() >= 700 && vectors.bytes().len() <= 60_000);
-        let all = fields(vectors.bytes()).unwrap();
-        assert_eq!(all.len(), 2 * vectors.cases());
-        for case in all.chunks(2) {
-            assert_eq!(crate::well_formed(case[0]), number(case[1]).unwrap());
-        }
-        assert!(super::vectors().bytes() == vectors.bytes());
-    }
-
     #[test]
     fn every_fault_is_one() {
         for fault in super::FAULTS {

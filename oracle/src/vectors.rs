@@ -14,6 +14,11 @@ impl Vectors {
         Vectors::default()
     }
 
+    /// A file of these bytes.
+    pub fn of(bytes: Vec<u8>) -> Vectors {
+        Vectors { bytes, cases: 0 }
+    }
+
     /// Begins a case. It leaves no mark in the file.
     pub fn case(&mut self) {
         self.cases += 1;

@@ -1,7 +1,6 @@
 //! Writer cases: boards built by hand, what `write_lin` writes of each, and its
-//! play by `format_cardplay_by_trick`. A case is the fields of the board, as in
-//! the subject boards after the text, then the written text and the play text.
-//! Every hand is held by suit, ranks from A down.
+//! play by `format_cardplay_by_trick`. Every hand is held by suit, ranks from A
+//! down.
 
 pub mod calls;
 pub mod deals;
@@ -9,8 +8,9 @@ pub mod mixed;
 pub mod texts;
 
 use crate::{
-    boards, built,
+    built,
     lin::{write_lin, LinData},
+    steps::*,
     vectors::Vectors,
 };
 
@@ -42,49 +42,129 @@ pub fn all() -> Vec<LinData> {
     built::distinct(GROUPS.iter().flat_map(|(_, boards)| boards()).collect())
 }
 
-pub fn vectors() -> Vectors {
-    let mut out = Vectors::new();
-    for board in all() {
-        out.case();
-        boards::put(&mut out, &board);
-        out.field(write_lin(&board).as_bytes());
-        out.field(board.format_cardplay_by_trick().as_bytes());
+/// What is written, its length, the used bytes before it, and where it ends.
+const TEXT_LEN: usize = OWN_NUMBER;
+const USED: usize = OWN_NUMBER + 1;
+const END: usize = OWN_NUMBER + 2;
+/// The block that holds the output to what is written, and those that lend room.
+const WRITTEN: usize = OWN_BLOCK;
+const PLAYED: usize = OWN_BLOCK + 1;
+const WRITE: usize = OWN_BLOCK + 2;
+const APPEND: usize = OWN_BLOCK + 3;
+const PLAY: usize = OWN_BLOCK + 4;
+const PLAY_LESS: usize = OWN_BLOCK + 5;
+
+/// The groups: by `write_lin`, by append after seven used bytes, and the play as
+/// text, each with room to spare, exactly enough, and a byte less.
+const LINES: [&str; 9] = [
+    "written",
+    "written exactly",
+    "written a byte less",
+    "appended",
+    "appended exactly",
+    "appended a byte less",
+    "play",
+    "play exactly",
+    "play a byte less",
+];
+
+/// More bytes than are written of any board.
+const MOST_BYTES: u32 = 16_384;
+
+/// The answer is where the text ends, and the output has the text after the used
+/// bytes; those and all after it are as they were.
+fn whole(b: &mut Steps, text: usize, group: usize) {
+    b.is(ANSWER, &[0, 0]);
+    b.same(ANSWER + 2, END);
+    b.is(ANSWER + 3, &[0; 5]);
+    b.is(HIGH, &[0; 8]);
+    b.set(REST, &[0]);
+    b.copy(REST_LEN, USED, 1, 1);
+    b.all_are(REST, MARK);
+    b.go(text);
+    b.copy(REST, END, 1, 1);
+    b.copy(REST_LEN, OUT_LEN, 1, 1);
+    b.sub(REST_LEN, END);
+    b.all_are(REST, MARK);
+    b.case(group);
+    b.mark_again();
+}
+
+/// A byte less than the text is refused by 7 with its length, and all stays.
+fn less(b: &mut Steps, call: Call, group: usize) {
+    b.copy(ROOM, END, 1, 1);
+    b.sub(ROOM, ONE);
+    b.call(call);
+    b.is(ANSWER, &[7, 0]);
+    b.same(ANSWER + 2, TEXT_LEN);
+    b.is(ANSWER + 3, &[0; 5]);
+    b.is(HIGH, &[0; 8]);
+    b.stayed();
+    b.case(group);
+}
+
+/// With room to spare and with exactly enough.
+fn enough(b: &mut Steps, call: Call, used: u32, text: usize, group: usize) {
+    b.set(USED, &[used]);
+    b.copy(NUMBER, USED, 1, 1);
+    b.copy(END, USED, 1, 1);
+    b.add(END, TEXT_LEN);
+    b.copy(ROOM, OUT_LEN, 1, 1);
+    b.call(call);
+    whole(b, text, group);
+    b.copy(ROOM, END, 1, 1);
+    b.call(call);
+    whole(b, text, group + 1);
+}
+
+fn define(s: &mut Steps) {
+    lent::define(s, lent::ONE_BOARD);
+    s.mark(MOST_BYTES as usize);
+    s.block(WRITE, |b| {
+        enough(b, Call::WriteLin, 0, WRITTEN, 0);
+        less(b, Call::WriteLin, 2);
+    });
+    s.block(APPEND, |b| {
+        enough(b, Call::Append, 7, WRITTEN, 3);
+        less(b, Call::Append, 5);
+    });
+    s.block(PLAY, |b| enough(b, Call::PlayText, 0, PLAYED, 6));
+    s.block(PLAY_LESS, |b| less(b, Call::PlayText, 8));
+}
+
+fn put(s: &mut Steps, board: &LinData) {
+    let mut texts = Vec::new();
+    lent::board(s, lent::ONE_BOARD, board, &mut texts);
+    s.lend(TEXT, &texts);
+    let written = write_lin(board);
+    let play = board.format_cardplay_by_trick();
+    s.set(TEXT_LEN, &[written.len() as u32]);
+    s.block(WRITTEN, |b| b.wrote(USED, written.as_bytes()));
+    s.go(WRITE);
+    s.go(APPEND);
+    s.set(TEXT_LEN, &[play.len() as u32]);
+    s.block(PLAYED, |b| b.wrote(USED, play.as_bytes()));
+    s.go(PLAY);
+    if !play.is_empty() {
+        s.go(PLAY_LESS);
     }
-    out
+}
+
+pub fn vectors() -> Vectors {
+    let mut s = Steps::new();
+    define(&mut s);
+    for board in all() {
+        put(&mut s, &board);
+    }
+    s.say("writer", &LINES);
+    s.done()
 }
 
 #[cfg(test)]
 mod tests {
     use super::*;
-    use crate::vectors::fields;
     use bridge_types::Direction;
     use std::collections::HashSet;
-
-    #[test]
-    fn fields_of_a_case() {
-        let vectors = super::vectors();
-        let all = fields(vectors.bytes()).unwrap();
-        assert_eq!(all[0], [2, 0, 0, 0, 0, 0, 0]);
-        assert_eq!(all[11], b"mn||pn|,,,|qx||rh||md|3,,,|sv|0|\nsa|0|pg||\n");
-        assert_eq!(all[12], b"");
-    }
-
-    #[test]
-    fn fields_give_the_cases_again() {
-        let vectors = super::vectors();
-        assert!(vectors.cases() >= 2_000 && vectors.bytes().len() <= 1_000_000);
-        let mut rest = fields(vectors.bytes()).unwrap().into_iter();
-        for board in all() {
-            let own = built::bytes(&board);
-            let own = fields(&own).unwrap();
-            assert!(own.iter().all(|field| rest.next() == Some(field)));
-            assert_eq!(rest.next(), Some(write_lin(&board).as_bytes()));
-            let play = board.format_cardplay_by_trick();
-            assert_eq!(rest.next(), Some(play.as_bytes()));
-        }
-        assert_eq!(rest.next(), None);
-        assert!(super::vectors().bytes() == vectors.bytes());
-    }
 
     /// The hands are held as document 01 asks.
     #[test]

@@ -1,5 +1,5 @@
-// What the replay programs share: files of the oracle's answers, and the lines that they print. Nothing of the library is in it.
-// A file is a run of fields, each a little-endian length of four bytes and that many bytes.
+// What the replay programs share: files of stored answers, and the lines that they print. Nothing of the library is in it.
+// A file of listings is a run of fields, each a little-endian length of four bytes and that many bytes.
 ghost use Prim.Native.Nat.{_<_, _≤_, _^_};
 use check::same;
 use libc::STDOUT_FILENO;
@@ -66,21 +66,6 @@ pub fn field_at(file: &[u8], at: usize) -> Field {
         len,
         next: start + len,
     }
-}
-
-// The place after a number of fields, or beyond the file.
-pub fn passed(file: &[u8], from: usize, fields: usize) -> usize {
-    let mut at = from;
-    let mut left = fields;
-    while 0 < left {
-        if file.len() < at {
-            return at;
-        }
-        let f = field_at(file, at);
-        at = f.next;
-        left -= 1;
-    }
-    at
 }
 
 // Whether the field holds these bytes.

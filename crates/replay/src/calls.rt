@@ -1,0 +1,251 @@
+// The exports, called with what the memory says is lent, and their answers laid into it. (01: Tokens; Board; File; Writer; From PBN)
+use crate::answers::lay_annotation;
+use crate::answers::lay_answer;
+use crate::answers::lay_boards;
+use crate::answers::lay_converted;
+use crate::answers::lay_heading;
+use crate::answers::lay_part;
+use crate::answers::lay_section;
+use crate::answers::lay_step;
+use crate::boards::board_at;
+use crate::boards::record_at;
+use crate::lent::CALLS;
+use crate::lent::MARK;
+use crate::lent::PLACES;
+use crate::lent::READ;
+use crate::lent::WORD;
+use crate::lent::front;
+use crate::lent::front_words;
+use crate::memory::CARDS;
+use crate::memory::CARDS2;
+use crate::memory::FILLED_CARDS;
+use crate::memory::FILLED_ROWS;
+use crate::memory::LENT_BOARD;
+use crate::memory::LENT_BOARD2;
+use crate::memory::LENT_CARDS;
+use crate::memory::LENT_WORDS;
+use crate::memory::LINES;
+use crate::memory::NOTES;
+use crate::memory::NUMBER;
+use crate::memory::ROOM;
+use crate::memory::ROWS;
+use crate::memory::ROWS2;
+use crate::memory::SECOND;
+use crate::memory::SPAN;
+use crate::memory::TEXT;
+use crate::memory::TEXT2;
+use crate::memory::WORDS;
+use crate::memory::get;
+use crate::memory::long;
+use crate::memory::place;
+use crate::stores::BYTES;
+use crate::stores::put;
+use crate::stores::put_all;
+use crate::stores::take;
+use lin_host::lin_annotation_text;
+use lin_host::lin_append;
+use lin_host::lin_count_boards;
+use lin_host::lin_file_board;
+use lin_host::lin_file_heading;
+use lin_host::lin_find_name;
+use lin_host::lin_from_board;
+use lin_host::lin_next;
+use lin_host::lin_next_board;
+use lin_host::lin_open;
+use lin_host::lin_open_boards;
+use lin_host::lin_parse_heading;
+use lin_host::lin_parse_lin;
+use lin_host::lin_play_text;
+use lin_host::lin_same_board;
+use lin_host::lin_trailing;
+use lin_host::lin_write_document;
+use lin_host::lin_write_lin;
+use text::part;
+use vectors::words;
+
+// The rows that are lent for reading, from the start that a place says.
+fn rows_at(m: &[u32; WORDS], at: usize) -> [u32; READ] {
+    let mut rows = [0u32; READ];
+    take(&mut rows, m, place(m, at));
+    rows
+}
+
+// The first of them.
+fn some(rows: &[u32; READ], n: usize) -> &[u32] {
+    words(rows, n)
+}
+
+// The calls that take a text and numbers.
+fn reading(call: usize, m: &mut [u32; WORDS], text: &[u8]) {
+    let n = long(m, NUMBER);
+    match call {
+        0 => lay_answer(m, lin_open(text)),
+        1 => lay_step(m, lin_next(text, n)),
+        2 => lay_part(m, lin_trailing(text, n)),
+        3 => lay_heading(m, lin_parse_heading(text)),
+        4 => lay_answer(m, lin_count_boards(text)),
+        5 => lay_heading(m, lin_file_heading(text, n)),
+        _ => lay_boards(m, lin_open_boards(text)),
+    }
+}
+
+fn next_board(m: &mut [u32; WORDS], text: &[u8]) {
+    let at = long(m, NUMBER);
+    let number = long(m, SECOND);
+    let lines = get(m, LINES);
+    lay_section(m, lin_next_board(text, at, number, lines));
+}
+
+fn find_name(m: &mut [u32; WORDS], text: &[u8], bytes: &[u8; BYTES]) {
+    let name = part(bytes, place(m, TEXT2), place(m, TEXT2 + 1));
+    lay_answer(m, lin_find_name(text, name));
+}
+
+// Lays what was lent to be filled.
+fn lay_lent(m: &mut [u32; WORDS], rows: &[u32; CALLS], cards: &[u8; PLACES]) {
+    put_all(m, FILLED_ROWS, rows);
+    put(m, FILLED_CARDS, cards, 1);
+}
+
+// The board of the text, into marked rows and places.
+fn parse(m: &mut [u32; WORDS], text: &[u8]) {
+    let mut rows = [WORD; CALLS];
+    let mut cards = [MARK; PLACES];
+    let w = place(m, LENT_WORDS);
+    let p = place(m, LENT_CARDS);
+    let h = lin_parse_lin(text, front_words(&mut rows, w), front(&mut cards, p));
+    lay_heading(m, h);
+    lay_lent(m, &rows, &cards);
+}
+
+// The board of a number.
+fn file_board(m: &mut [u32; WORDS], text: &[u8]) {
+    let mut rows = [WORD; CALLS];
+    let mut cards = [MARK; PLACES];
+    let w = place(m, LENT_WORDS);
+    let p = place(m, LENT_CARDS);
+    let n = long(m, NUMBER);
+    let h = lin_file_board(text, n, front_words(&mut rows, w), front(&mut cards, p));
+    lay_heading(m, h);
+    lay_lent(m, &rows, &cards);
+}
+
+fn document(m: &mut [u32; WORDS], text: &[u8], out: &mut [u8]) {
+    let rows = rows_at(m, ROWS);
+    let n = place(m, ROWS + 1);
+    let start = get(m, SPAN);
+    let len = get(m, SPAN + 1);
+    let room = place(m, ROOM);
+    let a = lin_write_document(text, some(&rows, n), start, len, front(out, room));
+    lay_answer(m, a);
+}
+
+fn annotation(m: &mut [u32; WORDS], text: &[u8], out: &mut [u8]) {
+    let mut notes = [0u32; 768];
+    take(&mut notes, m, NOTES);
+    let start = get(m, SPAN);
+    let len = get(m, SPAN + 1);
+    let room = place(m, ROOM);
+    lay_annotation(
+        m,
+        lin_annotation_text(text, start, len, &notes, front(out, room)),
+    );
+}
+
+fn append(m: &mut [u32; WORDS], text: &[u8], cards: &[u8], out: &mut [u8]) {
+    let rows = rows_at(m, ROWS);
+    let n = place(m, ROWS + 1);
+    let room = place(m, ROOM);
+    let used = long(m, NUMBER);
+    let board = board_at(m, LENT_BOARD);
+    let a = lin_append(text, board, some(&rows, n), cards, front(out, room), used);
+    lay_answer(m, a);
+}
+
+fn write(m: &mut [u32; WORDS], text: &[u8], cards: &[u8], out: &mut [u8]) {
+    let rows = rows_at(m, ROWS);
+    let n = place(m, ROWS + 1);
+    let room = place(m, ROOM);
+    let board = board_at(m, LENT_BOARD);
+    let a = lin_write_lin(text, board, some(&rows, n), cards, front(out, room));
+    lay_answer(m, a);
+}
+
+fn play(m: &mut [u32; WORDS], cards: &[u8], out: &mut [u8]) {
+    let room = place(m, ROOM);
+    lay_answer(m, lin_play_text(cards, front(out, room)));
+}
+
+fn same_board(m: &mut [u32; WORDS], text: &[u8], cards: &[u8], bytes: &[u8; BYTES]) {
+    let rows = rows_at(m, ROWS);
+    let rows2 = rows_at(m, ROWS2);
+    let n = place(m, ROWS + 1);
+    let n2 = place(m, ROWS2 + 1);
+    let text2 = part(bytes, place(m, TEXT2), place(m, TEXT2 + 1));
+    let cards2 = part(bytes, place(m, CARDS2), place(m, CARDS2 + 1));
+    let board = board_at(m, LENT_BOARD);
+    let board2 = board_at(m, LENT_BOARD2);
+    let a = lin_same_board(
+        text,
+        board,
+        some(&rows, n),
+        cards,
+        text2,
+        board2,
+        some(&rows2, n2),
+        cards2,
+    );
+    lay_answer(m, a);
+}
+
+// A board of the record, into an output and into marked rows and places.
+fn from_board(m: &mut [u32; WORDS], text: &[u8], plays: &[u8], out: &mut [u8]) {
+    let mut rows = [WORD; CALLS];
+    let mut cards = [MARK; PLACES];
+    let mut notes = [0u32; 768];
+    take(&mut notes, m, NOTES);
+    let calls = rows_at(m, ROWS);
+    let n = place(m, ROWS + 1);
+    let w = place(m, LENT_WORDS);
+    let p = place(m, LENT_CARDS);
+    let room = place(m, ROOM);
+    let c = lin_from_board(
+        text,
+        record_at(m),
+        some(&calls, n),
+        plays,
+        &notes,
+        front(out, room),
+        front_words(&mut rows, w),
+        front(&mut cards, p),
+    );
+    lay_converted(m, c);
+    lay_lent(m, &rows, &cards);
+}
+
+// The calls that write into the output.
+fn writing(call: usize, m: &mut [u32; WORDS], text: &[u8], cards: &[u8], out: &mut [u8; BYTES]) {
+    match call {
+        11 => document(m, text, out),
+        12 => append(m, text, cards, out),
+        13 => write(m, text, cards, out),
+        14 => play(m, cards, out),
+        15 => annotation(m, text, out),
+        _ => from_board(m, text, cards, out),
+    }
+}
+
+// The call of a number.
+pub fn called(call: usize, m: &mut [u32; WORDS], bytes: &[u8; BYTES], out: &mut [u8; BYTES]) {
+    let text = part(bytes, place(m, TEXT), place(m, TEXT + 1));
+    let cards = part(bytes, place(m, CARDS), place(m, CARDS + 1));
+    match call {
+        0 | 1 | 2 | 3 | 4 | 5 | 6 => reading(call, m, text),
+        7 => next_board(m, text),
+        8 => parse(m, text),
+        9 => file_board(m, text),
+        10 => find_name(m, text, bytes),
+        17 => same_board(m, text, cards, bytes),
+        _ => writing(call, m, text, cards, out),
+    }
+}

@@ -1,0 +1,58 @@
+// Replays the stored vectors: the oracle's answers, and the cases by hand from document 01. The steps of a file lend texts, rows and boards, call the exports
+// of `lin_host`, and compare the answers and all that was lent; each group of cases prints a line. (01: "Entries on numbers and byte slices are exported ..";
+// Eight refusals, "All lent memory stays")
+mod answers;
+mod boards;
+mod calls;
+mod expects;
+mod lent;
+mod memory;
+mod steps;
+mod stores;
+
+use crate::memory::WORDS;
+use crate::steps::run;
+use crate::stores::BYTES;
+use text::part;
+use vectors::load;
+
+// The bytes that a file may have.
+const FILE: usize = 1_310_720;
+
+// The steps of one file.
+fn replay(
+    name: &[u8],
+    file: &mut [u8; FILE],
+    m: &mut [u32; WORDS],
+    bytes: &mut [u8; BYTES],
+    out: &mut [u8; BYTES],
+) {
+    let n = load(name, file);
+    run(part(file, 0, n), m, bytes, out);
+}
+
+fn all(
+    file: &mut [u8; FILE],
+    m: &mut [u32; WORDS],
+    bytes: &mut [u8; BYTES],
+    out: &mut [u8; BYTES],
+) {
+    replay(b"tokens.bin", file, m, bytes, out);
+    replay(b"utf8.bin", file, m, bytes, out);
+    replay(b"boards.bin", file, m, bytes, out);
+    replay(b"files.bin", file, m, bytes, out);
+    replay(b"writer.bin", file, m, bytes, out);
+    replay(b"equality.bin", file, m, bytes, out);
+    replay(b"appends.bin", file, m, bytes, out);
+    replay(b"annotation.bin", file, m, bytes, out);
+    replay(b"pbn.bin", file, m, bytes, out);
+    replay(b"by_hand.bin", file, m, bytes, out);
+}
+
+fn main() {
+    let mut file = [0u8; FILE];
+    let mut m = [0u32; WORDS];
+    let mut bytes = [0u8; BYTES];
+    let mut out = [0u8; BYTES];
+    all(&mut file, &mut m, &mut bytes, &mut out);
+}
