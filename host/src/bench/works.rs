@@ -39,6 +39,21 @@ impl Times {
     pub fn from_bytes(&self) -> Option<f64> {
         self.check.map(|check| (self.rust + check) / self.exports)
     }
+
+    /// With the least time of the check of these texts, which the exports are
+    /// given as bytes.
+    fn checking<'a>(self, texts: impl Iterator<Item = &'a [u8]> + Clone, runs: usize) -> Times {
+        let mut times = Vec::new();
+        for _ in 0..runs {
+            timed(&mut times, || {
+                black_box(texts.clone().all(|t| str::from_utf8(black_box(t)).is_ok()));
+            });
+        }
+        Times {
+            check: Some(least(times)),
+            ..self
+        }
+    }
 }
 
 /// A name in the table, and what times it over a file so many times.
@@ -114,26 +129,6 @@ fn in_turn<A, B>(
     }
 }
 
-/// The same of a text that is read, with the time of its check.
-fn in_turn_reading<A, B>(
-    text: &str,
-    runs: usize,
-    rust: impl FnMut() -> A,
-    exports: impl FnMut() -> B,
-    same: impl Fn(&A, &B) -> bool,
-) -> Times {
-    let mut checks = Vec::new();
-    for _ in 0..runs {
-        timed(&mut checks, || {
-            black_box(str::from_utf8(black_box(text.as_bytes())).is_ok());
-        });
-    }
-    Times {
-        check: Some(least(checks)),
-        ..in_turn(text.len(), runs, rust, exports, same)
-    }
-}
-
 fn timed(times: &mut Vec<f64>, work: impl FnOnce()) {
     let start = milliseconds();
     work();
@@ -168,9 +163,10 @@ fn tokenizing(text: &str, runs: usize) -> Times {
         }
     };
     let parse = || LinDocument::parse(black_box(text));
-    in_turn_reading(text, runs, parse, steps, |doc, found| {
+    in_turn(text.len(), runs, parse, steps, |doc, found| {
         (doc.tokens.len(), doc.trailing.len()) == *found
     })
+    .checking([text.as_bytes()].into_iter(), runs)
 }
 
 /// The document written back.
@@ -187,7 +183,7 @@ fn document(text: &str, runs: usize) -> Times {
         *len == Ok(lin.len() as u64) && lin == text
     });
     assert_eq!(out, bytes);
-    times
+    times.checking([bytes].into_iter(), runs)
 }
 
 /// How many calls and cards all boards have.
@@ -211,9 +207,10 @@ fn boards_by(text: &str, runs: usize, mut read: impl FnMut(&[u8]) -> LinHeading)
         seen
     };
     let parse = || parse_lin_file(black_box(text)).expect("no error");
-    in_turn_reading(text, runs, parse, read_all, |all, seen| {
+    in_turn(text.len(), runs, parse, read_all, |all, seen| {
         (all.len(), rows_of(all)) == *seen
     })
+    .checking([text.as_bytes()].into_iter(), runs)
 }
 
 /// All boards with their rows.
@@ -235,10 +232,11 @@ fn last_heading(text: &str, runs: usize) -> Times {
     let last = files::count_boards(bytes).expect("a text within the limit") - 1;
     let read = || files::file_heading_numbers(black_box(bytes), last);
     let parse = || parse_lin_file(black_box(text)).expect("no error").pop();
-    in_turn_reading(text, runs, parse, read, |board, heading| {
+    in_turn(text.len(), runs, parse, read, |board, heading| {
         let calls = board.as_ref().map(|b| b.auction.len() as u64);
         calls == Some(heading.calls)
     })
+    .checking([text.as_bytes()].into_iter(), runs)
 }
 
 /// The boards in which a name sits.
@@ -251,9 +249,10 @@ fn finding(text: &str, runs: usize) -> Times {
         let has = |b: &&LinData| b.player_names.iter().any(|n| n == name);
         all.iter().filter(has).count() as u64
     };
-    in_turn_reading(text, runs, search, find, |found, answer| {
+    in_turn(text.len(), runs, search, find, |found, answer| {
         *answer == Ok(*found)
     })
+    .checking([text.as_bytes()].into_iter(), runs)
 }
 
 /// The file's boards, as many as a file written of them has room for.
@@ -290,7 +289,7 @@ fn writing(text: &str, runs: usize) -> Times {
         written.len() as u64 == *used
     });
     assert_eq!(&out[..file.len()], file.as_bytes());
-    times
+    times.checking(lent.iter().map(|b| &b.text[..]), runs)
 }
 
 /// Each board against its copy.
@@ -310,9 +309,11 @@ fn equality(text: &str, runs: usize) -> Times {
         let pairs = black_box(&boards).iter().zip(&copies);
         pairs.filter(|(a, b)| a == b).count()
     };
+    let texts = lent.iter().chain(&others).map(|b| &b.text[..]);
     in_turn(write_lin_file(&boards).len(), runs, equal, same, |a, b| {
         a == b
     })
+    .checking(texts, runs)
 }
 
 /// How many bytes the texts of a board have.
@@ -359,4 +360,5 @@ fn converting(text: &str, runs: usize) -> Times {
         let calls: usize = made.iter().map(|b| b.auction.len()).sum();
         *answer == (calls as u64, bytes as u64)
     })
+    .checking(lent.iter().map(|r| &r.text[..]), runs)
 }
