@@ -69,11 +69,11 @@ pub use listing_lines::header_line;
 pub use listing_lines::refusal_line;
 
 // Rows of call structs. (01: Language form, "The calls stand in a list of rows lent by the caller")
+pub use row_access::get_row;
+pub use row_access::put_row;
+pub use row_access::row_count;
 pub use rows::CallRow;
 pub use rows::fill_rows;
-pub use rows::get_row;
-pub use rows::put_row;
-pub use rows::row_count;
 pub use rows::spill_rows;
 pub use rows_reader::file_board_rows;
 pub use rows_reader::parse_lin_rows;

@@ -1,11 +1,7 @@
 // Lent slices of call structs: the rows of a board's calls, one struct each. (01: Language form, "The calls stand in a list of rows lent by
 // the caller")
-mod access;
 mod words;
 
-pub use access::get_row;
-pub use access::put_row;
-pub use access::row_count;
 use lin_spec::MaybeSpan;
 use lin_spec::Span;
 pub use words::fill_rows;

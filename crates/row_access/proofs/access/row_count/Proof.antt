@@ -32,12 +32,12 @@ use denote.Triple.Spec.{Meets, tripleOf}
 use denote.Triple.Table.{entered}
 use denote.Triple.Walked.{says, Stays, stay-none-slice, walkOf, AllGo, goes-none-slice, Walks, ends-at, walked, walk-meets}
 use denote.Exit.{yes}
 use Rattle.rows.specs.declared.CallRow.{CallRow}
 use Rattle.rows.proofs.CallRow as T
-use Rattle.rows.proofs.access.row_count as f
-use Rattle.rows.proofs.access.row_count.Statement as stated
-use Rattle.rows.proofs.access.row_count.Code as code
-use Rattle.rows.proofs.access.row_count.Key.{name as #rows·row-count}
+use Rattle.row_access.proofs.access.row_count as f
+use Rattle.row_access.proofs.access.row_count.Statement as stated
+use Rattle.row_access.proofs.access.row_count.Code as code
+use Rattle.row_access.proofs.access.row_count.Key.{name as #row_access·row-count}
 
 abbrev Arg : Type 0
 Arg = RefT (List CallRow) × Unit {0}
@@ -89,5 +89,5 @@ pub row-count-spec : {M : Type 1} → stated.statement M
 unfolding code.routine tablesOf
 row-count-spec 𝓤 H 𝓜 𝓖 𝓡 =
     entered 𝓤 H (tripleOf 𝓤 H (𝓖 .A) f.signature (f.spec 𝓤 H (𝓖 .A) (𝓜 .mem) (𝓡 .run)))
-    (tables 𝓤 H 𝓜 𝓡 code.env .C) (tables 𝓤 H 𝓜 𝓡 code.env .Λ) #rows·row-count code.function (code.unfolded 𝓤 H 𝓜 𝓡)
+    (tables 𝓤 H 𝓜 𝓡 code.env .C) (tables 𝓤 H 𝓜 𝓡 code.env .Λ) #row_access·row-count code.function (code.unfolded 𝓤 H 𝓜 𝓡)
     (row-count-meets 𝓤 H (𝓖 .A) (givenOf 𝓤 H 𝓜 𝓖) (𝓜 .mem) (𝓡 .run) (tablesOf 𝓤 H 𝓜 (tables 𝓤 H 𝓜 𝓡 code.env)))

@@ -37,15 +37,15 @@ use denote.Triple.Spec.{Meets, tripleOf}
 use denote.Triple.Table.{entered}
 use denote.Triple.Walked.{says, Stays, stay-none, stay-none-slice, walkOf, AllGo, goes-none, goes-none-slice, Walks, ends-at, walked, walk-meets}
 use denote.Exit.{yes}
 use Rattle.rows.specs.declared.CallRow.{CallRow}
 use Rattle.rows.proofs.Walking.{vals, mach, on, off, fits-place}
 use Rattle.rows.proofs.CallRow as T
 use Rattle.rows.proofs.CallRow.Laws as T′
-use Rattle.rows.proofs.access.get_row as f
-use Rattle.rows.proofs.access.get_row.Statement as stated
-use Rattle.rows.proofs.access.get_row.Code as code
-use Rattle.rows.proofs.access.get_row.Code.Mir as mir
-use Rattle.rows.proofs.access.get_row.Key.{name as #rows·get-row}
+use Rattle.row_access.proofs.access.get_row as f
+use Rattle.row_access.proofs.access.get_row.Statement as stated
+use Rattle.row_access.proofs.access.get_row.Code as code
+use Rattle.row_access.proofs.access.get_row.Code.Mir as mir
+use Rattle.row_access.proofs.access.get_row.Key.{name as #row_access·get-row}
 
 abbrev Arg : Type 0
 Arg = RefT (List CallRow) × (ℕ × (CallRow × Unit {0}))
@@ -126,5 +126,5 @@ pub get-row-spec : {M : Type 1} → stated.statement M
 unfolding code.routine tablesOf
 get-row-spec 𝓤 H 𝓜 𝓖 𝓡 =
     entered 𝓤 H (tripleOf 𝓤 H (𝓖 .A) f.signature (f.spec 𝓤 H (𝓖 .A) (𝓜 .mem) (𝓡 .run)))
-    (tables 𝓤 H 𝓜 𝓡 code.env .C) (tables 𝓤 H 𝓜 𝓡 code.env .Λ) #rows·get-row code.function (code.unfolded 𝓤 H 𝓜 𝓡)
+    (tables 𝓤 H 𝓜 𝓡 code.env .C) (tables 𝓤 H 𝓜 𝓡 code.env .Λ) #row_access·get-row code.function (code.unfolded 𝓤 H 𝓜 𝓡)
     (get-row-meets 𝓤 H (𝓖 .A) (givenOf 𝓤 H 𝓜 𝓖) (𝓜 .mem) (𝓡 .run) (tablesOf 𝓤 H 𝓜 (tables 𝓤 H 𝓜 𝓡 code.env)))

@@ -1,5 +1,5 @@
 // How many rows there are, and one row of them. (01: Records, "The calls stand in a list of rows lent by the caller")
-use crate::CallRow;
+use rows::CallRow;
 ghost use mathlib.Core.Path.{_≡_};
 ghost use lib.ListN.{length, set, getD};
 ghost use lib.Dec.{ltb};

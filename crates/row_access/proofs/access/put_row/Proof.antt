@@ -41,16 +41,16 @@ use denote.Triple.Spec.{Meets, tripleOf}
 use denote.Triple.Table.{entered}
 use denote.Triple.Walked.{says, Stays, stay-slice, stay-none, walkOf, AllGo, goes-slice, goes-none, Walks, ends-at, walked, walk-meets}
 use denote.Exit.{yes}
 use Rattle.rows.specs.declared.CallRow.{CallRow}
 use Rattle.rows.specs.Rows.{emptyRow}
 use Rattle.rows.proofs.Walking.{vals, mach, on, off, fits-place}
 use Rattle.rows.proofs.CallRow as T
 use Rattle.rows.proofs.CallRow.Laws as T′
-use Rattle.rows.proofs.access.put_row as f
-use Rattle.rows.proofs.access.put_row.Statement as stated
-use Rattle.rows.proofs.access.put_row.Code as code
-use Rattle.rows.proofs.access.put_row.Code.Mir as mir
-use Rattle.rows.proofs.access.put_row.Key.{name as #rows·put-row}
+use Rattle.row_access.proofs.access.put_row as f
+use Rattle.row_access.proofs.access.put_row.Statement as stated
+use Rattle.row_access.proofs.access.put_row.Code as code
+use Rattle.row_access.proofs.access.put_row.Code.Mir as mir
+use Rattle.row_access.proofs.access.put_row.Key.{name as #row_access·put-row}
 
 abbrev Arg : Type 0
 Arg = RefT (List CallRow) × (ℕ × (CallRow × Unit {0}))
@@ -132,5 +132,5 @@ pub put-row-spec : {M : Type 1} → stated.statement M
 unfolding code.routine tablesOf
 put-row-spec 𝓤 H 𝓜 𝓖 𝓡 =
     entered 𝓤 H (tripleOf 𝓤 H (𝓖 .A) f.signature (f.spec 𝓤 H (𝓖 .A) (𝓜 .mem) (𝓡 .run)))
-    (tables 𝓤 H 𝓜 𝓡 code.env .C) (tables 𝓤 H 𝓜 𝓡 code.env .Λ) #rows·put-row code.function (code.unfolded 𝓤 H 𝓜 𝓡)
+    (tables 𝓤 H 𝓜 𝓡 code.env .C) (tables 𝓤 H 𝓜 𝓡 code.env .Λ) #row_access·put-row code.function (code.unfolded 𝓤 H 𝓜 𝓡)
     (put-row-meets 𝓤 H (𝓖 .A) (givenOf 𝓤 H 𝓜 𝓖) (𝓜 .mem) (𝓡 .run) (tablesOf 𝓤 H 𝓜 (tables 𝓤 H 𝓜 𝓡 code.env)))
