@@ -26,12 +26,12 @@ use Rattle.lin_spec.specs.declared.Verdict.{Verdict}
 use Rattle.lin_spec.specs.declared.Verdict.the-variants.{Accepted, Refused}
 use Rattle.lin_spec.specs.declared.Refusal.{Refusal}
 use Rattle.lin_spec.specs.declared.Refusal.the-variants.{TextTooLong, OutOfRange, SpanPastEnd, SpanNotUtf8}
-use Rattle.lin_spec.proofs.Base.{split, eq-list}
+use Rattle.lin_spec.proofs.Base.{split, eq-list, or-none}
 use Rattle.lin_spec.proofs.Checks.{unless-refused, unless-passed}
 use Rattle.lent.specs.Calls.{callAt}
 use Rattle.lent.specs.declared.checks.Faults.{Faults}
 use Rattle.lent.specs.Checks.{verdictOf, Found}
-use Rattle.lent.proofs.LentLaws.{rows-cons, rows-count, no-rows, rows-end}
+use Rattle.lent.proofs.LentLaws.{rows-cons, rows-count, no-rows, rows-end, found-ill}
 use Rattle.equality.proofs.EqualityMeaning.{deal-self}
 use Rattle.equality.specs.Parts.{callBytes, callsBytes, sameDealt, sameTexts, samePlay, bothChecks, bothChecked}
 
@@ -261,15 +261,19 @@ module _ (s : List ℕ) (b : Board) (ws cs t : List ℕ) (c : Board) (us ds : Li
 
 -- The checks, by the tests that led there: 5 and 6 meet both boards or neither
 
-both-of : (t a b c d : Bool) → _≡_ {A = Answer Unit} (unless (refuseIf t OutOfRange ∷ refuseIf a SpanPastEnd ∷ refuseIf b SpanPastEnd ∷ refuseIf c SpanNotUtf8 ∷ refuseIf d SpanNotUtf8 ∷ []) tt)
-    (unless (refuseIf t OutOfRange ∷ refuseIf (a || b) SpanPastEnd ∷ refuseIf (c || d) SpanNotUtf8 ∷ []) tt)
+both-of : (t a b c d c′ d′ : Bool) → ((a || b) ≡ false → (c ≡ c′) × (d ≡ d′))
+    → _≡_ {A = Answer Unit} (unless (refuseIf t OutOfRange ∷ refuseIf a SpanPastEnd ∷ refuseIf b SpanPastEnd ∷ refuseIf c SpanNotUtf8 ∷ refuseIf d SpanNotUtf8 ∷ []) tt)
+    (unless (refuseIf t OutOfRange ∷ refuseIf (a || b) SpanPastEnd ∷ refuseIf (c′ || d′) SpanNotUtf8 ∷ []) tt)
 unfolding unless
-both-of true a b c d = refl
-both-of false true b c d = refl
-both-of false false true c d = refl
-both-of false false false true d = refl
-both-of false false false false true = refl
-both-of false false false false false = refl
+both-of true a b c d c′ d′ h = refl
+both-of false true b c d c′ d′ h = refl
+both-of false false true c d c′ d′ h = refl
+both-of false false false c d c′ d′ h = rw (h refl .0, h refl .1) (either c′ d′)
+  where
+    either : (u v : Bool) → _≡_ {A = Answer Unit} (unless (refuseIf u SpanNotUtf8 ∷ refuseIf v SpanNotUtf8 ∷ []) tt) (unless (refuseIf (u || v) SpanNotUtf8 ∷ []) tt)
+    either true v = refl
+    either false true = refl
+    either false false = refl
 
 module _ (other : Bool) (x y : Lent) where
   pub both-long : limit < length (x .text) → refused TextTooLong ≡ bothChecked other x y
@@ -290,8 +294,8 @@ module _ (other : Bool) (x y : Lent) where
         both-found : bothChecked other x y ≡ unless (refuseIf (p .number || q .number) OutOfRange ∷ refuseIf (p .past || q .past) SpanPastEnd ∷ refuseIf (p .ill || q .ill) SpanNotUtf8 ∷ []) tt
         unfolding unless bothChecks
         both-found =
-            simp (le-ltb limit (length (x .text)) h, le-ltb limit (length (y .text)) k, o, ← f .numbers, ← g .numbers, ← f .ends, ← g .ends, ← f .texts, ← g .texts)
-            (both-of (p .number || q .number) (p .past) (q .past) (p .ill) (q .ill))
+            simp (le-ltb limit (length (x .text)) h, le-ltb limit (length (y .text)) k, o, ← f .numbers, ← g .numbers, ← f .ends, ← g .ends)
+            (both-of (p .number || q .number) (p .past) (q .past) _ _ (p .ill) (q .ill) (λ e. let n = or-none (p .past) (q .past) e in (found-ill x p f (n .0), found-ill y q g (n .1))))
 
         pub both-number : (p .number || q .number) ≡ true → refused OutOfRange ≡ bothChecked other x y
         unfolding unless

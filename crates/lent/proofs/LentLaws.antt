@@ -34,7 +34,7 @@ use Rattle.lent.specs.declared.checks.Faults.{Faults}
 use Rattle.lent.specs.declared.checks.Look.{Look}
 use Rattle.lent.specs.declared.checks.Look.the-variants.{Past, Ill, Torn}
 use Rattle.lent.specs.Heads.{boardOf, headSpans}
-use Rattle.lent.specs.Checks.{verdictOf, checked, lookOf, WholeIfTorn, NotPast, RowsFound, Found}
+use Rattle.lent.specs.Checks.{verdictOf, checked, amiss, lookOf, WholeIfTorn, NotPast, RowsFound, Found}
 
 pub no-rows : {A : Type 0} (cs : List A) → length cs ≡ 0 → cs ≡ []
 no-rows [] h = refl
@@ -134,8 +134,25 @@ module _ (f : Span → Bool) (x : MaybeSpan) where
 
 -- A look at a span, by the arm that the code is in
 
-pub look-is : (l m : Look) (s : List ℕ) (x : Span) (t : Bool) → l ≡ m → t ≡ lookOf m s x → t ≡ lookOf l s x
-look-is l m s x t e f = f ∙ ap (λ (n : Look). lookOf n s x) (sym e)
+module _ (l : Look) (s : List ℕ) (x : Span) (u : Bool) (p : u ≡ passesEnd s x) where
+  -- every look sees that the span passes the end
+  pub look-past : u ≡ true → true ≡ lookOf l s x
+  look-past h = go l
+    where
+      go : (m : Look) → true ≡ lookOf m s x
+      go Past = sym h ∙ p
+      go Ill = rw (← p, h) refl
+      go Torn = rw (← p, h) refl
+
+  module _ (h : u ≡ false) where
+    pub look-end : l ≡ Past → false ≡ lookOf l s x
+    look-end e = rw e (sym h ∙ p)
+
+    pub look-ill : l ≡ Ill → (t : Bool) → t ≡ illSpan s x → t ≡ lookOf l s x
+    look-ill e t f = rw (e, ← p, h) f
+
+    pub look-torn : l ≡ Torn → (t : Bool) → t ≡ illSpan s x → t ≡ lookOf l s x
+    look-torn e t f = rw (e, ← p, h) f
 
 pub look-whole : (l : Look) (s : List ℕ) → l ≡ Torn → WholeIfTorn l s → utf8 s ≡ true
 look-whole l s e h = subst (λ (n : Look). WholeIfTorn n s) e h
@@ -196,14 +213,23 @@ found-all Ill n s h ds ws cs r f t et u eu w ew =
     record {
       numbers = rw (et, f .flags) refl;
       ends = rw (eu, f .ends) (sym (spans-any (passesEnd s) s h ds ws cs));
-      texts = rw (ew, f .texts) (sym (spans-any (illSpan s) s h ds ws cs));
+      texts = rw (ew, f .texts) (sym (spans-any (amiss s) s h ds ws cs));
     }
 found-all Torn n s h ds ws cs r f t et u eu w ew =
     record {
       numbers = rw (et, f .flags) refl;
       ends = rw (eu, f .ends) (sym (spans-any (passesEnd s) s h ds ws cs));
-      texts = rw (ew, f .texts) (sym (spans-any (illSpan s) s h ds ws cs));
+      texts = rw (ew, f .texts) (sym (spans-any (amiss s) s h ds ws cs));
     }
+
+-- where nothing passes the end, what is amiss is not UTF-8
+amiss-ill : (s : List ℕ) (xs : List Span) → any (passesEnd s) xs ≡ false → any (amiss s) xs ≡ any (illSpan s) xs
+unfolding any
+amiss-ill s [] h = refl
+amiss-ill s (x ∷ xs) h = let n = or-none (passesEnd s x) (any (passesEnd s) xs) h in rw (n .0) (ap (λ (t : Bool). illSpan s x || t) (amiss-ill s xs (n .1)))
+
+pub found-ill : (x : Lent) (r : Faults) → Found x r → r .past ≡ false → any (illSpan (x .text)) (lentSpans x) ≡ r .ill
+found-ill x r f h = sym (f .texts ∙ amiss-ill (x .text) (lentSpans x) (sym (f .ends) ∙ h))
 
 -- The verdict, by the tests that led there
 
@@ -230,11 +256,11 @@ module _ (other : Bool) (x : Lent) where
         module _ (l : r .past ≡ false) where
           pub check-ill : r .ill ≡ true → refused SpanNotUtf8 ≡ checked other x
           unfolding unless lentChecks
-          check-ill m = simp (le-ltb limit (length (x .text)) h, o, ← f .numbers, k, ← f .ends, l, ← f .texts, m)
+          check-ill m = simp (le-ltb limit (length (x .text)) h, o, ← f .numbers, k, ← f .ends, l, found-ill x r f l, m)
 
           pub check-good : r .ill ≡ false → accepted tt ≡ checked other x
           unfolding unless lentChecks
-          check-good m = simp (le-ltb limit (length (x .text)) h, o, ← f .numbers, k, ← f .ends, l, ← f .texts, m)
+          check-good m = simp (le-ltb limit (length (x .text)) h, o, ← f .numbers, k, ← f .ends, l, found-ill x r f l, m)
 
 -- What a caller has of it
 

@@ -1,7 +1,7 @@
 -- What the checks of a lent board answer. (01: Eight refusals)
 use Prim.Native.Nat.{ℕ}
 use mathlib.Core.Path.{_≡_}
-use mathlib.Core.Bool.{Bool, true}
+use mathlib.Core.Bool.{Bool, true, _||_}
 use mathlib.Core.List.{List}
 use Rattle.lin_spec.specs.Base.{any}
 use Rattle.lin_spec.specs.Refusals.{Answer, unless, passesEnd, illSpan}
@@ -25,11 +25,15 @@ verdictOf (Refused r) = refused r
 abbrev pub checked : (other : Bool) → Lent → Answer Unit
 checked other x = unless (lentChecks other x) tt
 
+-- 5 or 6 meets a span: one that passes the end is not asked for 6
+abbrev pub amiss : List ℕ → Span → Bool
+amiss s x = passesEnd s x || illSpan s x
+
 -- what a look at a span says
 abbrev pub lookOf : Look → List ℕ → Span → Bool
 lookOf Past s x = passesEnd s x
-lookOf Ill s x = illSpan s x
-lookOf Torn s x = illSpan s x
+lookOf Ill s x = amiss s x
+lookOf Torn s x = amiss s x
 
 -- a look at the ends of a span is for a text that is UTF-8 as a whole
 abbrev pub WholeIfTorn : Look → List ℕ → Type 0
@@ -53,4 +57,4 @@ pub record RowsFound (l : Look) (s ws : List ℕ) (r : Faults) : Type 0 where
 pub record Found (x : Lent) (r : Faults) : Type 0 where
   pub numbers : r .number ≡ badNumber x
   pub ends : r .past ≡ any (passesEnd (x .text)) (lentSpans x)
-  pub texts : r .ill ≡ any (illSpan (x .text)) (lentSpans x)
+  pub texts : r .ill ≡ any (amiss (x .text)) (lentSpans x)

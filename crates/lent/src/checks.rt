@@ -42,7 +42,7 @@ fn bad_flag(c: Call) -> bool
     (1 < c.alerted) | (1 < c.annotated)
 }
 
-// How a span is looked at: by 5; by 6, byte for byte; or by 6 within a text that is UTF-8 as a whole, by the ends of the span.
+// How a span is looked at: by 5; by 5 or 6, byte for byte; or by 5 or 6 within a text that is UTF-8 as a whole, by the ends of the span.
 enum Look {
     Past,
     Ill,
@@ -54,15 +54,13 @@ fn meets(text: &[u8], x: Span, look: Look) -> bool
     requires { ⌜ WholeIfTorn look (now text) ⌝ }
     ensures { λ r. ⌜ r ≡ lookOf look (now (text .entry)) x ⌝ }
 {
+    if faulty(text, x, Fault::PastEnd) {
+        return true;
+    }
     match look {
-        Look::Past => faulty(text, x, Fault::PastEnd),
+        Look::Past => false,
         Look::Ill => faulty(text, x, Fault::NotUtf8),
-        Look::Torn => {
-            if faulty(text, x, Fault::PastEnd) {
-                return faulty(text, x, Fault::NotUtf8);
-            }
-            torn(text, x)
-        }
+        Look::Torn => torn(text, x),
     }
 }
 
@@ -146,7 +144,7 @@ fn head_meets(text: &[u8], head: Head, look: Look) -> bool
     a | (b | (c | d))
 }
 
-// What is wrong with what is lent: whether 8 meets a card or a flag, and 5 and 6 a span.
+// What is wrong with what is lent: whether 8 meets a card or a flag, 5 a span, and 5 or 6 a span.
 pub struct Faults {
     pub number: bool,
     pub past: bool,
