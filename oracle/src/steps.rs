@@ -10,7 +10,7 @@ pub mod expected;
 pub mod lent;
 pub mod readers;
 
-// The memory as the program has it: crates/replay_steps/src/memory.rt.
+// The memory as the program has it: crates/replay/src/memory.rt.
 pub const OK: usize = 0;
 /// Texts and cards that are lent: places of the program's bytes, by start and length.
 pub const TEXT: usize = 16;

@@ -1,4 +1,5 @@
 // Steps that compare: words with the data of a step or with other words, a text that the answer names, and bytes of the output.
+use crate::memory::TEXT;
 use crate::memory::TEXT2;
 use crate::memory::WORDS;
 use crate::memory::get;
@@ -93,9 +94,9 @@ fn spanned(text: &[u8], start: usize, len: usize, data: &[u8]) -> bool {
     same(part(text, start, len), data)
 }
 
-// The same of the span that two words are, of the text that a start and a length in the memory say.
-pub fn shows(m: &[u32; WORDS], at: usize, data: &[u8], bytes: &[u8; BYTES], of: usize) -> bool {
-    let text = part(bytes, place(m, of), place(m, plus(of, 1)));
+// The same of the span that two words are, of the lent text.
+pub fn shows(m: &[u32; WORDS], at: usize, data: &[u8], bytes: &[u8; BYTES]) -> bool {
+    let text = part(bytes, place(m, TEXT), place(m, TEXT + 1));
     spanned(text, place(m, at), place(m, plus(at, 1)), data)
 }
 
@@ -112,6 +113,6 @@ pub fn stayed(m: &[u32; WORDS], at: usize, data: &[u8], bytes: &[u8; BYTES]) -> 
 
 // Whether the output's bytes that a start and a length in the memory say are the second text.
 pub fn is_text2(m: &[u32; WORDS], at: usize, bytes: &[u8; BYTES], out: &[u8; BYTES]) -> bool {
-    let text = part(bytes, place(m, TEXT2), place(m, plus(TEXT2, 1)));
+    let text = part(bytes, place(m, TEXT2), place(m, TEXT2 + 1));
     same(part(out, place(m, at), place(m, plus(at, 1))), text)
 }

@@ -45,9 +45,6 @@ pub const LINES: usize = 36;
 
 pub const SPAN: usize = 38;
 
-// The part of the output that texts are shown of, by a start and a length.
-pub const SHOWN: usize = 40;
-
 // The answer: the low words of its eight numbers, the high words, and its board.
 pub const ANSWER: usize = 64;
 

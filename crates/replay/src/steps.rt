@@ -13,9 +13,7 @@ use crate::memory::DEPTH;
 use crate::memory::GROUPS;
 use crate::memory::NEXT;
 use crate::memory::OK;
-use crate::memory::SHOWN;
 use crate::memory::START;
-use crate::memory::TEXT;
 use crate::memory::WORDS;
 use crate::memory::get;
 use crate::memory::place;
@@ -24,7 +22,7 @@ use crate::memory::set;
 use crate::memory::word;
 use crate::stores::BYTES;
 use crate::stores::copy;
-use crate::stores::count;
+use crate::stores::count_all;
 use crate::stores::fill;
 use crate::stores::half;
 use crate::stores::item;
@@ -107,13 +105,16 @@ fn lend(m: &mut [u32; WORDS], at: usize, data: &[u8], bytes: &mut [u8; BYTES]) {
 
 // The steps that store.
 fn store(op: u8, at: usize, data: &[u8], m: &mut [u32; WORDS], bytes: &mut [u8; BYTES]) {
+    let from = half(data, 0);
+    let count = half(data, 2);
+    let stride = half(data, 4);
     match op {
         0 => put(m, at, data, 1),
         1 => put(m, at, data, 4),
-        2 => copy(m, at, half(data, 0), half(data, 2), half(data, 4)),
-        3 => count(m, at, data),
-        4 => sum(m, at, half(data, 0), false),
-        5 => sum(m, at, half(data, 0), true),
+        2 => copy(m, at, from, count, stride),
+        3 => count_all(m, at, data),
+        4 => sum(m, at, from, false),
+        5 => sum(m, at, from, true),
         6 => lend(m, at, data, bytes),
         7 => patch(m, at, data, bytes),
         _ => fill(m, at, data, bytes),
@@ -134,26 +135,16 @@ fn turn(op: u8, at: usize, data: &[u8], m: &mut [u32; WORDS]) {
 
 // The steps that compare.
 fn compared(op: u8, at: usize, data: &[u8], m: &[u32; WORDS], bytes: &[u8; BYTES]) -> bool {
+    let from = half(data, 0);
+    let count = place(m, half(data, 2));
+    let stride = half(data, 4);
+    let by = place(m, half(data, 6));
     match op {
         32 => holds(m, at, data, 1),
         33 => holds(m, at, data, 4),
-        34 => agree(
-            m,
-            plus(at, place(m, half(data, 6))),
-            half(data, 0),
-            place(m, half(data, 2)),
-            half(data, 4),
-        ),
-        35 => all_moved(
-            m,
-            at,
-            half(data, 0),
-            place(m, half(data, 2)),
-            half(data, 4),
-            place(m, half(data, 6)),
-        ),
-        36 => shows(m, at, data, bytes, TEXT),
-        39 => shows(m, at, data, bytes, SHOWN),
+        34 => agree(m, plus(at, by), from, count, stride),
+        35 => all_moved(m, at, from, count, stride, by),
+        36 => shows(m, at, data, bytes),
         37 => wrote(m, at, data, bytes),
         _ => stayed(m, at, data, bytes),
     }

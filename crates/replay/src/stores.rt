@@ -83,7 +83,7 @@ pub fn copy(m: &mut [u32; WORDS], to: usize, from: usize, count: usize, stride: 
 }
 
 // Counts each card of the data.
-pub fn count(m: &mut [u32; WORDS], at: usize, data: &[u8]) {
+pub fn count_all(m: &mut [u32; WORDS], at: usize, data: &[u8]) {
     let mut i = 0;
     while i < data.len() {
         let card = plus(at, item(data, i, 1) as usize);

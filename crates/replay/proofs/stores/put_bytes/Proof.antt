@@ -7,10 +7,10 @@ use Rattle.replay.proofs.stores.put_bytes.Statement.{statement}
 use Rattle.replay.proofs.stores.put_bytes.Tie as tie
 
 abbrev Inv-loop : tie.InvT-loop
-Inv-loop to₀ at «d» i₀ to i = Unit {0}
+Inv-loop to₀ at d i₀ to i = Unit {0}
 
 abbrev μ-loop : tie.MeasureT-loop
-μ-loop to₀ at «d» i₀ to i = length d - i
+μ-loop to₀ at d i₀ to i = length d - i
 
 loop-holds : tie.Need-loop-holds Inv-loop μ-loop
 loop-holds c = search needs

@@ -1,16 +1,16 @@
--- `replay::stores::count` is safe and ends. The invariant says nothing, and the measure is what is left of the data.
+-- `replay::stores::count_all` is safe and ends. The invariant says nothing, and the measure is what is left of the data.
 -- Assumes nothing.
 use Prim.Native.Nat.{_-_}
 use borrow.Author.Needs.{needs}
 use lib.ListN.{length}
-use Rattle.replay.proofs.stores.count.Statement.{statement}
-use Rattle.replay.proofs.stores.count.Tie as tie
+use Rattle.replay.proofs.stores.count_all.Statement.{statement}
+use Rattle.replay.proofs.stores.count_all.Tie as tie
 
 abbrev Inv-loop : tie.InvT-loop
-Inv-loop m₀ at «d» i₀ m i = Unit {0}
+Inv-loop m₀ at d i₀ m i = Unit {0}
 
 abbrev μ-loop : tie.MeasureT-loop
-μ-loop m₀ at «d» i₀ m i = length d - i
+μ-loop m₀ at d i₀ m i = length d - i
 
 loop-holds : tie.Need-loop-holds Inv-loop μ-loop
 loop-holds c = search needs
@@ -45,8 +45,8 @@ loop-again c = search needs
 returns : tie.Need-returns Inv-loop μ-loop
 returns c = search needs
 
-pub count-spec : {M : Type 1} → statement M
-count-spec =
+pub count-all-spec : {M : Type 1} → statement M
+count-all-spec =
     tie.close
     (tie.spec
     Inv-loop
