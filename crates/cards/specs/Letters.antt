@@ -1,6 +1,9 @@
 -- What the enums of letters and cards stand for. (01: Records)
-use Prim.Native.Nat.{ℕ}
+use Prim.Native.Nat.{ℕ, _-_}
+use mathlib.Core.Bool.{_&&_}
 use mathlib.Core.Option.{Option, none, some}
+use lib.Dec.{leb, ltb}
+use Rattle.lin_spec.specs.Base.{pick}
 use Rattle.cards.specs.declared.letters.Lookup.{Lookup}
 use Rattle.cards.specs.declared.letters.Lookup.the-variants.{Found, Nothing}
 use Rattle.cards.specs.declared.letters.MaybeCard.{MaybeCard}
@@ -16,7 +19,9 @@ abbrev pub maybeOf : MaybeCard → Option ℕ
 maybeOf (Card c) = some c
 maybeOf NoCard = none
 
--- the number, or the one that stands for none
-abbrev pub orElse : (other : ℕ) → Option ℕ → ℕ
-orElse k none = k
-orElse k (some n) = n
+-- the suit and the rank that a letter's number stands for
+abbrev pub suitIn : ℕ → Option ℕ
+suitIn n = pick (ltb n 4) (some n) none
+
+abbrev pub rankIn : ℕ → Option ℕ
+rankIn n = pick (leb 4 n && ltb n 17) (some (n - 4)) none
