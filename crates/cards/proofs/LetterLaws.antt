@@ -7,13 +7,15 @@ use mathlib.Core.Bool.{Bool, true, false, _&&_, _||_, false≢true}
 use mathlib.Core.List.{List, [], _∷_}
 use mathlib.Core.Option.{Option, none, some}
 use lib.ListN.{length, getD}
-use lib.Dec.{eqb}
+use lib.Dec.{eqb, leb, ltb}
+use borrow.Author.Tests.{leb-true}
 use Rattle.lin_spec.specs.Base.{ascii}
-use Rattle.lin_spec.specs.White.{lower}
+use Rattle.lin_spec.specs.White.{lower, trim}
+use Rattle.lin_spec.specs.Tokens.{pipe}
 use Rattle.lin_spec.specs.Cards.{indexOf, suitOf, rankOf, cardOf, readCard}
-use Rattle.lin_spec.proofs.Base.{allBelow, below}
-use Rattle.lin_spec.proofs.Cards.{Under}
-use Rattle.cards.specs.Letters.{lookupOf, suitIn, rankIn}
+use Rattle.lin_spec.proofs.Base.{and-left, and-right, allBelow, below}
+use Rattle.lin_spec.proofs.White.{Visible, trim-visible}
+use Rattle.cards.specs.Letters.{lookupOf, suitIn, rankIn, CardIs}
 use Rattle.cards.specs.declared.letters.Lookup.{Lookup}
 use Rattle.cards.specs.declared.letters.Lookup.the-variants.{Found, Nothing}
 
@@ -84,3 +86,33 @@ module _ (s : List ℕ) (h : length s ≡ 2) where
     -- a suit and a rank
     pub card-is : (r : ℕ) → rankOf (getD s 1 0) ≡ some r → some (u * 13 + r) ≡ readCard s
     card-is r e = sym (two s h ∙ rw (eu, e))
+
+-- A card by its two bytes
+
+card-text : (a b u r : ℕ) → suitOf a ≡ some u → rankOf b ≡ some r → readCard (a ∷ b ∷ []) ≡ some (u * 13 + r)
+unfolding readCard
+card-text a b u r e f = rw (e, f)
+
+some-not : (o : Option ℕ) (n : ℕ) → o ≡ some n → isNone o ≡ false
+some-not o n e = rw e
+
+-- what has a suit, or a rank, is visible, by a test of each byte
+seen : (f : ℕ → Option ℕ) → allBelow (λ (b : ℕ). isNone (f b) || (leb 33 b && leb b 122)) 0x100 ≡ true → (b n : ℕ) → b < 0x100 → f b ≡ some n → Visible b
+seen f h b n l e =
+    let t : (isNone (f b) || (leb 33 b && leb b 122)) ≡ true = below (λ (c : ℕ). isNone (f c) || (leb 33 c && leb c 122)) 0x100 h b l in
+    let u : (leb 33 b && leb b 122) ≡ true = (rw (some-not (f b) n e) at t) in
+    (leb-true 33 b (and-left (leb 33 b) (leb b 122) u), leb-true b 122 (and-right (leb 33 b) (leb b 122) u))
+
+pub card-two : (a b u r : ℕ) → a < 0x100 → b < 0x100 → (suitOf a ≡ suitIn u) × (rankOf a ≡ rankIn u) → (suitOf b ≡ suitIn r) × (rankOf b ≡ rankIn r)
+    → (ltb u 4 && (leb 4 r && ltb r 17)) ≡ true → CardIs a b (u * 13 + (r - 4))
+unfolding allBelow suitOf rankOf indexOf lower
+card-two a b u r la lb ea eb h =
+    let x : suitOf a ≡ some u = ea .0 ∙ simp (and-left (ltb u 4) (leb 4 r && ltb r 17) h) in
+    let y : rankOf b ≡ some (r - 4) = eb .1 ∙ simp (and-right (ltb u 4) (leb 4 r && ltb r 17) h) in
+    let v = seen suitOf refl a u la x in
+    let w = seen rankOf refl b (r - 4) lb y in
+    record {
+      card = ap readCard (trim-visible (a ∷ b ∷ []) (v, (w, tt))) ∙ card-text a b u (r - 4) x y;
+      first = λ e. omega (arith, v .1);
+      second = λ e. omega (arith, w .1);
+    }

@@ -1,9 +1,14 @@
 -- What the enums of letters and cards stand for. (01: Records)
 use Prim.Native.Nat.{ℕ, _-_}
 use mathlib.Core.Bool.{_&&_}
+use mathlib.Core.Path.{_≡_}
+use mathlib.Core.List.{[], _∷_}
 use mathlib.Core.Option.{Option, none, some}
 use lib.Dec.{leb, ltb}
 use Rattle.lin_spec.specs.Base.{pick}
+use Rattle.lin_spec.specs.White.{trim}
+use Rattle.lin_spec.specs.Tokens.{pipe}
+use Rattle.lin_spec.specs.Cards.{readCard}
 use Rattle.cards.specs.declared.letters.Lookup.{Lookup}
 use Rattle.cards.specs.declared.letters.Lookup.the-variants.{Found, Nothing}
 use Rattle.cards.specs.declared.letters.MaybeCard.{MaybeCard}
@@ -25,3 +30,9 @@ suitIn n = pick (ltb n 4) (some n) none
 
 abbrev pub rankIn : ℕ → Option ℕ
 rankIn n = pick (leb 4 n && ltb n 17) (some (n - 4)) none
+
+-- two bytes that are the card r, in any text; neither is a pipe
+pub record CardIs (a b r : ℕ) : Type 0 where
+  pub card : readCard (trim (a ∷ b ∷ [])) ≡ some r
+  pub first : a ≡ pipe → ⊥
+  pub second : b ≡ pipe → ⊥

@@ -1,7 +1,8 @@
 // The letters of suits and ranks, and the text of one card. (01: Records; Board, pc)
 ghost use mathlib.Core.Path.{_≡_};
+ghost use Prim.Native.Nat.{_<_};
 ghost use Rattle.lin_spec.specs.Cards.{suitOf, rankOf, readCard};
-ghost use Rattle.cards.specs.Letters.{lookupOf, maybeOf, suitIn, rankIn};
+ghost use Rattle.cards.specs.Letters.{lookupOf, maybeOf, suitIn, rankIn, CardIs};
 
 // The number of the suit or rank that a letter stands for, if it stands for one.
 pub enum Lookup {
@@ -82,4 +83,16 @@ pub fn read_card(s: &[u8]) -> MaybeCard
         return MaybeCard::Nothing;
     };
     MaybeCard::Card(u * 13 + r)
+}
+
+// The card of two bytes, a suit and a rank; 52 where they are none.
+pub fn card_number(a: u8, b: u8) -> u8
+    ensures { λ r. ⌜ (r < 52 → CardIs a b r) ⌝ }
+{
+    let u = letter(a);
+    let r = letter(b);
+    if (u < 4) & ((4 <= r) & (r < 17)) {
+        return u * 13 + (r - 4);
+    }
+    52
 }
