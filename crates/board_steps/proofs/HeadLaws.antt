@@ -35,6 +35,10 @@ empty-is s v h = go (bytesAt s v) (part-length s (v .start) (v .len) h)
     go [] e = sym (eq-eqb (v .len) 0 (sym e))
     go (b ∷ x) e = sym (ne-eqb (v .len) 0 (λ k. omega arith))
 
+-- one more, where there is a card
+pub card-more : (o : Option ℕ) (r n x : ℕ) → some r ≡ o → x ≡ n + 1 → x ≡ more o n
+card-more o r n x e f = f ∙ ap (λ (y : Option ℕ). more y n) e
+
 -- A token that changes one number of a heading, or nothing
 
 module _ (s : List ℕ) (h : Head) (k : ℕ) (v : Span) where

@@ -1,5 +1,6 @@
 // The heading of a board from a run of tokens, in one pass that keeps spans and small numbers only. (01: Board, `from_tokens`)
 use commands::AH;
+use commands::Known;
 use commands::MB;
 use commands::MC;
 use commands::MD;
@@ -8,7 +9,8 @@ use commands::PC;
 use commands::PN;
 use commands::QX;
 use commands::SV;
-use commands::command_at;
+use commands::after_line;
+use commands::next_known;
 use commands::on_card;
 use commands::on_claim;
 use commands::on_count;
@@ -17,7 +19,8 @@ use commands::on_names;
 use commands::on_present;
 use commands::on_sv;
 use commands::on_value;
-use document::next_pipe;
+use commands::plain_card;
+use document::Cursor;
 use lin_spec::MaybeClaim;
 use lin_spec::MaybeSpan;
 use lin_spec::Span;
@@ -103,26 +106,24 @@ pub fn read_head(text: &[u8], at: usize) -> Head
     let mut h = fresh_head();
     let mut c = at;
     loop {
-        let p = next_pipe(text, c);
-        let v = p + 1;
-        let q = next_pipe(text, v);
-        if text.len() <= q {
-            return h;
-        }
-        let k = command_at(text, c, p);
-        let value = Span {
-            start: v as u32,
-            len: (q - v) as u32,
-        };
-        c = q + 1;
-        if k == PC {
-            h.cards = on_card(text, true, value, h.cards);
-        } else if MC < k {
-            // None of the commands that a board knows.
-        } else if k == MB {
-            h.calls = on_count(true, h.calls);
+        let a = after_line(text, c);
+        if plain_card(text, a) < 52 {
+            h.cards = on_count(true, h.cards);
+            c = a + 6;
         } else {
-            h = step(text, h, k, value);
+            let Known::Token(k, v, next) = next_known(text, Cursor { at: c }) else {
+                return h;
+            };
+            c = next.at;
+            if k == PC {
+                h.cards = on_card(text, true, v, h.cards);
+            } else if MC < k {
+                // None of the commands that a board knows.
+            } else if k == MB {
+                h.calls = on_count(true, h.calls);
+            } else {
+                h = step(text, h, k, v);
+            }
         }
     }
 }

@@ -6,12 +6,15 @@ use crate::heading::step;
 use crate::play::card_at;
 use cards::MaybeCard;
 use commands::AN;
+use commands::Known;
 use commands::MB;
 use commands::MC;
 use commands::PC;
-use commands::command_at;
+use commands::after_line;
+use commands::next_known;
 use commands::on_count;
-use document::next_pipe;
+use commands::plain_card;
+use document::Cursor;
 use lin_spec::Call;
 use lin_spec::MaybeSpan;
 use lin_spec::Span;
@@ -68,32 +71,31 @@ pub fn read_into(text: &[u8], at: usize, rows: &mut [u32], cards: &mut [u8]) -> 
     let mut n = 0;
     let mut c = at;
     loop {
-        let p = next_pipe(text, c);
-        let v = p + 1;
-        let q = next_pipe(text, v);
-        if text.len() <= q {
-            return h;
-        }
-        let k = command_at(text, c, p);
-        let value = Span {
-            start: v as u32,
-            len: (q - v) as u32,
-        };
-        c = q + 1;
-        if k == PC {
-            h.cards = put_card(cards, h.cards, text, value);
-        } else if MC < k {
-            // None of the commands that a board knows.
-        } else if k == MB {
-            let call = call_of(text, value, MaybeSpan::Absent);
-            n = put_call(rows, n, call);
-            h.calls = on_count(true, h.calls);
-        } else if k == AN {
-            if 0 < n {
-                put_note(rows, n - 3, value);
-            }
+        let a = after_line(text, c);
+        let card = plain_card(text, a);
+        if card < 52 {
+            h.cards = put_byte(cards, h.cards, card);
+            c = a + 6;
         } else {
-            h = step(text, h, k, value);
+            let Known::Token(k, v, next) = next_known(text, Cursor { at: c }) else {
+                return h;
+            };
+            c = next.at;
+            if k == PC {
+                h.cards = put_card(cards, h.cards, text, v);
+            } else if MC < k {
+                // None of the commands that a board knows.
+            } else if k == MB {
+                let call = call_of(text, v, MaybeSpan::Absent);
+                n = put_call(rows, n, call);
+                h.calls = on_count(true, h.calls);
+            } else if k == AN {
+                if 0 < n {
+                    put_note(rows, n - 3, v);
+                }
+            } else {
+                h = step(text, h, k, v);
+            }
         }
     }
 }

@@ -1,139 +1,93 @@
--- Hands as the code goes through them: what a byte says, the loop over a text, the loop that sums, the loop over three hands. (01: Records;
+-- Hands as the code goes through them: the loop over a text, the loop that sums, the loop over three hands. (01: Records;
 -- Board, md)
 -- Assumes nothing.
-use Prim.Native.Nat.{ℕ, zero, suc, _+_, _*_, _≤_, _<_}
+use Prim.Native.Nat.{ℕ, zero, suc, _+_, _-_, _*_, _≤_, _<_}
 use native.Mathlib.Numerals.{add-one}
 use native.Mathlib.Omega.{arith}
 use mathlib.Core.Path.{_≡_, refl, ap, sym, subst, _∙_}
-use mathlib.Core.Bool.{_&&_}
+use mathlib.Core.Bool.{Bool, true, false, _&&_, and-false, false≢true}
 use mathlib.Core.List.{List, [], _∷_, _++_, map}
 use mathlib.Core.Option.{Option, none, some}
 use lib.ListN.{length, getD, set, take, drop, length-map, length-take, drop-of-length-le}
 use lib.Seq.{drop-cons, take-all, take-suc, take-suc-set, getD-take, getD-drop}
-use lib.Dec.{eqb}
+use lib.Dec.{eqb, leb, ltb}
+use borrow.Author.Tests.{lt-ltb, le-ltb, le-leb}
 use Rattle.lin_spec.specs.Base.{pick}
 use Rattle.lin_spec.specs.Records.{part}
-use Rattle.lin_spec.specs.Cards.{suitOf, rankOf, cardOf, noCards, sum, handFrom, readHand, remainder}
-use Rattle.lin_spec.proofs.Cards.{Under, suit-under, rank-under, count-sum, set-sum, remainder-at, remainder-length}
-use Rattle.cards.specs.Letters.{lookupOf}
-use Rattle.cards.specs.Hands.{Suited, saidBy, saidOf}
-use Rattle.cards.specs.declared.letters.Lookup.{Lookup}
-use Rattle.cards.specs.declared.letters.Lookup.the-variants.{Found, Nothing}
-use Rattle.cards.specs.declared.hands.Said.{Said}
-use Rattle.cards.specs.declared.hands.Said.the-variants.{Suit, Card, Skip}
-
--- What a byte says
-
-module _ (suit : Lookup) (b : ℕ) where
-  -- a suit letter
-  pub said-suit : (u : ℕ) → suitOf b ≡ some u → Suit u ≡ saidOf (lookupOf suit) b
-  unfolding saidOf
-  said-suit u h = rw h
-
-  module _ (h : suitOf b ≡ none) where
-    -- another byte, before any suit letter
-    pub said-early : suit ≡ Nothing → Skip ≡ saidOf (lookupOf suit) b
-    unfolding saidOf
-    said-early e = rw (h, e)
-
-    module _ (v : ℕ) (e : suit ≡ Found v) where
-      -- another byte that is no rank letter
-      pub said-other : rankOf b ≡ none → Skip ≡ saidOf (lookupOf suit) b
-      unfolding saidOf
-      said-other k = rw (h, k, e)
-
-      -- a rank letter after a suit letter
-      pub said-card : (r : ℕ) → rankOf b ≡ some r → Card (v * 13 + r) ≡ saidOf (lookupOf suit) b
-      unfolding saidOf
-      said-card r k = rw (h, k, e)
-
--- the number of a suit that is known
-pub suited-is : (suit : Lookup) (v : ℕ) → suit ≡ Found v → Suited suit → v < 4
-suited-is suit v e h = subst Suited e h
-
--- What it does to the hand
-
-abbrev Means : Option ℕ → ℕ → Said → Type 0
-Means suit b (Suit u) = ((h s : List ℕ) → handFrom suit h (b ∷ s) ≡ handFrom (some u) h s) × (u < 4)
-Means suit b (Card c) =
-    ((h s : List ℕ) → handFrom suit h (b ∷ s) ≡ handFrom suit (set h c (getD h c 0 + 1)) s) × (Under 4 suit → c < 52)
-Means suit b Skip = ((h s : List ℕ) → handFrom suit h (b ∷ s) ≡ handFrom suit h s) × Unit
-
-meaning : (suit : Option ℕ) (b : ℕ) → Means suit b (saidOf suit b)
-unfolding saidOf handFrom
-meaning suit b = go (suitOf b) refl (suit-under b) (rankOf b) refl (rank-under b) suit
-  where
-    go : (o : Option ℕ) → suitOf b ≡ o → Under 4 o → (q : Option ℕ) → rankOf b ≡ q → Under 13 q → (v : Option ℕ)
-        → Means v b (saidBy o (cardOf v q))
-    go (some u) e k q f l v = (λ h s. rw e, k)
-    go none e k q f l none = (λ h s. rw e, tt)
-    go none e k none f l (some v) = (λ h s. rw (e, f), tt)
-    go none e k (some r) f l (some v) = (λ h s. rw (e, f), λ m. omega arith)
-
-suited-under : (suit : Lookup) → Suited suit → Under 4 (lookupOf suit)
-suited-under (Found n) h = h
-suited-under Nothing h = tt
+use Rattle.lin_spec.specs.Cards.{suitOf, rankOf, cardOf, noCards, withCard, sum, handFrom, readHand, remainder}
+use Rattle.lin_spec.proofs.Base.{and-left, and-right}
+use Rattle.lin_spec.proofs.Cards.{count-sum, set-sum, remainder-at, remainder-length}
+use Rattle.cards.specs.Letters.{suitIn, rankIn}
 
 -- The loop over a text: the rest of it makes of the hand so far what the whole text makes of none
 
--- what holds at each turn
-pub record HandInv (s h : List ℕ) (suit : Lookup) (i : ℕ) : Type 0 where
-  pub same : handFrom (lookupOf suit) h (drop i s) ≡ readHand s
+-- what holds at each turn, with the number of the suit
+pub record HandInv (s h : List ℕ) (suit i : ℕ) : Type 0 where
+  pub same : handFrom (suitIn suit) h (drop i s) ≡ readHand s
   pub few : sum h ≤ i
-  pub suited : Suited suit
 
 -- its start
-pub hand-start : (s : List ℕ) → HandInv s noCards Nothing 0
+pub hand-start : (s : List ℕ) → HandInv s noCards 4 0
 unfolding readHand sum
-hand-start s = record { same = refl; few = omega arith; suited = tt }
+hand-start s = record { same = refl; few = omega arith }
 
 -- its end
-pub hand-end : (s h : List ℕ) (suit : Lookup) (i : ℕ) → HandInv s h suit i → length s ≤ i → h ≡ readHand s
+pub hand-end : (s h : List ℕ) (suit i : ℕ) → HandInv s h suit i → length s ≤ i → h ≡ readHand s
 unfolding handFrom
-hand-end s h suit i v l = ap (handFrom (lookupOf suit) h) (sym (drop-of-length-le s l)) ∙ v .same
+hand-end s h suit i v l = ap (handFrom (suitIn suit) h) (sym (drop-of-length-le s l)) ∙ v .same
 
 -- no card is counted more often than bytes are passed
-pub count-few : (s h : List ℕ) (suit : Lookup) (i c : ℕ) → HandInv s h suit i → getD h c 0 ≤ i
+pub count-few : (s h : List ℕ) (suit i c : ℕ) → HandInv s h suit i → getD h c 0 ≤ i
 count-few s h suit i c v = omega (arith, count-sum h c, v .few)
 
--- one of its turns, with what the byte says
-pub record Turn (s h : List ℕ) (suit : Lookup) (i : ℕ) (r : Said) : Type 0 where
+-- one of its turns, with the number of the letter
+pub record Turn (s h : List ℕ) (suit i n : ℕ) : Type 0 where
   pub inv : HandInv s h suit i
   pub inside : i < length s
-  pub said : r ≡ saidOf (lookupOf suit) (getD s i 0)
+  pub number : (suitOf (getD s i 0) ≡ suitIn n) × (rankOf (getD s i 0) ≡ rankIn n)
 
-module _ {s h : List ℕ} {suit : Lookup} {i : ℕ} {r : Said} (v : Turn s h suit i r) where
-  means : (w : Said) → r ≡ w → Means (lookupOf suit) (getD s i 0) w
-  means w f = subst (Means (lookupOf suit) (getD s i 0)) (sym (v .said) ∙ f) (meaning (lookupOf suit) (getD s i 0))
+-- what another letter than a suit's adds to a hand
+added : (b : ℕ) (suit : Option ℕ) (h s : List ℕ) → suitOf b ≡ none → handFrom suit h (b ∷ s) ≡ handFrom suit (withCard (cardOf suit (rankOf b)) h) s
+unfolding handFrom
+added b suit h s e = rw e
 
-  here : handFrom (lookupOf suit) h (getD s i 0 ∷ drop (i + 1) s) ≡ readHand s
-  here = ap (handFrom (lookupOf suit) h) (rw add-one (sym (drop-cons s i 0 (v .inside)))) ∙ v .inv .same
+module _ {s h : List ℕ} {suit i n : ℕ} (v : Turn s h suit i n) where
+  here : handFrom (suitIn suit) h (getD s i 0 ∷ drop (i + 1) s) ≡ readHand s
+  here = ap (handFrom (suitIn suit) h) (rw add-one (sym (drop-cons s i 0 (v .inside)))) ∙ v .inv .same
 
   -- after a suit letter
-  pub hand-suit : (u : ℕ) → r ≡ Suit u → HandInv s h (Found u) (i + 1)
-  hand-suit u f =
-      let m = means (Suit u) f in
-      record { same = sym (m .0 h (drop (i + 1) s)) ∙ here; few = omega (arith, v .inv .few); suited = m .1 }
+  pub hand-suit : n < 4 → HandInv s h n (i + 1)
+  unfolding handFrom
+  hand-suit k =
+      let e : suitOf (getD s i 0) ≡ some n = v .number .0 ∙ simp (lt-ltb n 4 k) in
+      let f : suitIn n ≡ some n = simp (lt-ltb n 4 k) in
+      record { same = rw f (rw e at here); few = omega (arith, v .inv .few) }
 
-  -- after a byte that is skipped
-  pub hand-skip : r ≡ Skip → HandInv s h suit (i + 1)
-  hand-skip f =
-      let m = means Skip f in
-      record { same = sym (m .0 h (drop (i + 1) s)) ∙ here; few = omega (arith, v .inv .few); suited = v .inv .suited }
+  -- after another one
+  module _ (k : 4 ≤ n) where
+    no-suit : suitOf (getD s i 0) ≡ none
+    no-suit = v .number .0 ∙ simp (le-ltb n 4 k)
 
-  -- after a card
-  pub hand-card : (c : ℕ) → r ≡ Card c → HandInv s (set h c (getD h c 0 + 1)) suit (i + 1)
-  hand-card c f =
-      let m = means (Card c) f in
-      record {
-        same = sym (m .0 h (drop (i + 1) s)) ∙ here;
-        few = omega (arith, set-sum h c, v .inv .few);
-        suited = v .inv .suited;
-      }
+    left : (c : Option ℕ) → cardOf (suitIn suit) (rankIn n) ≡ c → handFrom (suitIn suit) (withCard c h) (drop (i + 1) s) ≡ readHand s
+    left c e =
+        ap (λ (x : Option ℕ). handFrom (suitIn suit) (withCard x h) (drop (i + 1) s)) (sym e ∙ ap (cardOf (suitIn suit)) (sym (v .number .1)))
+        ∙ sym (added (getD s i 0) (suitIn suit) h (drop (i + 1) s) no-suit) ∙ here
 
-  -- the card is in its range
-  pub card-small : (c : ℕ) → r ≡ Card c → c < 52
-  card-small c f = means (Card c) f .1 (suited-under suit (v .inv .suited))
+    -- after one that adds no card
+    pub hand-skip : (ltb suit 4 && ltb n 17) ≡ false → HandInv s h suit (i + 1)
+    hand-skip e = record { same = left none (go (ltb suit 4) (ltb n 17) e); few = omega (arith, v .inv .few) }
+      where
+        go : (t u : Bool) → (t && u) ≡ false → cardOf (pick t (some suit) none) (pick (leb 4 n && u) (some (n - 4)) none) ≡ none
+        go false u e = refl
+        go true true e = absurd (false≢true (sym e))
+        go true false e = simp and-false
+
+    -- after a card
+    pub hand-card : (ltb suit 4 && ltb n 17) ≡ true → HandInv s (set h (suit * 13 + (n - 4)) (getD h (suit * 13 + (n - 4)) 0 + 1)) suit (i + 1)
+    hand-card e =
+        let a = and-left (ltb suit 4) (ltb n 17) e in
+        let b = and-right (ltb suit 4) (ltb n 17) e in
+        record { same = left (some (suit * 13 + (n - 4))) (simp (a, b, le-leb 4 n k)); few = omega (arith, set-sum h (suit * 13 + (n - 4)), v .inv .few) }
 
 -- The counts of a hand
 

@@ -3,46 +3,48 @@
 use Prim.Native.Nat.{ℕ, _+_, _-_, _*_, _≤_, _<_}
 use native.Mathlib.Omega.{arith}
 use mathlib.Core.Path.{_≡_, refl, ap, sym, _∙_}
-use mathlib.Core.Bool.{true}
+use mathlib.Core.Bool.{Bool, true, false, _&&_, _||_, false≢true}
 use mathlib.Core.List.{List, [], _∷_}
 use mathlib.Core.Option.{Option, none, some}
 use lib.ListN.{length, getD}
-use lib.Dec.{eqb, leb}
+use lib.Dec.{eqb, leb, ltb}
 use borrow.Author.Tests.{leb-true}
-use Rattle.lin_spec.specs.Cards.{suitOf, rankOf, cardOf, readCard}
-use Rattle.lin_spec.proofs.Base.{allBelow, below, same-below}
-use Rattle.lin_spec.proofs.Cards.{Under}
-use Rattle.cards.specs.Letters.{lookupOf, orElse}
+use Rattle.lin_spec.specs.Base.{ascii}
+use Rattle.lin_spec.specs.White.{lower, trim}
+use Rattle.lin_spec.specs.Tokens.{pipe}
+use Rattle.lin_spec.specs.Cards.{indexOf, suitOf, rankOf, cardOf, readCard}
+use Rattle.lin_spec.proofs.Base.{and-left, and-right, allBelow, below}
+use Rattle.lin_spec.proofs.White.{Visible, trim-visible}
+use Rattle.cards.specs.Letters.{lookupOf, suitIn, rankIn, CardIs}
 use Rattle.cards.specs.declared.letters.Lookup.{Lookup}
 use Rattle.cards.specs.declared.letters.Lookup.the-variants.{Found, Nothing}
 
--- The number of a letter by a table of the bytes from `0` to `z`, with a for 0; k stands for none
+-- The number of a letter
 
-module _ (f : ℕ → Option ℕ) (k : ℕ) where
-  pub below-letters : allBelow (λ b. eqb k (orElse k (f b))) 0x30 ≡ true → (c : ℕ) → c < 0x30 → k ≡ orElse k (f c)
-  below-letters h c l = same-below (λ _. k) (λ b. orElse k (f b)) 0x30 h c l
+-- b is one of the bytes ks
+abbrev pub oneOf : (b : ℕ) → List ℕ → Bool
+oneOf b [] = false
+oneOf b (k ∷ ks) = eqb b k || oneOf b ks
 
-  pub above-letters : allBelow (λ i. eqb k (orElse k (f (0x7B + i)))) 0x85 ≡ true → (c : ℕ) → 0x7A < c → c < 0x100 → k ≡ orElse k (f c)
-  above-letters h c l m =
-      let e : 0x7B + (c - 0x7B) ≡ c = omega arith in
-      same-below (λ _. k) (λ i. orElse k (f (0x7B + i))) 0x85 h (c - 0x7B) (omega arith) ∙ ap (λ (x : ℕ). orElse k (f x)) e
+abbrev isNone : Option ℕ → Bool
+isNone none = true
+isNone (some n) = false
 
-  pub by-table : (t : List ℕ) → allBelow (λ i. eqb (getD t i 0 - 0x61) (orElse k (f (0x30 + i)))) 0x4B ≡ true → (c : ℕ) → 0x30 ≤ c → c ≤ 0x7A
-      → getD t (c - 0x30) 0 - 0x61 ≡ orElse k (f c)
-  by-table t h c l m =
-      let e : 0x30 + (c - 0x30) ≡ c = omega arith in
-      same-below (λ i. getD t i 0 - 0x61) (λ i. orElse k (f (0x30 + i))) 0x4B h (c - 0x30) (omega arith) ∙ ap (λ (x : ℕ). orElse k (f x)) e
+none-is : (o : Option ℕ) → isNone o ≡ true → o ≡ none
+none-is none h = refl
+none-is (some n) h = absurd (false≢true h)
 
-pub table-least : (t : List ℕ) → allBelow (λ i. leb 0x61 (getD t i 0)) 0x4B ≡ true → (i : ℕ) → i < 0x4B → 0x61 ≤ getD t i 0
-table-least t h i l = leb-true 0x61 (getD t i 0) (below (λ j. leb 0x61 (getD t j 0)) 0x4B h i l)
-
-pub number-found : (k : ℕ) (o : Option ℕ) (n : ℕ) → n ≡ orElse k o → n < k → some n ≡ o
-number-found k none n e h = absurd (omega arith)
-number-found k (some m) n e h = ap some e
-
-pub number-none : (k : ℕ) (o : Option ℕ) (n : ℕ) → n ≡ orElse k o → k ≤ n → Under k o → none ≡ o
-number-none k none n e h u = refl
-number-none k (some m) n e h u = absurd (omega arith)
+-- what is none of the letters has neither suit nor rank
+pub letter-none : (b : ℕ) → b < 0x100 → oneOf b (ascii "ShHdDcCs23456789TtJjQqKkAa") ≡ false → (suitOf b ≡ none) × (rankOf b ≡ none)
+unfolding allBelow suitOf rankOf indexOf lower
+letter-none b h e = go (oneOf b (ascii "ShHdDcCs23456789TtJjQqKkAa")) e (isNone (suitOf b)) refl (isNone (rankOf b)) refl
+    (below (λ (c : ℕ). oneOf c (ascii "ShHdDcCs23456789TtJjQqKkAa") || (isNone (suitOf c) && isNone (rankOf c))) 0x100 refl b h)
+  where
+    go : (t : Bool) → t ≡ false → (u : Bool) → isNone (suitOf b) ≡ u → (r : Bool) → isNone (rankOf b) ≡ r → (t || (u && r)) ≡ true → (suitOf b ≡ none) × (rankOf b ≡ none)
+    go true e u f r g k = absurd (false≢true (sym e))
+    go false e true f true g k = (none-is (suitOf b) f, none-is (rankOf b) g)
+    go false e true f false g k = absurd (false≢true k)
+    go false e false f r g k = absurd (false≢true k)
 
 -- What a lookup's answer says
 
@@ -84,3 +86,33 @@ module _ (s : List ℕ) (h : length s ≡ 2) where
     -- a suit and a rank
     pub card-is : (r : ℕ) → rankOf (getD s 1 0) ≡ some r → some (u * 13 + r) ≡ readCard s
     card-is r e = sym (two s h ∙ rw (eu, e))
+
+-- A card by its two bytes
+
+card-text : (a b u r : ℕ) → suitOf a ≡ some u → rankOf b ≡ some r → readCard (a ∷ b ∷ []) ≡ some (u * 13 + r)
+unfolding readCard
+card-text a b u r e f = rw (e, f)
+
+some-not : (o : Option ℕ) (n : ℕ) → o ≡ some n → isNone o ≡ false
+some-not o n e = rw e
+
+-- what has a suit, or a rank, is visible, by a test of each byte
+seen : (f : ℕ → Option ℕ) → allBelow (λ (b : ℕ). isNone (f b) || (leb 33 b && leb b 122)) 0x100 ≡ true → (b n : ℕ) → b < 0x100 → f b ≡ some n → Visible b
+seen f h b n l e =
+    let t : (isNone (f b) || (leb 33 b && leb b 122)) ≡ true = below (λ (c : ℕ). isNone (f c) || (leb 33 c && leb c 122)) 0x100 h b l in
+    let u : (leb 33 b && leb b 122) ≡ true = (rw (some-not (f b) n e) at t) in
+    (leb-true 33 b (and-left (leb 33 b) (leb b 122) u), leb-true b 122 (and-right (leb 33 b) (leb b 122) u))
+
+pub card-two : (a b u r : ℕ) → a < 0x100 → b < 0x100 → (suitOf a ≡ suitIn u) × (rankOf a ≡ rankIn u) → (suitOf b ≡ suitIn r) × (rankOf b ≡ rankIn r)
+    → (ltb u 4 && (leb 4 r && ltb r 17)) ≡ true → CardIs a b (u * 13 + (r - 4))
+unfolding allBelow suitOf rankOf indexOf lower
+card-two a b u r la lb ea eb h =
+    let x : suitOf a ≡ some u = ea .0 ∙ simp (and-left (ltb u 4) (leb 4 r && ltb r 17) h) in
+    let y : rankOf b ≡ some (r - 4) = eb .1 ∙ simp (and-right (ltb u 4) (leb 4 r && ltb r 17) h) in
+    let v = seen suitOf refl a u la x in
+    let w = seen rankOf refl b (r - 4) lb y in
+    record {
+      card = ap readCard (trim-visible (a ∷ b ∷ []) (v, (w, tt))) ∙ card-text a b u (r - 4) x y;
+      first = λ e. omega (arith, v .1);
+      second = λ e. omega (arith, w .1);
+    }

@@ -1,6 +1,14 @@
 -- What the enums of letters and cards stand for. (01: Records)
-use Prim.Native.Nat.{ℕ}
+use Prim.Native.Nat.{ℕ, _-_}
+use mathlib.Core.Bool.{_&&_}
+use mathlib.Core.Path.{_≡_}
+use mathlib.Core.List.{[], _∷_}
 use mathlib.Core.Option.{Option, none, some}
+use lib.Dec.{leb, ltb}
+use Rattle.lin_spec.specs.Base.{pick}
+use Rattle.lin_spec.specs.White.{trim}
+use Rattle.lin_spec.specs.Tokens.{pipe}
+use Rattle.lin_spec.specs.Cards.{readCard}
 use Rattle.cards.specs.declared.letters.Lookup.{Lookup}
 use Rattle.cards.specs.declared.letters.Lookup.the-variants.{Found, Nothing}
 use Rattle.cards.specs.declared.letters.MaybeCard.{MaybeCard}
@@ -16,7 +24,15 @@ abbrev pub maybeOf : MaybeCard → Option ℕ
 maybeOf (Card c) = some c
 maybeOf NoCard = none
 
--- the number, or the one that stands for none
-abbrev pub orElse : (other : ℕ) → Option ℕ → ℕ
-orElse k none = k
-orElse k (some n) = n
+-- the suit and the rank that a letter's number stands for
+abbrev pub suitIn : ℕ → Option ℕ
+suitIn n = pick (ltb n 4) (some n) none
+
+abbrev pub rankIn : ℕ → Option ℕ
+rankIn n = pick (leb 4 n && ltb n 17) (some (n - 4)) none
+
+-- two bytes that are the card r, in any text; neither is a pipe
+pub record CardIs (a b r : ℕ) : Type 0 where
+  pub card : readCard (trim (a ∷ b ∷ [])) ≡ some r
+  pub first : a ≡ pipe → ⊥
+  pub second : b ≡ pipe → ⊥

@@ -1,7 +1,5 @@
 // Hands: 52 counts, from a text and from three other hands, and their length. (01: Records; Board, md)
-use crate::letters::Lookup;
-use crate::letters::rank_of;
-use crate::letters::suit_of;
+use crate::letters::letter;
 use lin_spec::Deal;
 use lin_spec::Seat;
 ghost use mathlib.Core.Path.{_≡_};
@@ -12,60 +10,31 @@ ghost use lib.Dec.{eqb};
 ghost use Rattle.lin_spec.specs.Base.{pick};
 ghost use Rattle.lin_spec.specs.Cards.{sum, readHand, remainder};
 ghost use Rattle.lin_spec.specs.Letters.{handLength};
-ghost use Rattle.cards.specs.Letters.{lookupOf};
-ghost use Rattle.cards.specs.Hands.{Suited, saidOf};
 
 // How often a hand holds each card.
 pub(crate) struct Hand {
     pub(crate) counts: [u32; 52],
 }
 
-// What a byte says in the text of a hand.
-enum Said {
-    Suit(u8),
-    Card(u8),
-    Skip,
-}
-
-// What a byte says, with the suit of the last suit letter before it.
-fn said_of(suit: Lookup, b: u8) -> Said
-    requires { ⌜ Suited suit ⌝ }
-    ensures { λ r. ⌜ r ≡ saidOf (lookupOf suit) b ⌝ }
-{
-    if let Lookup::Found(u) = suit_of(b) {
-        return Said::Suit(u);
-    }
-    let Lookup::Found(v) = suit else {
-        return Said::Skip;
-    };
-    let Lookup::Found(r) = rank_of(b) else {
-        return Said::Skip;
-    };
-    Said::Card(v * 13 + r)
-}
-
-// The hand of a text.
+// The hand of a text. The suit is that of the last suit letter, 4 before the first.
 pub(crate) fn read_hand(s: &[u8]) -> Hand
     requires { ⌜ length (now s) < 2 ^ 32 ⌝ }
     ensures { λ r. ⌜ r .counts ≡ readHand (now (s .entry)) ⌝ }
 {
     let mut hand = Hand { counts: [0; 52] };
-    let mut suit = Lookup::Nothing;
+    let mut suit: u8 = 4;
     let mut i = 0;
     while i < s.len() {
-        match said_of(suit, s[i]) {
-            Said::Suit(u) => {
-                suit = Lookup::Found(u);
-                i += 1;
-            }
-            Said::Card(c) => {
-                let at = c as usize;
-                hand.counts[at] = hand.counts[at] + 1;
-                i += 1;
-            }
-            Said::Skip => {
-                i += 1;
-            }
+        let n = letter(s[i]);
+        if n < 4 {
+            suit = n;
+            i += 1;
+        } else if (suit < 4) & (n < 17) {
+            let at = (suit * 13 + (n - 4)) as usize;
+            hand.counts[at] = hand.counts[at] + 1;
+            i += 1;
+        } else {
+            i += 1;
         }
     }
     hand

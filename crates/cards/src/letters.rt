@@ -1,7 +1,8 @@
 // The letters of suits and ranks, and the text of one card. (01: Records; Board, pc)
 ghost use mathlib.Core.Path.{_≡_};
+ghost use Prim.Native.Nat.{_<_};
 ghost use Rattle.lin_spec.specs.Cards.{suitOf, rankOf, readCard};
-ghost use Rattle.cards.specs.Letters.{lookupOf, maybeOf, orElse};
+ghost use Rattle.cards.specs.Letters.{lookupOf, maybeOf, suitIn, rankIn, CardIs};
 
 // The number of the suit or rank that a letter stands for, if it stands for one.
 pub enum Lookup {
@@ -9,48 +10,39 @@ pub enum Lookup {
     Nothing,
 }
 
-// The suit of each byte from `0` to `z`, a to d for S, H, D, C, in either case; e for none. A table, since cards come in any order: a branch for each
-// letter would be foretold wrongly.
-const SUITS: [u8; 75] =
-    *b"eeeeeeeeeeeeeeeeeeedceeebeeeeeeeeeeaeeeeeeeeeeeeeeedceeebeeeeeeeeeeaeeeeeee";
-
-// The rank of each of them, a to m for 2 to 9, T, J, Q, K, A, in either case; n for none.
-const RANKS: [u8; 75] =
-    *b"nnabcdefghnnnnnnnmnnnnnnnnjlnnnnnknninnnnnnnnnnnnmnnnnnnnnjlnnnnnknninnnnnn";
-
-// The suit of a byte, 4 where it has none.
-fn suit_number(c: u8) -> u8
-    ensures { λ r. ⌜ r ≡ orElse 4 (suitOf c) ⌝ }
+// The number of a letter, in either case: 0 to 3 for the suits S, H, D, C, 4 to 16 for the ranks 2 to 9, T, J, Q, K, A, and from 17 on for none. The
+// compiler makes one table of it, since the letters lie dense enough; B is there for that alone.
+pub fn letter(c: u8) -> u8
+    ensures { λ r. ⌜ (suitOf c ≡ suitIn r) × (rankOf c ≡ rankIn r) ⌝ }
 {
-    if c < b'0' {
-        return 4;
+    match c {
+        b's' | b'S' => 0,
+        b'h' | b'H' => 1,
+        b'd' | b'D' => 2,
+        b'c' | b'C' => 3,
+        b'2' => 4,
+        b'3' => 5,
+        b'4' => 6,
+        b'5' => 7,
+        b'6' => 8,
+        b'7' => 9,
+        b'8' => 10,
+        b'9' => 11,
+        b't' | b'T' => 12,
+        b'j' | b'J' => 13,
+        b'q' | b'Q' => 14,
+        b'k' | b'K' => 15,
+        b'a' | b'A' => 16,
+        b'b' | b'B' => 18,
+        _ => 17,
     }
-    if b'z' < c {
-        return 4;
-    }
-    let at = (c - b'0') as usize;
-    SUITS[at] - b'a'
-}
-
-// The rank of a byte, 13 where it has none.
-fn rank_number(c: u8) -> u8
-    ensures { λ r. ⌜ r ≡ orElse 13 (rankOf c) ⌝ }
-{
-    if c < b'0' {
-        return 13;
-    }
-    if b'z' < c {
-        return 13;
-    }
-    let at = (c - b'0') as usize;
-    RANKS[at] - b'a'
 }
 
 // The suit that a letter stands for: S, H, D, C are 0 to 3.
 pub fn suit_of(c: u8) -> Lookup
     ensures { λ r. ⌜ lookupOf r ≡ suitOf c ⌝ }
 {
-    let n = suit_number(c);
+    let n = letter(c);
     if n < 4 {
         return Lookup::Found(n);
     }
@@ -61,9 +53,12 @@ pub fn suit_of(c: u8) -> Lookup
 pub fn rank_of(c: u8) -> Lookup
     ensures { λ r. ⌜ lookupOf r ≡ rankOf c ⌝ }
 {
-    let n = rank_number(c);
-    if n < 13 {
-        return Lookup::Found(n);
+    let n = letter(c);
+    if n < 4 {
+        return Lookup::Nothing;
+    }
+    if n < 17 {
+        return Lookup::Found(n - 4);
     }
     Lookup::Nothing
 }
@@ -88,4 +83,16 @@ pub fn read_card(s: &[u8]) -> MaybeCard
         return MaybeCard::Nothing;
     };
     MaybeCard::Card(u * 13 + r)
+}
+
+// The card of two bytes, a suit and a rank; 52 where they are none.
+pub fn card_number(a: u8, b: u8) -> u8
+    ensures { λ r. ⌜ (r < 52 → CardIs a b r) ⌝ }
+{
+    let u = letter(a);
+    let r = letter(b);
+    if (u < 4) & ((4 <= r) & (r < 17)) {
+        return u * 13 + (r - 4);
+    }
+    52
 }

@@ -1,3 +1,4 @@
 pub mod CommandLaws
 pub mod StepLaws
+pub mod PlainLaws
 pub mod FieldLaws

@@ -139,6 +139,14 @@ fn after_lf(text: &[u8], at: usize, p: usize) -> usize
     at
 }
 
+// The number of a command of any length that stands from `at` up to p.
+fn word_at(text: &[u8], at: usize, p: usize) -> u8
+    requires { ⌜ (at ≤ p) × (p ≤ length (now text)) ⌝ }
+    ensures { λ r. ⌜ r ≡ commandOf (part (now (text .entry)) at (p - at)) ⌝ }
+{
+    word_of(trim(&text[at..p]))
+}
+
 // The number of the command that stands from `at` up to p, 10 where it is none of them. Nearly all are two bytes, perhaps after an LF.
 pub fn command_at(text: &[u8], at: usize, p: usize) -> u8
     requires { ⌜ (at ≤ p) × (p ≤ length (now text)) ⌝ }
@@ -148,7 +156,7 @@ pub fn command_at(text: &[u8], at: usize, p: usize) -> u8
     if p - a == 2 {
         return pair_of(text[a], text[a + 1]);
     }
-    word_of(trim(&text[a..p]))
+    word_at(text, a, p)
 }
 
 // Tests for a command of two bytes that ends in c, g or b, as most do. Promised is what a part of a file needs: where it says true, the command is none of qx, md, mn and pn.

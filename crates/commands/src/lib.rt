@@ -1,6 +1,7 @@
 // The commands that a board knows: one token at a time with its command's number, and what each command gives to a heading. (01: Tokens, Board)
 mod commands;
 mod fields;
+mod plain;
 mod steps;
 
 pub use commands::AH;
@@ -23,6 +24,10 @@ pub use fields::on_names;
 pub use fields::on_present;
 pub use fields::on_sv;
 pub use fields::on_value;
+pub use plain::after_line;
+pub use plain::command_end;
+pub use plain::passed_len;
+pub use plain::plain_card;
 pub use steps::Commanded;
 pub use steps::Known;
 pub use steps::next_command;

@@ -1,5 +1,6 @@
 // One token at a time, with its command's number. (01: Tokens, Board)
 use crate::commands::command_at;
+use crate::plain::command_end;
 use document::Cursor;
 use document::Part;
 use document::next_pipe;
@@ -25,7 +26,7 @@ pub fn next_command(text: &[u8], cursor: Cursor) -> Commanded
     ensures { λ r. ⌜ Commands (now (text .entry)) (cursor .at) r ⌝ }
 {
     let at = cursor.at;
-    let p = next_pipe(text, at);
+    let p = command_end(text, at);
     if text.len() <= p {
         return Commanded::Ended;
     }

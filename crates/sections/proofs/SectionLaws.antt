@@ -144,6 +144,10 @@ module _ (s : List ℕ) (begin back at : ℕ) (board : Bool) (w : Walks s begin 
     pub marks-on : (eqb r 5 && ltb begin back) ≡ false → (b : ℕ) → b ≡ pick (eqb r 6 || eqb r 4) back n → Walks s begin b n (board || eqb r 3)
     marks-on h b e = rw (m .md) (walks-on (rw (m .qx) at h) b (rw (m .mn, m .pn) at e))
 
+  -- it is no mark
+  pub passes-on : Marks k 10 → Walks s begin n n board
+  passes-on m = subst (Walks s begin n n) (or-false board) (marks-on 10 m refl n refl)
+
 -- A line
 
 module _ (s : List ℕ) (at e : ℕ) (h : at ≤ length s) (f : e ≡ findFrom 0x0A s at) where

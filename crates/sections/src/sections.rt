@@ -4,8 +4,11 @@ use commands::MD;
 use commands::MN;
 use commands::PN;
 use commands::QX;
+use commands::after_line;
+use commands::command_end;
 use commands::mark_at;
 use commands::next_command;
+use commands::passed_len;
 use document::Cursor;
 use document::Opened;
 use document::next_pipe;
@@ -88,27 +91,34 @@ fn part_from(text: &[u8], at: usize) -> Section
     let mut board = false;
     let mut c = at;
     loop {
-        let p = next_pipe(text, c);
-        let v = p + 1;
-        let q = next_pipe(text, v);
-        if text.len() <= q {
-            return Section {
-                start: at,
-                stop: c,
-                board,
-            };
+        let a = after_line(text, c);
+        let n = passed_len(text, a);
+        if 0 < n {
+            c = a + n;
+            back = c;
+        } else {
+            let p = command_end(text, c);
+            let v = p + 1;
+            let q = next_pipe(text, v);
+            if text.len() <= q {
+                return Section {
+                    start: at,
+                    stop: c,
+                    board,
+                };
+            }
+            let k = mark_at(text, c, p);
+            if (k == QX) & (at < back) {
+                return Section {
+                    start: at,
+                    stop: back,
+                    board,
+                };
+            }
+            c = q + 1;
+            back = moved_back(k, back, c);
+            board = board | (k == MD);
         }
-        let k = mark_at(text, c, p);
-        if (k == QX) & (at < back) {
-            return Section {
-                start: at,
-                stop: back,
-                board,
-            };
-        }
-        c = q + 1;
-        back = moved_back(k, back, c);
-        board = board | (k == MD);
     }
 }
 

@@ -1,11 +1,13 @@
 -- `board::read_into` meets its contract: a turn takes one token off those that are still to be read, and stores what it gives.
 -- Assumes nothing.
 use Rattle.board_steps.proofs.HeadLaws.{stepped-none}
-use Rattle.board_steps.proofs.StoringLaws.{Into, into-begin, into-end, rows-long, cards-long, card-room, into-card, into-step, call-room, into-call, note-at, note-room, into-note, into-bare}
-use Rattle.commands.proofs.StepLaws.{pipes-none, pipes-first, pipes-command, pipes-value, pipes-token}
-use Rattle.commands.proofs.FieldLaws.{find-most}
+use Rattle.board_steps.proofs.StoringLaws.{Into, into-begin, into-end, rows-long, cards-long, one-room, one-put, card-room, into-card, into-step, call-room, into-call, note-at, note-room, into-note, into-bare}
+use Rattle.commands.proofs.StepLaws.{known}
+use Rattle.commands.proofs.PlainLaws.{card-token, card-value}
 use lib.ListN.{length}
+use mathlib.Core.Path.{refl}
 use native.Mathlib.Omega.{arith}
+use borrow.Author.Needs.{needs}
 use Prim.Native.Nat.{_-_}
 use Rattle.board_steps.proofs.storing.read_into.Statement.{statement}
 use Rattle.board_steps.proofs.storing.read_into.Tie as tie
@@ -16,133 +18,104 @@ Inv-loop text at rows₀ cards₀ h₀ n₀ c₀ rows cards h n c = Into text at
 abbrev μ-loop : tie.MeasureT-loop
 μ-loop text at rows₀ cards₀ h₀ n₀ c₀ rows cards h n c = length text - c
 
--- src/storing.rt:67:9
 fresh-head-requires : tie.Need-fresh-head-requires Inv-loop μ-loop
 fresh-head-requires c κs = tt
 
--- src/storing.rt:70:5
 loop-holds : tie.Need-loop-holds Inv-loop μ-loop
 loop-holds c = rw (c .fresh-head .ensures) (into-begin _ _ _ _ (c .before .before .before .before .pre))
 
--- src/storing.rt:71:13
-next-pipe-requires : tie.Need-next-pipe-requires Inv-loop μ-loop
-next-pipe-requires c κs = tt
+after-line-requires : tie.Need-after-line-requires Inv-loop μ-loop
+after-line-requires c κs = tt
 
--- src/storing.rt:72:17
-add-v : tie.Need-add-v Inv-loop μ-loop
-add-v c = omega (arith, find-most _ _ _ _ (c .next-pipe .ensures))
+plain-card-requires : tie.Need-plain-card-requires Inv-loop μ-loop
+plain-card-requires c κs = tt
 
--- src/storing.rt:73:13
-next-pipe-requires-2 : tie.Need-next-pipe-requires-2 Inv-loop μ-loop
-next-pipe-requires-2 c κs = tt
+put-byte-requires : tie.Need-put-byte-requires Inv-loop μ-loop
+put-byte-requires c κs = one-room _ _ _ _ _ (card-value _ _ _ _ (c .before .before .before .after-line .ensures) (c .before .before .plain-card .ensures (c .before .if1 .taken))) (card-room _ _ _ _ (c .before .before .before .before .before .before .before .before .before .pre) _ _ _ _ _ (c .before .before .before .before .loop .inv) _ _ _ (card-token _ _ _ _ (c .before .before .before .after-line .ensures) (c .before .before .plain-card .ensures (c .before .if1 .taken))) refl)
 
--- src/storing.rt:75:13
-same-length : tie.Need-same-length Inv-loop μ-loop
-same-length c = rows-long _ _ _ _ (c .before .before .before .before .before .before .before .before .pre) _ _ _ _ _ (c .before .before .before .loop .inv)
-
--- src/storing.rt:75:13
-same-length-2 : tie.Need-same-length-2 Inv-loop μ-loop
-same-length-2 c = cards-long _ _ _ _ (c .before .before .before .before .before .before .before .before .pre) _ _ _ _ _ (c .before .before .before .loop .inv)
-
--- src/storing.rt:75:13
-returns : tie.Need-returns Inv-loop μ-loop
-returns c = into-end _ _ _ _ (c .before .before .before .before .before .before .before .before .pre) _ _ _ _ _ (c .before .before .before .loop .inv) (pipes-none _ _ _ _ (c .before .before .next-pipe .ensures) (c .before .next-pipe2 .ensures) (c .if1 .taken))
-
--- src/storing.rt:77:13
-command-at-requires : tie.Need-command-at-requires Inv-loop μ-loop
-command-at-requires c κs = pipes-command _ _ _ _ (c .before .before .next-pipe .ensures) (c .before .next-pipe2 .ensures) (c .if1 .left)
-
--- src/storing.rt:79:20
-cast-t16 : tie.Need-cast-t16 Inv-loop μ-loop
-cast-t16 c = omega (arith, pipes-first _ _ _ _ (c .before .before .before .next-pipe .ensures) (c .before .before .next-pipe2 .ensures) (c .before .if1 .left), (c .before .before .before .before .before .before .before .before .before .pre .short))
-
--- src/storing.rt:80:19
-sub-t14 : tie.Need-sub-t14 Inv-loop μ-loop
-sub-t14 c = pipes-value _ _ _ _ (c .before .before .before .next-pipe .ensures) (c .before .before .next-pipe2 .ensures) (c .before .if1 .left)
-
--- src/storing.rt:80:18
-cast-t17 : tie.Need-cast-t17 Inv-loop μ-loop
-cast-t17 c = omega (arith, (c .before .if1 .left), (c .before .before .before .before .before .before .before .before .before .pre .short))
-
--- src/storing.rt:82:13
 add-c : tie.Need-add-c Inv-loop μ-loop
-add-c c = omega (arith, (c .before .if1 .left))
+add-c c = omega (arith, (c .before .before .before .before .before .plain-card .ensures (c .before .before .before .before .if1 .taken)) .short .within, c .before .before .before .before .before .before .before .before .before .before .before .before .pre .short)
 
--- src/storing.rt:84:13
-put-card-requires : tie.Need-put-card-requires Inv-loop μ-loop
-put-card-requires c κs = card-room _ _ _ _ (c .before .before .before .before .before .before .before .before .before .before .before .pre) _ _ _ _ _ (c .before .before .before .before .before .before .loop .inv) _ _ _ (pipes-token _ _ _ _ (c .before .before .before .before .before .next-pipe .ensures) (c .before .before .before .before .next-pipe2 .ensures) (c .before .before .before .if1 .left) _ (c .before .before .command-at .ensures)) (c .before .if2 .taken)
-
--- src/storing.rt:70:5
 loop-less : tie.Need-loop-less Inv-loop μ-loop
-loop-less c = let t = (pipes-token _ _ _ _ (c .before .before .before .before .before .before .before .before .next-pipe .ensures) (c .before .before .before .before .before .before .before .next-pipe2 .ensures) (c .before .before .before .before .before .before .if1 .left) _ (c .before .before .before .before .before .command-at .ensures)) in omega (arith, t .later, t .within)
+loop-less c = let t = (card-token _ _ _ _ (c .before .before .before .before .before .before .after-line .ensures) (c .before .before .before .before .before .plain-card .ensures (c .before .before .before .before .if1 .taken))) in omega (arith, t .later, t .within)
 
--- src/storing.rt:70:5
 loop-again : tie.Need-loop-again Inv-loop μ-loop
-loop-again c = into-card _ _ _ _ (c .before .before .before .before .before .before .before .before .before .before .before .before .before .before .pre) _ _ _ _ _ (c .before .before .before .before .before .before .before .before .before .loop .inv) _ _ _ (pipes-token _ _ _ _ (c .before .before .before .before .before .before .before .before .next-pipe .ensures) (c .before .before .before .before .before .before .before .next-pipe2 .ensures) (c .before .before .before .before .before .before .if1 .left) _ (c .before .before .before .before .before .command-at .ensures)) (c .before .before .before .before .if2 .taken) _ _ (c .before .before .put-card .ensures)
+loop-again c = into-card _ _ _ _ (c .before .before .before .before .before .before .before .before .before .before .before .before .pre) _ _ _ _ _ (c .before .before .before .before .before .before .before .loop .inv) _ _ _ (card-token _ _ _ _ (c .before .before .before .before .before .before .after-line .ensures) (c .before .before .before .before .before .plain-card .ensures (c .before .before .before .before .if1 .taken))) refl _ _ (one-put _ _ _ _ _ (card-value _ _ _ _ (c .before .before .before .before .before .before .after-line .ensures) (c .before .before .before .before .before .plain-card .ensures (c .before .before .before .before .if1 .taken))) _ _ (c .before .before .put-byte .ensures))
 
--- src/storing.rt:70:5
+next-known-requires : tie.Need-next-known-requires Inv-loop μ-loop
+next-known-requires c κs = c .before .before .before .before .before .before .before .before .pre .short
+
+enum-known-k : tie.Need-enum-known-k Inv-loop μ-loop
+enum-known-k c = search needs
+
+enum-told : tie.Need-enum-told Inv-loop μ-loop
+enum-told c = search needs
+
+same-length : tie.Need-same-length Inv-loop μ-loop
+same-length c = rows-long _ _ _ _ (c .before .before .before .before .before .before .before .before .before .before .before .pre) _ _ _ _ _ (c .before .before .before .before .before .before .loop .inv)
+
+same-length-2 : tie.Need-same-length-2 Inv-loop μ-loop
+same-length-2 c = cards-long _ _ _ _ (c .before .before .before .before .before .before .before .before .before .before .before .pre) _ _ _ _ _ (c .before .before .before .before .before .before .loop .inv)
+
+returns : tie.Need-returns Inv-loop μ-loop
+returns c = into-end _ _ _ _ (c .before .before .before .before .before .before .before .before .before .before .before .pre) _ _ _ _ _ (c .before .before .before .before .before .before .loop .inv) (known _ _ _ _ (c .before .before .next-known .ensures) (c .enum-told .given .1))
+
+put-card-requires : tie.Need-put-card-requires Inv-loop μ-loop
+put-card-requires c κs = card-room _ _ _ _ (c .before .before .before .before .before .before .before .before .before .before .before .before .before .before .pre) _ _ _ _ _ (c .before .before .before .before .before .before .before .before .before .loop .inv) _ _ _ (known _ _ _ _ (c .before .before .before .before .before .next-known .ensures) (c .before .before .before .k .given .1)) (c .before .if2 .taken)
+
 loop-less-2 : tie.Need-loop-less-2 Inv-loop μ-loop
-loop-less-2 c = let t = (pipes-token _ _ _ _ (c .before .before .before .before .before .next-pipe .ensures) (c .before .before .before .before .next-pipe2 .ensures) (c .before .before .before .if1 .left) _ (c .before .before .command-at .ensures)) in omega (arith, t .later, t .within)
+loop-less-2 c = let t = (known _ _ _ _ (c .before .before .before .before .before .before .before .before .next-known .ensures) (c .before .before .before .before .before .before .k .given .1)) in omega (arith, t .later, t .within)
 
--- src/storing.rt:70:5
 loop-again-2 : tie.Need-loop-again-2 Inv-loop μ-loop
-loop-again-2 c = into-step _ _ _ _ (c .before .before .before .before .before .before .before .before .before .before .before .pre) _ _ _ _ _ (c .before .before .before .before .before .before .loop .inv) _ _ _ (pipes-token _ _ _ _ (c .before .before .before .before .before .next-pipe .ensures) (c .before .before .before .before .next-pipe2 .ensures) (c .before .before .before .if1 .left) _ (c .before .before .command-at .ensures)) (c .before .if2 .left) (λ e. omega (arith, (c .if3 .taken))) (λ e. omega (arith, (c .if3 .taken))) _ (stepped-none _ _ _ _ (c .if3 .taken))
+loop-again-2 c = into-card _ _ _ _ (c .before .before .before .before .before .before .before .before .before .before .before .before .before .before .before .before .before .pre) _ _ _ _ _ (c .before .before .before .before .before .before .before .before .before .before .before .before .loop .inv) _ _ _ (known _ _ _ _ (c .before .before .before .before .before .before .before .before .next-known .ensures) (c .before .before .before .before .before .before .k .given .1)) (c .before .before .before .before .if2 .taken) _ _ (c .before .before .put-card .ensures)
 
--- src/storing.rt:87:17
-call-of-requires : tie.Need-call-of-requires Inv-loop μ-loop
-call-of-requires c κs = (pipes-token _ _ _ _ (c .before .before .before .before .before .before .next-pipe .ensures) (c .before .before .before .before .before .next-pipe2 .ensures) (c .before .before .before .before .if1 .left) _ (c .before .before .before .command-at .ensures)) .value
-
--- src/storing.rt:88:13
-put-call-requires : tie.Need-put-call-requires Inv-loop μ-loop
-put-call-requires c κs = call-room _ _ _ _ (c .before .before .before .before .before .before .before .before .before .before .before .before .before .before .pre) _ _ _ _ _ (c .before .before .before .before .before .before .before .before .before .loop .inv) _ _ _ (pipes-token _ _ _ _ (c .before .before .before .before .before .before .before .before .next-pipe .ensures) (c .before .before .before .before .before .before .before .next-pipe2 .ensures) (c .before .before .before .before .before .before .if1 .left) _ (c .before .before .before .before .before .command-at .ensures)) (c .before .before .if4 .taken) _ (c .before .call-of .ensures)
-
--- src/storing.rt:89:13
-on-count-requires : tie.Need-on-count-requires Inv-loop μ-loop
-on-count-requires c κs = let i = (c .before .before .before .before .before .before .before .before .before .before .before .before .loop .inv .reads) in omega (arith, i .calls, i .within, (c .before .before .before .before .before .before .before .before .before .before .before .before .before .before .before .before .before .pre .short))
-
--- src/storing.rt:70:5
 loop-less-3 : tie.Need-loop-less-3 Inv-loop μ-loop
-loop-less-3 c = let t = (pipes-token _ _ _ _ (c .before .before .before .before .before .before .before .before .before .before .before .before .next-pipe .ensures) (c .before .before .before .before .before .before .before .before .before .before .before .next-pipe2 .ensures) (c .before .before .before .before .before .before .before .before .before .before .if1 .left) _ (c .before .before .before .before .before .before .before .before .before .command-at .ensures)) in omega (arith, t .later, t .within)
+loop-less-3 c = let t = (known _ _ _ _ (c .before .before .before .before .before .next-known .ensures) (c .before .before .before .k .given .1)) in omega (arith, t .later, t .within)
 
--- src/storing.rt:70:5
 loop-again-3 : tie.Need-loop-again-3 Inv-loop μ-loop
-loop-again-3 c = into-call _ _ _ _ (c .before .before .before .before .before .before .before .before .before .before .before .before .before .before .before .before .before .before .pre) _ _ _ _ _ (c .before .before .before .before .before .before .before .before .before .before .before .before .before .loop .inv) _ _ _ (pipes-token _ _ _ _ (c .before .before .before .before .before .before .before .before .before .before .before .before .next-pipe .ensures) (c .before .before .before .before .before .before .before .before .before .before .before .next-pipe2 .ensures) (c .before .before .before .before .before .before .before .before .before .before .if1 .left) _ (c .before .before .before .before .before .before .before .before .before .command-at .ensures)) (c .before .before .before .before .before .before .if4 .taken) _ (c .before .before .before .before .before .call-of .ensures) _ _ (c .before .before .before .put-call .ensures) _ (c .on-count .ensures)
+loop-again-3 c = into-step _ _ _ _ (c .before .before .before .before .before .before .before .before .before .before .before .before .before .before .pre) _ _ _ _ _ (c .before .before .before .before .before .before .before .before .before .loop .inv) _ _ _ (known _ _ _ _ (c .before .before .before .before .before .next-known .ensures) (c .before .before .before .k .given .1)) (c .before .if2 .left) (λ e. omega (arith, (c .if3 .taken))) (λ e. omega (arith, (c .if3 .taken))) _ (stepped-none _ _ _ _ (c .if3 .taken))
 
--- src/storing.rt:92:32
-sub-put-note : tie.Need-sub-put-note Inv-loop μ-loop
-sub-put-note c = note-at _ _ _ _ (c .before .before .before .before .before .before .before .before .before .before .before .before .before .before .before .pre) _ _ _ _ _ (c .before .before .before .before .before .before .before .before .before .before .loop .inv) (c .before .if6 .taken)
+call-of-requires : tie.Need-call-of-requires Inv-loop μ-loop
+call-of-requires c κs = (known _ _ _ _ (c .before .before .before .before .before .before .next-known .ensures) (c .before .before .before .before .k .given .1)) .value
 
--- src/storing.rt:92:17
-put-note-requires : tie.Need-put-note-requires Inv-loop μ-loop
-put-note-requires c κs = note-room _ _ _ _ (c .before .before .before .before .before .before .before .before .before .before .before .before .before .before .before .pre) _ _ _ _ _ (c .before .before .before .before .before .before .before .before .before .before .loop .inv) _ _ _ (pipes-token _ _ _ _ (c .before .before .before .before .before .before .before .before .before .next-pipe .ensures) (c .before .before .before .before .before .before .before .before .next-pipe2 .ensures) (c .before .before .before .before .before .before .before .if1 .left) _ (c .before .before .before .before .before .before .command-at .ensures)) (c .before .before .if5 .taken) (c .before .if6 .taken)
+put-call-requires : tie.Need-put-call-requires Inv-loop μ-loop
+put-call-requires c κs = call-room _ _ _ _ (c .before .before .before .before .before .before .before .before .before .before .before .before .before .before .before .before .before .pre) _ _ _ _ _ (c .before .before .before .before .before .before .before .before .before .before .before .before .loop .inv) _ _ _ (known _ _ _ _ (c .before .before .before .before .before .before .before .before .next-known .ensures) (c .before .before .before .before .before .before .k .given .1)) (c .before .before .if4 .taken) _ (c .before .call-of .ensures)
 
--- src/storing.rt:70:5
+on-count-requires : tie.Need-on-count-requires Inv-loop μ-loop
+on-count-requires c κs = let i = c .before .before .before .before .before .before .before .before .before .before .before .before .before .before .before .loop .inv .reads in omega (arith, i .calls, i .within, c .before .before .before .before .before .before .before .before .before .before .before .before .before .before .before .before .before .before .before .before .pre .short)
+
 loop-less-4 : tie.Need-loop-less-4 Inv-loop μ-loop
-loop-less-4 c = let t = (pipes-token _ _ _ _ (c .before .before .before .before .before .before .before .before .before .before .before .before .next-pipe .ensures) (c .before .before .before .before .before .before .before .before .before .before .before .next-pipe2 .ensures) (c .before .before .before .before .before .before .before .before .before .before .if1 .left) _ (c .before .before .before .before .before .before .before .before .before .command-at .ensures)) in omega (arith, t .later, t .within)
+loop-less-4 c = let t = (known _ _ _ _ (c .before .before .before .before .before .before .before .before .before .before .before .before .next-known .ensures) (c .before .before .before .before .before .before .before .before .before .before .k .given .1)) in omega (arith, t .later, t .within)
 
--- src/storing.rt:70:5
 loop-again-4 : tie.Need-loop-again-4 Inv-loop μ-loop
-loop-again-4 c = into-note _ _ _ _ (c .before .before .before .before .before .before .before .before .before .before .before .before .before .before .before .before .before .before .pre) _ _ _ _ _ (c .before .before .before .before .before .before .before .before .before .before .before .before .before .loop .inv) _ _ _ (pipes-token _ _ _ _ (c .before .before .before .before .before .before .before .before .before .before .before .before .next-pipe .ensures) (c .before .before .before .before .before .before .before .before .before .before .before .next-pipe2 .ensures) (c .before .before .before .before .before .before .before .before .before .before .if1 .left) _ (c .before .before .before .before .before .before .before .before .before .command-at .ensures)) (c .before .before .before .before .before .if5 .taken) (c .before .before .before .before .if6 .taken) _ _ (c .before .before .put-note .ensures)
+loop-again-4 c = into-call _ _ _ _ (c .before .before .before .before .before .before .before .before .before .before .before .before .before .before .before .before .before .before .before .before .before .pre) _ _ _ _ _ (c .before .before .before .before .before .before .before .before .before .before .before .before .before .before .before .before .loop .inv) _ _ _ (known _ _ _ _ (c .before .before .before .before .before .before .before .before .before .before .before .before .next-known .ensures) (c .before .before .before .before .before .before .before .before .before .before .k .given .1)) (c .before .before .before .before .before .before .if4 .taken) _ (c .before .before .before .before .before .call-of .ensures) _ _ (c .before .before .before .put-call .ensures) _ (c .on-count .ensures)
 
--- src/storing.rt:70:5
+sub-put-note : tie.Need-sub-put-note Inv-loop μ-loop
+sub-put-note c = note-at _ _ _ _ (c .before .before .before .before .before .before .before .before .before .before .before .before .before .before .before .before .before .before .pre) _ _ _ _ _ (c .before .before .before .before .before .before .before .before .before .before .before .before .before .loop .inv) (c .before .if6 .taken)
+
+put-note-requires : tie.Need-put-note-requires Inv-loop μ-loop
+put-note-requires c κs = note-room _ _ _ _ (c .before .before .before .before .before .before .before .before .before .before .before .before .before .before .before .before .before .before .pre) _ _ _ _ _ (c .before .before .before .before .before .before .before .before .before .before .before .before .before .loop .inv) _ _ _ (known _ _ _ _ (c .before .before .before .before .before .before .before .before .before .next-known .ensures) (c .before .before .before .before .before .before .before .k .given .1)) (c .before .before .if5 .taken) (c .before .if6 .taken)
+
 loop-less-5 : tie.Need-loop-less-5 Inv-loop μ-loop
-loop-less-5 c = let t = (pipes-token _ _ _ _ (c .before .before .before .before .before .before .before .before .next-pipe .ensures) (c .before .before .before .before .before .before .before .next-pipe2 .ensures) (c .before .before .before .before .before .before .if1 .left) _ (c .before .before .before .before .before .command-at .ensures)) in omega (arith, t .later, t .within)
+loop-less-5 c = let t = (known _ _ _ _ (c .before .before .before .before .before .before .before .before .before .before .before .before .next-known .ensures) (c .before .before .before .before .before .before .before .before .before .before .k .given .1)) in omega (arith, t .later, t .within)
 
--- src/storing.rt:70:5
 loop-again-5 : tie.Need-loop-again-5 Inv-loop μ-loop
-loop-again-5 c = into-bare _ _ _ _ (c .before .before .before .before .before .before .before .before .before .before .before .before .before .before .pre) _ _ _ _ _ (c .before .before .before .before .before .before .before .before .before .loop .inv) _ _ _ (pipes-token _ _ _ _ (c .before .before .before .before .before .before .before .before .next-pipe .ensures) (c .before .before .before .before .before .before .before .next-pipe2 .ensures) (c .before .before .before .before .before .before .if1 .left) _ (c .before .before .before .before .before .command-at .ensures)) (c .before .if5 .taken) (c .if6 .left)
+loop-again-5 c = into-note _ _ _ _ (c .before .before .before .before .before .before .before .before .before .before .before .before .before .before .before .before .before .before .before .before .before .pre) _ _ _ _ _ (c .before .before .before .before .before .before .before .before .before .before .before .before .before .before .before .before .loop .inv) _ _ _ (known _ _ _ _ (c .before .before .before .before .before .before .before .before .before .before .before .before .next-known .ensures) (c .before .before .before .before .before .before .before .before .before .before .k .given .1)) (c .before .before .before .before .before .if5 .taken) (c .before .before .before .before .if6 .taken) _ _ (c .before .before .put-note .ensures)
 
--- src/storing.rt:95:13
-step-requires : tie.Need-step-requires Inv-loop μ-loop
-step-requires c κs = let i = (c .before .before .before .before .before .before .before .before .loop .inv .reads) in ((pipes-token _ _ _ _ (c .before .before .before .before .before .before .before .next-pipe .ensures) (c .before .before .before .before .before .before .next-pipe2 .ensures) (c .before .before .before .before .before .if1 .left) _ (c .before .before .before .before .command-at .ensures)) .value, (c .before .before .before .before .before .before .before .before .before .before .before .before .before .pre .short), omega (arith, i .calls, i .within, (c .before .before .before .before .before .before .before .before .before .before .before .before .before .pre .short)), omega (arith, i .cards, i .within, (c .before .before .before .before .before .before .before .before .before .before .before .before .before .pre .short)))
-
--- src/storing.rt:70:5
 loop-less-6 : tie.Need-loop-less-6 Inv-loop μ-loop
-loop-less-6 c = let t = (pipes-token _ _ _ _ (c .before .before .before .before .before .before .before .before .next-pipe .ensures) (c .before .before .before .before .before .before .before .next-pipe2 .ensures) (c .before .before .before .before .before .before .if1 .left) _ (c .before .before .before .before .before .command-at .ensures)) in omega (arith, t .later, t .within)
+loop-less-6 c = let t = (known _ _ _ _ (c .before .before .before .before .before .before .before .before .next-known .ensures) (c .before .before .before .before .before .before .k .given .1)) in omega (arith, t .later, t .within)
 
--- src/storing.rt:70:5
 loop-again-6 : tie.Need-loop-again-6 Inv-loop μ-loop
-loop-again-6 c = into-step _ _ _ _ (c .before .before .before .before .before .before .before .before .before .before .before .before .before .before .pre) _ _ _ _ _ (c .before .before .before .before .before .before .before .before .before .loop .inv) _ _ _ (pipes-token _ _ _ _ (c .before .before .before .before .before .before .before .before .next-pipe .ensures) (c .before .before .before .before .before .before .before .next-pipe2 .ensures) (c .before .before .before .before .before .before .if1 .left) _ (c .before .before .before .before .before .command-at .ensures)) (c .before .before .before .before .if2 .left) (c .before .before .if4 .left) (c .before .if5 .left) _ (c .step .ensures)
+loop-again-6 c = into-bare _ _ _ _ (c .before .before .before .before .before .before .before .before .before .before .before .before .before .before .before .before .before .pre) _ _ _ _ _ (c .before .before .before .before .before .before .before .before .before .before .before .before .loop .inv) _ _ _ (known _ _ _ _ (c .before .before .before .before .before .before .before .before .next-known .ensures) (c .before .before .before .before .before .before .k .given .1)) (c .before .if5 .taken) (c .if6 .left)
+
+step-requires : tie.Need-step-requires Inv-loop μ-loop
+step-requires c κs = let i = c .before .before .before .before .before .before .before .before .before .before .before .loop .inv .reads in ((known _ _ _ _ (c .before .before .before .before .before .before .before .next-known .ensures) (c .before .before .before .before .before .k .given .1)) .value, c .before .before .before .before .before .before .before .before .before .before .before .before .before .before .before .before .pre .short, omega (arith, i .calls, i .within, c .before .before .before .before .before .before .before .before .before .before .before .before .before .before .before .before .pre .short), omega (arith, i .cards, i .within, c .before .before .before .before .before .before .before .before .before .before .before .before .before .before .before .before .pre .short))
+
+loop-less-7 : tie.Need-loop-less-7 Inv-loop μ-loop
+loop-less-7 c = let t = (known _ _ _ _ (c .before .before .before .before .before .before .before .before .next-known .ensures) (c .before .before .before .before .before .before .k .given .1)) in omega (arith, t .later, t .within)
+
+loop-again-7 : tie.Need-loop-again-7 Inv-loop μ-loop
+loop-again-7 c = into-step _ _ _ _ (c .before .before .before .before .before .before .before .before .before .before .before .before .before .before .before .before .before .pre) _ _ _ _ _ (c .before .before .before .before .before .before .before .before .before .before .before .before .loop .inv) _ _ _ (known _ _ _ _ (c .before .before .before .before .before .before .before .before .next-known .ensures) (c .before .before .before .before .before .before .k .given .1)) (c .before .before .before .before .if2 .left) (c .before .before .if4 .left) (c .before .if5 .left) _ (c .step .ensures)
 
 pub read-into-spec : {M : Type 1} → statement M
 read-into-spec =
@@ -152,33 +125,34 @@ read-into-spec =
     μ-loop
     fresh-head-requires
     loop-holds
-    next-pipe-requires
-    add-v
-    next-pipe-requires-2
+    after-line-requires
+    plain-card-requires
+    put-byte-requires
+    add-c
+    loop-less
+    loop-again
+    next-known-requires
+    enum-known-k
+    enum-told
     same-length
     same-length-2
     returns
-    command-at-requires
-    cast-t16
-    sub-t14
-    cast-t17
-    add-c
     put-card-requires
-    loop-less
-    loop-again
     loop-less-2
     loop-again-2
+    loop-less-3
+    loop-again-3
     call-of-requires
     put-call-requires
     on-count-requires
-    loop-less-3
-    loop-again-3
-    sub-put-note
-    put-note-requires
     loop-less-4
     loop-again-4
+    sub-put-note
+    put-note-requires
     loop-less-5
     loop-again-5
-    step-requires
     loop-less-6
-    loop-again-6)
+    loop-again-6
+    step-requires
+    loop-less-7
+    loop-again-7)

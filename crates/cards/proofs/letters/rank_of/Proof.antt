@@ -1,19 +1,23 @@
--- `cards::letters::rank_of` meets its contract: by the number, which is below 13 where there is one. (01: Records)
+-- `cards::letters::rank_of` meets its contract: by the number, which says whether it stands for one. (01: Records)
 -- Assumes nothing.
-use borrow.Author.Needs.{needs}
-use Rattle.lin_spec.proofs.Cards.{rank-under}
-use Rattle.cards.proofs.LetterLaws.{number-found, number-none}
+use mathlib.Core.Path.{sym, _∙_}
+use mathlib.Core.Bool.{and-false}
+use native.Mathlib.Omega.{arith}
+use borrow.Author.Tests.{lt-ltb, le-ltb, le-leb, lt-leb}
 use Rattle.cards.proofs.letters.rank_of.Statement.{statement}
 use Rattle.cards.proofs.letters.rank_of.Tie as tie
 
-rank-number-requires : tie.Need-rank-number-requires
-rank-number-requires c κs = search needs
+letter-requires : tie.Need-letter-requires
+letter-requires c κs = tt
 
 returns : tie.Need-returns
-returns c = number-found 13 _ _ (c .before .rank-number .ensures) (c .if1 .taken)
+returns c = sym (c .before .letter .ensures .1 ∙ simp (lt-leb _ _ (c .if1 .taken)))
 
 returns-2 : tie.Need-returns-2
-returns-2 c = number-none 13 _ _ (c .before .rank-number .ensures) (c .if1 .left) (rank-under _)
+returns-2 c = sym (c .before .before .letter .ensures .1 ∙ simp (le-leb _ _ (c .before .if1 .left), lt-ltb _ _ (c .if2 .taken)))
+
+returns-3 : tie.Need-returns-3
+returns-3 c = sym (c .before .before .letter .ensures .1 ∙ simp (le-ltb _ _ (c .if2 .left), and-false))
 
 pub rank-of-spec : {M : Type 1} → statement M
-rank-of-spec = tie.close (tie.spec rank-number-requires returns returns-2)
+rank-of-spec = tie.close (tie.spec letter-requires returns returns-2 returns-3)

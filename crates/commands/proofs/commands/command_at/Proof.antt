@@ -1,8 +1,7 @@
 -- `commands::command_at` meets its contract: two bytes, or the word that is left after trimming. (01: Tokens)
 -- Assumes nothing.
 use mathlib.Core.Path.{ap, sym, _∙_}
-use Rattle.lin_spec.specs.Records.{part}
-use Rattle.commands.specs.Commands.{words, firstWord, commandOf}
+use Rattle.commands.specs.Commands.{commandOf}
 use Rattle.commands.proofs.CommandLaws.{two-bytes}
 use borrow.Author.Needs.{needs}
 use Rattle.commands.proofs.commands.command_at.Statement.{statement}
@@ -36,30 +35,11 @@ pair-of-requires c κs = search needs
 returns : tie.Need-returns
 returns c = c .pair-of .ensures ∙ sym (ap commandOf (two-bytes _ _ _ (c .before .before .before .before .before .before .pre .1) (c .before .before .before .if1 .taken))) ∙ c .before .before .before .before .after-lf .ensures .same
 
--- src/commands.rt:163:18
-sub-trim : tie.Need-sub-trim
-sub-trim c = search needs
+word-at-requires : tie.Need-word-at-requires
+word-at-requires c κs = (c .before .after-lf .ensures .to, c .before .before .before .pre .1)
 
--- src/commands.rt:163:18
-part-trim-start : tie.Need-part-trim-start
-part-trim-start c = search needs
-
--- src/commands.rt:163:18
-part-trim-end : tie.Need-part-trim-end
-part-trim-end c = search needs
-
--- src/commands.rt:163:13
-trim-requires : tie.Need-trim-requires
-trim-requires c κs = search needs
-
--- src/commands.rt:163:5
-word-of-requires : tie.Need-word-of-requires
-word-of-requires c κs = search needs
-
--- src/commands.rt:155:1
 returns-2 : tie.Need-returns-2
-unfolding commandOf part
-returns-2 c = c .word-of .ensures ∙ ap (firstWord 0 words) (c .before .trim .ensures) ∙ c .before .before .before .before .after-lf .ensures .same
+returns-2 c = c .word-at .ensures ∙ c .before .before .after-lf .ensures .same
 
 pub command-at-spec : {M : Type 1} → statement M
 command-at-spec =
@@ -72,9 +52,5 @@ command-at-spec =
     shared-slice-read-pair-of-2
     pair-of-requires
     returns
-    sub-trim
-    part-trim-start
-    part-trim-end
-    trim-requires
-    word-of-requires
+    word-at-requires
     returns-2)
