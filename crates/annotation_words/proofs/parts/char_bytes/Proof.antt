@@ -1,4 +1,4 @@
--- `annotation::char_bytes` meets its contract: by the table of first bytes.
+-- `annotation_words::char_bytes` meets its contract: by the table of first bytes.
 -- Assumes nothing.
 use Rattle.lin_spec.specs.Utf8.{first}
 use Rattle.annotation_words.proofs.PartLaws.{char-none, char-some}

@@ -1,4 +1,4 @@
--- `annotation::is_of` meets its contract: by the kind.
+-- `annotation_words::is_of` meets its contract: by the kind.
 -- Assumes nothing.
 use mathlib.Core.Path.{ap, sym, _∙_}
 use borrow.Author.Needs.{needs}

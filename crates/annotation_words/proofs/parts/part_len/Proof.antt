@@ -1,4 +1,4 @@
--- `annotation::part_len` meets its contract: each part by its first byte.
+-- `annotation_words::part_len` meets its contract: each part by its first byte.
 -- Assumes nothing.
 use native.Mathlib.Omega.{arith}
 use denote.Ref.{now}

@@ -1,4 +1,4 @@
--- `annotation::run_len` meets its contract: the bytes before i are all of the run.
+-- `annotation_words::run_len` meets its contract: the bytes before i are all of the run.
 -- Assumes nothing.
 use Prim.Native.Nat.{_+_, _-_, _≤_}
 use native.Mathlib.Omega.{arith}

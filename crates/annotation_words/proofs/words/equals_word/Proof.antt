@@ -1,4 +1,4 @@
--- `annotation::equals_word` meets its contract: what stands between the two is read as a number.
+-- `annotation_words::equals_word` meets its contract: what stands between the two is read as a number.
 -- Assumes nothing.
 use native.Mathlib.Omega.{arith}
 use Rattle.digits.proofs.DigitLaws.{number-most}

@@ -1,4 +1,4 @@
--- `annotation::mark_len` meets its contract: by a test of every byte.
+-- `annotation_words::mark_len` meets its contract: by a test of every byte.
 -- Assumes nothing.
 use native.Mathlib.Omega.{arith}
 use borrow.Author.Tests.{lt-ltb, le-ltb}

@@ -1,4 +1,4 @@
--- `annotation::nag_of` meets its contract: a part of two bytes has one digit.
+-- `annotation_words::nag_of` meets its contract: a part of two bytes has one digit.
 -- Assumes nothing.
 use Rattle.annotation_words.proofs.WordLaws.{nag-none, nag-mark}
 use borrow.Author.Needs.{needs}

@@ -1,4 +1,4 @@
--- `annotation::note_named` meets its contract: a note whose first word is 0 is none.
+-- `annotation_words::note_named` meets its contract: a note whose first word is 0 is none.
 -- Assumes nothing.
 use Rattle.annotation_words.proofs.WordLaws.{note-absent, note-present}
 use borrow.Author.Needs.{needs}

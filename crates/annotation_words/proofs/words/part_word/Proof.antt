@@ -1,4 +1,4 @@
--- `annotation::part_word` meets its contract: the word by the first byte.
+-- `annotation_words::part_word` meets its contract: the word by the first byte.
 -- Assumes nothing.
 use Rattle.annotation_words.proofs.WordLaws.{front-none, front-equals, front-nag, front-mark, front-other}
 use borrow.Author.Needs.{needs}

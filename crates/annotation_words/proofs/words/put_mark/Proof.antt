@@ -1,4 +1,4 @@
--- `annotation::put_mark` meets its contract: each mark by its digit.
+-- `annotation_words::put_mark` meets its contract: each mark by its digit.
 -- Assumes nothing.
 use Prim.Native.Nat.{ℕ}
 use mathlib.Core.Path.{ap, sym}

@@ -1,4 +1,4 @@
--- `annotation::put_spaced` meets its contract: nothing, the word, or a space and the word.
+-- `annotation_words::put_spaced` meets its contract: nothing, the word, or a space and the word.
 -- Assumes nothing.
 use mathlib.Core.Path.{sym}
 use borrow.Author.Tests.{not-true, not-false}

@@ -1,4 +1,4 @@
--- `annotation::put_word` meets its contract: each word by what it is.
+-- `annotation_words::put_word` meets its contract: each word by what it is.
 -- Assumes nothing.
 use mathlib.Core.Path.{ap, sym, _∙_}
 use denote.Ref.{now}

@@ -1,4 +1,4 @@
--- `annotation::word_len` meets its contract: the length of what the word is.
+-- `annotation_words::word_len` meets its contract: the length of what the word is.
 -- Assumes nothing.
 use mathlib.Core.Path.{ap, sym, _∙_}
 use lib.ListN.{length}

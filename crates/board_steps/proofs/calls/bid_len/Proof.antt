@@ -1,4 +1,4 @@
--- `board::bid_len` meets its contract: a turn takes a mark off the end.
+-- `board_steps::bid_len` meets its contract: a turn takes a mark off the end.
 -- Assumes nothing.
 use Rattle.board_steps.proofs.CallLaws.{take-whole, mark-off, mark-none, marks-only, take-len}
 use Rattle.lin_spec.specs.Board.{withoutEnd}

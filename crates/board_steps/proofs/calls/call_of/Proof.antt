@@ -1,4 +1,4 @@
--- `board::call_of` meets its contract.
+-- `board_steps::call_of` meets its contract.
 -- Assumes nothing.
 use Rattle.board_steps.proofs.CallLaws.{call-row, bid-short}
 use mathlib.Core.Option.{none, some}

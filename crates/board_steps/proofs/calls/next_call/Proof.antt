@@ -1,4 +1,4 @@
--- `board::next_call` meets its contract: an mb, and the annotation after it.
+-- `board_steps::next_call` meets its contract: an mb, and the annotation after it.
 -- Assumes nothing.
 use Rattle.board_steps.proofs.CallLaws.{bidden}
 use mathlib.Core.Path.{_∙_}

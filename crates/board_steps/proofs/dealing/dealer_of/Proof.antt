@@ -1,4 +1,4 @@
--- `board::dealer_of` meets its contract.
+-- `board_steps::dealer_of` meets its contract.
 -- Assumes nothing.
 use Rattle.lin_spec.specs.Board.{dealerOf}
 use borrow.Author.Tests.{eq-eqb, ne-eqb}

@@ -1,4 +1,4 @@
--- `board::dealt_by` meets its contract: before the first md, or from its value.
+-- `board_steps::dealt_by` meets its contract: before the first md, or from its value.
 -- Assumes nothing.
 use Rattle.board_steps.proofs.DealingLaws.{short-value, from-none, from-some}
 use mathlib.Core.Path.{_∙_}

@@ -1,4 +1,4 @@
--- `board::read_md` meets its contract: no byte, no dealer, or dealer and deal.
+-- `board_steps::read_md` meets its contract: no byte, no dealer, or dealer and deal.
 -- Assumes nothing.
 use Rattle.board_steps.proofs.DealingLaws.{md-empty, md-none, md-given}
 use Rattle.board_steps.specs.Dealing.{seatOf}

@@ -1,4 +1,4 @@
--- `board::undealt` meets its contract.
+-- `board_steps::undealt` meets its contract.
 -- Assumes nothing.
 use Rattle.lin_spec.specs.Board.{undealt}
 use borrow.Author.Needs.{needs}

@@ -1,4 +1,4 @@
--- `board::read_head` meets its contract: a turn takes one token off those that are still to be read.
+-- `board_steps::read_head` meets its contract: a turn takes one token off those that are still to be read.
 -- Assumes nothing.
 use Rattle.board_steps.proofs.HeadLaws.{Reads, begins, ends, turn, card-more, stepped-none, stepped-card, stepped-call}
 use Rattle.commands.proofs.StepLaws.{known}

@@ -1,4 +1,4 @@
--- `board::heading::step` meets its contract: each field by its own function. (01: Board)
+-- `board_steps::heading::step` meets its contract: each field by its own function. (01: Board)
 -- Assumes nothing.
 use borrow.Author.Needs.{needs}
 use Rattle.board_steps.proofs.heading.step.Statement.{statement}

@@ -1,4 +1,4 @@
--- `board::card_at` meets its contract.
+-- `board_steps::card_at` meets its contract.
 -- Assumes nothing.
 use Rattle.board_steps.proofs.PlayLaws.{card-on, card-off}
 use Rattle.lin_spec.specs.White.{trim}

@@ -1,4 +1,4 @@
--- `board::next_card` meets its contract: a turn takes a token without a card off those that are still to be read.
+-- `board_steps::next_card` meets its contract: a turn takes a token without a card off those that are still to be read.
 -- Assumes nothing.
 use Rattle.board_steps.proofs.PlayLaws.{no-card, card-here}
 use Rattle.board_steps.specs.Play.{cardsFrom}

@@ -1,4 +1,4 @@
--- `board::put_card` meets its contract: the card, or nothing.
+-- `board_steps::put_card` meets its contract: the card, or nothing.
 -- Assumes nothing.
 use mathlib.Core.Path.{ap, sym, _∙_}
 use Rattle.cards.specs.Letters.{maybeOf}

@@ -1,4 +1,4 @@
--- `board::put_note` meets its contract: a run of puts, each of which takes one word off what is left to store.
+-- `board_steps::put_note` meets its contract: a run of puts, each of which takes one word off what is left to store.
 -- Assumes nothing.
 use Prim.Native.Nat.{ℕ}
 use mathlib.Core.List.{List}

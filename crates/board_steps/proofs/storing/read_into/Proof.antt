@@ -1,4 +1,4 @@
--- `board::read_into` meets its contract: a turn takes one token off those that are still to be read, and stores what it gives.
+-- `board_steps::read_into` meets its contract: a turn takes one token off those that are still to be read, and stores what it gives.
 -- Assumes nothing.
 use Rattle.board_steps.proofs.HeadLaws.{stepped-none}
 use Rattle.board_steps.proofs.StoringLaws.{Into, into-begin, into-end, rows-long, cards-long, one-room, one-put, card-room, into-card, into-step, call-room, into-call, note-at, note-room, into-note, into-bare}

@@ -1,4 +1,4 @@
--- `writer::board_len` meets its contract: the sum of the lengths of the pieces.
+-- `boardtext::board_len` meets its contract: the sum of the lengths of the pieces.
 -- Assumes nothing.
 use Rattle.lent.specs.Heads.{boardOf}
 use Prim.Native.Nat.{ℕ}

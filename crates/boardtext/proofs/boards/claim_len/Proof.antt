@@ -1,4 +1,4 @@
--- `writer::claim_len` meets its contract: nothing, or the length of one put.
+-- `boardtext::claim_len` meets its contract: nothing, or the length of one put.
 -- Assumes nothing.
 use Rattle.boardtext.proofs.PieceLaws.{claim-long}
 use borrow.Author.Needs.{needs}

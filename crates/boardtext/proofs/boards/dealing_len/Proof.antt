@@ -1,4 +1,4 @@
--- `writer::dealing_len` meets its contract: the sum of the lengths of the pieces.
+-- `boardtext::dealing_len` meets its contract: the sum of the lengths of the pieces.
 -- Assumes nothing.
 use denote.Ref.{now}
 use Rattle.lent.specs.Heads.{boardOf}

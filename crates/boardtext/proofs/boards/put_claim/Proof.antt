@@ -1,4 +1,4 @@
--- `writer::put_claim` meets its contract: nothing, or one put.
+-- `boardtext::put_claim` meets its contract: nothing, or one put.
 -- Assumes nothing.
 use Rattle.output.proofs.Laws.{start, finish}
 use Rattle.boardtext.proofs.PieceLaws.{claimed-is}

@@ -1,4 +1,4 @@
--- `writer::put_sv` meets its contract: the letter of the vulnerability is what is put.
+-- `boardtext::put_sv` meets its contract: the letter of the vulnerability is what is put.
 -- Assumes nothing.
 use borrow.Author.Needs.{needs}
 use Rattle.boardtext.proofs.boards.put_sv.Statement.{statement}

@@ -1,4 +1,4 @@
--- `writer::heading_len` meets its contract: the sum of the lengths of the pieces.
+-- `boardtext::heading_len` meets its contract: the sum of the lengths of the pieces.
 -- Assumes nothing.
 use Prim.Native.Nat.{ℕ}
 use mathlib.Core.Path.{ap, sym, _∙_}

@@ -1,4 +1,4 @@
--- `writer::put_heading` meets its contract: a run of puts, each of which takes one piece off what is left to write.
+-- `boardtext::put_heading` meets its contract: a run of puts, each of which takes one piece off what is left to write.
 -- Assumes nothing.
 use mathlib.Core.List.{List}
 use Prim.Native.Nat.{ℕ}

@@ -1,4 +1,4 @@
--- `cardtext::deals::east_len` meets its contract: by the test, none or a comma and a hand.
+-- `dealtext::deals::east_len` meets its contract: by the test, none or a comma and a hand.
 -- Assumes nothing.
 use native.Mathlib.Omega.{arith}
 use mathlib.Core.Path.{ap, sym}

@@ -1,4 +1,4 @@
--- `cardtext::deals::implied` meets its contract: each answer by the tests that led there.
+-- `dealtext::deals::implied` meets its contract: each answer by the tests that led there.
 -- Assumes nothing.
 use borrow.Author.Needs.{needs}
 use borrow.Author.Tests.{not-true, not-false}

@@ -1,4 +1,4 @@
--- `cardtext::deals::is_rest` meets its contract. The loop's invariant: the remainder's cards passed are counted, and `held` says whether those of East are in it.
+-- `dealtext::deals::is_rest` meets its contract. The loop's invariant: the remainder's cards passed are counted, and `held` says whether those of East are in it.
 -- The measure is what is left.
 -- Assumes nothing.
 use Prim.Native.Nat.{_+_, _-_, _≤_}

@@ -1,4 +1,4 @@
--- `cardtext::md_len` meets its contract: the hands, a digit and two commas.
+-- `dealtext::md_len` meets its contract: the hands, a digit and two commas.
 -- Assumes nothing.
 use native.Mathlib.Omega.{arith}
 use denote.Ref.{now}

@@ -1,4 +1,4 @@
--- `cardtext::deals::others_thirteen` meets its contract: the test is the definition's.
+-- `dealtext::deals::others_thirteen` meets its contract: the test is the definition's.
 -- Assumes nothing.
 use borrow.Author.Needs.{needs}
 use Rattle.dealtext.proofs.EastLaws.{three-sums}

@@ -1,4 +1,4 @@
--- `cardtext::deals::put_east` meets its contract: by the test, nothing or a comma and a hand.
+-- `dealtext::deals::put_east` meets its contract: by the test, nothing or a comma and a hand.
 -- Assumes nothing.
 use borrow.Author.Needs.{needs}
 use Rattle.cardtext.proofs.PutLaws.{put-none, first-room, second-room, put-both}

@@ -1,4 +1,4 @@
--- `cardtext::put_md` meets its contract: a run of puts, each of which takes one piece off what is left to write.
+-- `dealtext::put_md` meets its contract: a run of puts, each of which takes one piece off what is left to write.
 -- Assumes nothing.
 use Prim.Native.Nat.{ℕ}
 use mathlib.Core.Path.{_≡_}

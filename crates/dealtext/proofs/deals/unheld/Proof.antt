@@ -1,4 +1,4 @@
--- `cardtext::deals::unheld` meets its contract: the test is the remainder's.
+-- `dealtext::deals::unheld` meets its contract: the test is the remainder's.
 -- Assumes nothing.
 use native.Mathlib.Omega.{arith}
 use borrow.Author.Needs.{needs}

@@ -1,4 +1,4 @@
--- `cardtext::hands::hand_text_len` meets its contract: by the test, none or one for each suit and card.
+-- `dealtext::hands::hand_text_len` meets its contract: by the test, none or one for each suit and card.
 -- Assumes nothing.
 use Prim.Native.Nat.{_*_}
 use native.Mathlib.Omega.{arith}

@@ -1,4 +1,4 @@
--- `cardtext::hands::put_hand` meets its contract: by the test, nothing or the suits.
+-- `dealtext::hands::put_hand` meets its contract: by the test, nothing or the suits.
 -- Assumes nothing.
 use borrow.Author.Needs.{needs}
 use Rattle.cardtext.proofs.PutLaws.{put-none, room-as, put-as}

@@ -1,4 +1,4 @@
--- `cardtext::hands::put_ranks` meets its contract: a turn takes one rank off what is left to write.
+-- `dealtext::hands::put_ranks` meets its contract: a turn takes one rank off what is left to write.
 -- Assumes nothing.
 use Prim.Native.Nat.{ℕ, _+_, _-_, _*_}
 use mathlib.Core.Path.{_≡_, refl}

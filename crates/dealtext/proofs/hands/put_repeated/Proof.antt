@@ -1,4 +1,4 @@
--- `cardtext::hands::put_repeated` meets its contract: a turn takes one byte off what is left to write.
+-- `dealtext::hands::put_repeated` meets its contract: a turn takes one byte off what is left to write.
 -- Assumes nothing.
 use native.Mathlib.Omega.{arith}
 use lib.ListN.{replicate}

@@ -1,4 +1,4 @@
--- `cardtext::hands::put_suit` meets its contract: two puts.
+-- `dealtext::hands::put_suit` meets its contract: two puts.
 -- Assumes nothing.
 use borrow.Author.Needs.{needs}
 use Rattle.cardtext.proofs.PutLaws.{first-room, second-room, put-both}

@@ -1,4 +1,4 @@
--- `cardtext::hands::put_suits` meets its contract: a run of puts, each of which takes one piece off what is left to write.
+-- `dealtext::hands::put_suits` meets its contract: a run of puts, each of which takes one piece off what is left to write.
 -- Assumes nothing.
 use Prim.Native.Nat.{ℕ, _*_}
 use native.Mathlib.Omega.{arith}

@@ -1,4 +1,4 @@
--- `text::after_plus` meets its contract: nothing, a plus sign or another byte at the front.
+-- `digits::after_plus` meets its contract: nothing, a plus sign or another byte at the front.
 -- Assumes nothing.
 use denote.Ref.{now}
 use Rattle.digits.proofs.DigitLaws.{plus-none, plus-here, plus-not}

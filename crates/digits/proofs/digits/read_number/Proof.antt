@@ -1,4 +1,4 @@
--- `text::read_number` meets its contract: a turn takes one digit off what is left to count.
+-- `digits::read_number` meets its contract: a turn takes one digit off what is left to count.
 -- Assumes nothing.
 use Prim.Native.Nat.{_-_}
 use native.Mathlib.Omega.{arith}

@@ -1,4 +1,4 @@
--- `document::any_faulty` meets its contract: a turn takes the two spans of a row off those to be tested.
+-- `document_writer::any_faulty` meets its contract: a turn takes the two spans of a row off those to be tested.
 -- Assumes nothing.
 use Prim.Native.Nat.{_-_, _≤_}
 use native.Mathlib.Omega.{arith}

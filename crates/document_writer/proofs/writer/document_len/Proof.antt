@@ -1,4 +1,4 @@
--- `document::document_len` meets its contract: a turn takes one row off what is left to count.
+-- `document_writer::document_len` meets its contract: a turn takes one row off what is left to count.
 -- Assumes nothing.
 use Prim.Native.Nat.{_+_, _-_, _^_, _≤_, _<_}
 use mathlib.Core.Path.{_≡_, ap}

@@ -1,4 +1,4 @@
--- `document::look_at` meets its contract. The loop's invariant: no span so far passes the end, `ill` says whether one is not UTF-8, and n counts the bytes.
+-- `document_writer::look_at` meets its contract. The loop's invariant: no span so far passes the end, `ill` says whether one is not UTF-8, and n counts the bytes.
 -- The measure is the words that are left. Assumes nothing.
 use Prim.Native.Nat.{_+_, _-_, _^_, _≤_, _<_}
 use native.Mathlib.Omega.{arith}

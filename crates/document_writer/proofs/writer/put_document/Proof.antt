@@ -1,4 +1,4 @@
--- `document::put_document` meets its contract: a turn takes one run off what is left to write.
+-- `document_writer::put_document` meets its contract: a turn takes one run off what is left to write.
 -- Assumes nothing.
 use Prim.Native.Nat.{_+_, _-_, _≤_}
 use mathlib.Core.List.{[], _++_}

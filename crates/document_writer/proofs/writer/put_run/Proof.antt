@@ -1,4 +1,4 @@
--- `document::put_run` meets its contract: a part of the text is put, or one row. Assumes nothing.
+-- `document_writer::put_run` meets its contract: a part of the text is put, or one row. Assumes nothing.
 use Rattle.document_writer.proofs.RunLaws.{run-stands, run-alone}
 use denote.Ref.{now}
 use borrow.Author.Needs.{needs}

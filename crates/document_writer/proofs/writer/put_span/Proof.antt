@@ -1,4 +1,4 @@
--- `document::put_span` meets its contract: the bytes of the span are what is put.
+-- `document_writer::put_span` meets its contract: the bytes of the span are what is put.
 -- Assumes nothing.
 use borrow.Author.Needs.{needs}
 use Rattle.document_writer.proofs.writer.put_span.Statement.{statement}

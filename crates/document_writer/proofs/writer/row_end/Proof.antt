@@ -1,4 +1,4 @@
--- `document::row_end` meets its contract: the row's places and pipes are those of the text, or the place stays.
+-- `document_writer::row_end` meets its contract: the row's places and pipes are those of the text, or the place stays.
 -- Assumes nothing.
 use mathlib.Core.Path.{refl}
 use Rattle.document_writer.proofs.RunLaws.{stands-not, stands-there}

@@ -1,4 +1,4 @@
--- `document::row_len` meets its contract: two lengths and two pipes.
+-- `document_writer::row_len` meets its contract: two lengths and two pipes.
 -- Assumes nothing.
 use native.Mathlib.Omega.{arith}
 use mathlib.Core.Path.{ap}

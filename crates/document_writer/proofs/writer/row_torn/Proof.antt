@@ -1,4 +1,4 @@
--- `document::row_torn` meets its contract: the two spans are tested. Assumes nothing.
+-- `document_writer::row_torn` meets its contract: the two spans are tested. Assumes nothing.
 use mathlib.Core.Path.{refl}
 use denote.Ref.{now}
 use Rattle.document_writer.proofs.RowLaws.{row-within}

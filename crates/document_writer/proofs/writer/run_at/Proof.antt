@@ -1,4 +1,4 @@
--- `document::run_at` meets its contract. The loop's invariant: the rows up to the word j are the text from start to stop. The measure is the words that are left.
+-- `document_writer::run_at` meets its contract. The loop's invariant: the rows up to the word j are the text from start to stop. The measure is the words that are left.
 -- Assumes nothing.
 use Prim.Native.Nat.{_-_}
 use native.Mathlib.Omega.{arith}

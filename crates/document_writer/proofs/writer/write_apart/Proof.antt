@@ -1,4 +1,4 @@
--- `document::write_apart` meets its contract: each answer by the tests that led there. Assumes nothing.
+-- `document_writer::write_apart` meets its contract: each answer by the tests that led there. Assumes nothing.
 use mathlib.Core.Path.{sym, _∙_}
 use Rattle.document_writer.proofs.Answers.{write-past, write-ill}
 use borrow.Author.Needs.{needs}

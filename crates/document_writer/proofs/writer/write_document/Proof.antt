@@ -1,4 +1,4 @@
--- `document::write_document` meets its contract: each answer by the tests that led there. Assumes nothing.
+-- `document_writer::write_document` meets its contract: each answer by the tests that led there. Assumes nothing.
 use mathlib.Core.Path.{refl, sym, _∙_}
 use borrow.Author.Tests.{not-false}
 use Rattle.document_writer.proofs.Answers.{write-long, write-past, write-ill, looked}

@@ -1,4 +1,4 @@
--- `document::write_fitting` meets its contract: 7 or the document, by its length. Assumes nothing.
+-- `document_writer::write_fitting` meets its contract: 7 or the document, by its length. Assumes nothing.
 use mathlib.Core.Path.{refl}
 use Rattle.document_writer.proofs.Answers.{write-small, write-done}
 use borrow.Author.Needs.{needs}

@@ -1,4 +1,4 @@
--- `file::any_same` meets its contract: a turn passes a seat with another name.
+-- `finder::any_same` meets its contract: a turn passes a seat with another name.
 -- Assumes nothing.
 use Rattle.text.proofs.ListLaws.{any-end, any-found, any-next}
 use Rattle.lin_spec.specs.File.{sameName}

@@ -1,4 +1,4 @@
--- `file::find_from` meets its contract: a turn passes a section.
+-- `finder::find_from` meets its contract: a turn passes a section.
 -- Assumes nothing.
 use Rattle.finder.proofs.FinderLaws.{Tally, tally-begin, tally-small, tally-on, tally-end}
 use Rattle.file.proofs.NumberLaws.{seen, found-holds}

@@ -1,4 +1,4 @@
--- `file::find_name` meets its contract: each answer by the tests that led there.
+-- `finder::find_name` meets its contract: each answer by the tests that led there.
 -- Assumes nothing.
 use Rattle.finder.proofs.FinderLaws.{find-long, find-name-long, find-ill, find-name-ill, find-counted, first-ready}
 use mathlib.Core.Path.{refl}

@@ -1,4 +1,4 @@
--- `file::found_in` meets its contract.
+-- `finder::found_in` meets its contract.
 -- Assumes nothing.
 use denote.Ref.{now}
 use Rattle.finder.proofs.FinderLaws.{found-none, found-some, found-other}

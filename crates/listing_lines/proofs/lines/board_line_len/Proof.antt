@@ -1,4 +1,4 @@
--- `listing::board_line_len` meets its contract: the words, the spaces and LF.
+-- `listing_lines::board_line_len` meets its contract: the words, the spaces and LF.
 -- Assumes nothing.
 use Rattle.listing_words.proofs.LineLaws.{board-long}
 use Rattle.listing_words.specs.Pieces.{fieldText, lengthsText}

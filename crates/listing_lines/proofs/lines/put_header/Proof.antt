@@ -1,4 +1,4 @@
--- `listing::put_header` meets its contract: one put.
+-- `listing_lines::put_header` meets its contract: one put.
 -- Assumes nothing.
 use Rattle.listing_words.proofs.LineLaws.{header-is}
 use borrow.Author.Needs.{needs}

@@ -1,4 +1,4 @@
--- `listing::refusal_line` meets its contract: its answer by the test that led there.
+-- `listing_lines::refusal_line` meets its contract: its answer by the test that led there.
 -- Assumes nothing.
 use Rattle.listing_lines.proofs.Answers.{line-small, line-fits, line-done}
 use borrow.Author.Needs.{needs}

@@ -1,4 +1,4 @@
--- `listing::refusal_line_len` meets its contract: eight bytes, the digits and LF.
+-- `listing_lines::refusal_line_len` meets its contract: eight bytes, the digits and LF.
 -- Assumes nothing.
 use Rattle.listing_words.proofs.LineLaws.{refusal-long}
 use Rattle.lin_spec.specs.Decimal.{decimal}

@@ -1,4 +1,4 @@
--- `listing::claim_len` meets its contract, by the case of the claim.
+-- `listing_words::claim_len` meets its contract, by the case of the claim.
 -- Assumes nothing.
 use borrow.Author.Needs.{needs}
 use Rattle.listing_words.proofs.words.claim_len.Statement.{statement}

@@ -1,4 +1,4 @@
--- `listing::field_len` meets its contract: a space and the digits.
+-- `listing_words::field_len` meets its contract: a space and the digits.
 -- Assumes nothing.
 use Rattle.listing_words.proofs.LineLaws.{field-long}
 use native.Mathlib.Omega.{arith}

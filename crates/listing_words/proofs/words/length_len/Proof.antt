@@ -1,4 +1,4 @@
--- `listing::length_len` meets its contract: the length of the hand is what is counted.
+-- `listing_words::length_len` meets its contract: the length of the hand is what is counted.
 -- Assumes nothing.
 use borrow.Author.Needs.{needs}
 use Rattle.listing_words.proofs.words.length_len.Statement.{statement}

@@ -1,4 +1,4 @@
--- `listing::lengths_len` meets its contract: four lengths, each after a space.
+-- `listing_words::lengths_len` meets its contract: four lengths, each after a space.
 -- Assumes nothing.
 use Rattle.listing_words.proofs.LineLaws.{lengths-long}
 use Rattle.listing_words.specs.Pieces.{fieldText}

@@ -1,4 +1,4 @@
--- `listing::put_claim` meets its contract: one put, by the case of the claim.
+-- `listing_words::put_claim` meets its contract: one put, by the case of the claim.
 -- Assumes nothing.
 use borrow.Author.Needs.{needs}
 use Rattle.listing_words.proofs.words.put_claim.Statement.{statement}

@@ -1,4 +1,4 @@
--- `listing::put_length` meets its contract: the length of the hand is what is put.
+-- `listing_words::put_length` meets its contract: the length of the hand is what is put.
 -- Assumes nothing.
 use borrow.Author.Needs.{needs}
 use Rattle.listing_words.proofs.words.put_length.Statement.{statement}

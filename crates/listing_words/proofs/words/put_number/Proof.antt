@@ -1,4 +1,4 @@
--- `listing::put_number` meets its contract: the number of the refusal is what is put.
+-- `listing_words::put_number` meets its contract: the number of the refusal is what is put.
 -- Assumes nothing.
 use borrow.Author.Needs.{needs}
 use Rattle.listing_words.proofs.words.put_number.Statement.{statement}

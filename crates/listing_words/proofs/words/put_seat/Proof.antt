@@ -1,4 +1,4 @@
--- `listing::put_seat` meets its contract: the letter of the seat is what is put.
+-- `listing_words::put_seat` meets its contract: the letter of the seat is what is put.
 -- Assumes nothing.
 use borrow.Author.Needs.{needs}
 use Rattle.listing_words.proofs.words.put_seat.Statement.{statement}

@@ -1,4 +1,4 @@
--- `listing::put_sv` meets its contract: the letter of the vulnerability is what is put.
+-- `listing_words::put_sv` meets its contract: the letter of the vulnerability is what is put.
 -- Assumes nothing.
 use borrow.Author.Needs.{needs}
 use Rattle.listing_words.proofs.words.put_sv.Statement.{statement}

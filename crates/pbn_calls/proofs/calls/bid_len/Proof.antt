@@ -1,4 +1,4 @@
--- `pbn::bid_len` meets its contract: by the kind of call.
+-- `pbn_calls::bid_len` meets its contract: by the kind of call.
 -- Assumes nothing.
 use mathlib.Core.Path.{ap, sym}
 use native.Mathlib.Omega.{arith}

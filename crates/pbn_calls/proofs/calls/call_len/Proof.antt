@@ -1,4 +1,4 @@
--- `pbn::call_len` meets its contract: nothing, or the sum of both.
+-- `pbn_calls::call_len` meets its contract: nothing, or the sum of both.
 -- Assumes nothing.
 use denote.Ref.{now}
 use native.Mathlib.Omega.{arith}

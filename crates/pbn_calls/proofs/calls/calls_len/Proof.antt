@@ -1,4 +1,4 @@
--- `pbn::calls_len` meets its contract: a turn takes one call off what is left to count.
+-- `pbn_calls::calls_len` meets its contract: a turn takes one call off what is left to count.
 -- Assumes nothing.
 use Prim.Native.Nat.{_+_, _-_, _^_, _≤_, _<_}
 use native.Mathlib.Omega.{arith}

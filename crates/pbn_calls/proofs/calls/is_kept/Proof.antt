@@ -1,4 +1,4 @@
--- `pbn_texts::is_kept` meets its contract: the test itself.
+-- `pbn_calls::is_kept` meets its contract: the test itself.
 -- Assumes nothing.
 use mathlib.Core.Path.{refl}
 use Rattle.pbn_calls.proofs.calls.is_kept.Statement.{statement}

@@ -1,4 +1,4 @@
--- `pbn::kept_card` meets its contract: by the entry.
+-- `pbn_calls::kept_card` meets its contract: by the entry.
 -- Assumes nothing.
 use mathlib.Core.Path.{ap, sym}
 use native.Mathlib.Omega.{arith}

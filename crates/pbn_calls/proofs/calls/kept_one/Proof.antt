@@ -1,4 +1,4 @@
--- `pbn::kept_one` meets its contract: by the kind of call.
+-- `pbn_calls::kept_one` meets its contract: by the kind of call.
 -- Assumes nothing.
 use native.Mathlib.Omega.{arith}
 use Rattle.pbn_calls.proofs.CallLaws.{one-kept, one-dropped}

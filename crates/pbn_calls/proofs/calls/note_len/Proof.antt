@@ -1,4 +1,4 @@
--- `pbn::note_len` meets its contract: by the flag.
+-- `pbn_calls::note_len` meets its contract: by the flag.
 -- Assumes nothing.
 use denote.Ref.{now}
 use native.Mathlib.Omega.{arith}

@@ -1,4 +1,4 @@
--- `pbn::put_bid` meets its contract: by the kind of call.
+-- `pbn_calls::put_bid` meets its contract: by the kind of call.
 -- Assumes nothing.
 use Rattle.output.proofs.Laws.{start, finish}
 use Rattle.pbn_calls.proofs.CallLaws.{bid-pass, bid-double, bid-redouble, bid-level, bid-none, level-sound}

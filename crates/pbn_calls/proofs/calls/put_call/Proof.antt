@@ -1,4 +1,4 @@
--- `pbn::put_call` meets its contract: nothing, or two puts.
+-- `pbn_calls::put_call` meets its contract: nothing, or two puts.
 -- Assumes nothing.
 use denote.Ref.{now}
 use Rattle.output.proofs.Laws.{start, roomy, step, finish}

@@ -1,4 +1,4 @@
--- `pbn::put_calls` meets its contract: a turn takes one call off what is left to write.
+-- `pbn_calls::put_calls` meets its contract: a turn takes one call off what is left to write.
 -- Assumes nothing.
 use Prim.Native.Nat.{_-_, _≤_}
 use native.Mathlib.Omega.{arith}

@@ -1,4 +1,4 @@
--- `pbn::put_card` meets its contract: nothing, or one put.
+-- `pbn_calls::put_card` meets its contract: nothing, or one put.
 -- Assumes nothing.
 use Rattle.output.proofs.Laws.{start, finish}
 use Rattle.pbn_calls.proofs.CallLaws.{card-gap, card-kept}

@@ -1,4 +1,4 @@
--- `pbn::put_cards` meets its contract: a turn takes one entry off those that are left to store.
+-- `pbn_calls::put_cards` meets its contract: a turn takes one entry off those that are left to store.
 -- Assumes nothing.
 use Prim.Native.Nat.{_-_, _≤_}
 use native.Mathlib.Omega.{arith}

@@ -1,4 +1,4 @@
--- `pbn::put_level` meets its contract: two puts.
+-- `pbn_calls::put_level` meets its contract: two puts.
 -- Assumes nothing.
 use mathlib.Core.List.{_∷_, []}
 use lib.ListN.{getD}

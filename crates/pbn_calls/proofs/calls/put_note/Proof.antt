@@ -1,4 +1,4 @@
--- `pbn::put_note` meets its contract: by the flag.
+-- `pbn_calls::put_note` meets its contract: by the flag.
 -- Assumes nothing.
 use denote.Ref.{now}
 use Rattle.output.proofs.Laws.{start, finish}

@@ -1,4 +1,4 @@
--- `pbn::put_noted` meets its contract: by the length.
+-- `pbn_calls::put_noted` meets its contract: by the length.
 -- Assumes nothing.
 use Rattle.pbn_calls.proofs.RowLaws.{noted-none, noted-some}
 use borrow.Author.Needs.{needs}

@@ -1,4 +1,4 @@
--- `pbn::put_placed` meets its contract: nothing, or the row of the call.
+-- `pbn_calls::put_placed` meets its contract: nothing, or the row of the call.
 -- Assumes nothing.
 use native.Mathlib.Omega.{arith}
 use denote.Ref.{now}

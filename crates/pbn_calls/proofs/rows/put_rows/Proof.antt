@@ -1,4 +1,4 @@
--- `pbn::put_rows` meets its contract: a turn stores the row of one call, and goes past its texts.
+-- `pbn_calls::put_rows` meets its contract: a turn stores the row of one call, and goes past its texts.
 -- Assumes nothing.
 use Prim.Native.Nat.{_+_, _-_, _≤_}
 use native.Mathlib.Omega.{arith}

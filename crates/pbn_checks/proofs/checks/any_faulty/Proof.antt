@@ -1,4 +1,4 @@
--- `pbn::any_faulty` meets its contract: the names, the texts that may be absent, the calls and the notes.
+-- `pbn_checks::any_faulty` meets its contract: the names, the texts that may be absent, the calls and the notes.
 -- Assumes nothing.
 use Rattle.pbn_checks.proofs.CheckLaws.{in-names, in-event, in-date, in-id, in-raws, in-notes}
 use borrow.Author.Needs.{needs}

@@ -1,4 +1,4 @@
--- `pbn::bad_board_number` meets its contract: in each arm the number is known.
+-- `pbn_checks::bad_board_number` meets its contract: in each arm the number is known.
 -- Assumes nothing.
 use mathlib.Core.Path.{ap, sym}
 use borrow.Author.Needs.{needs}

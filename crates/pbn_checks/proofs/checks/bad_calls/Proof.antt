@@ -1,4 +1,4 @@
--- `pbn::bad_calls` meets its contract: a turn passes a call whose numbers are within their ranges.
+-- `pbn_checks::bad_calls` meets its contract: a turn passes a call whose numbers are within their ranges.
 -- Assumes nothing.
 use Prim.Native.Nat.{_-_, _≤_}
 use native.Mathlib.Omega.{arith}

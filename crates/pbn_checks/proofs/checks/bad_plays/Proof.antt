@@ -1,4 +1,4 @@
--- `pbn::bad_plays` meets its contract: a turn passes a card or a gap.
+-- `pbn_checks::bad_plays` meets its contract: a turn passes a card or a gap.
 -- Assumes nothing.
 use Prim.Native.Nat.{_-_}
 use native.Mathlib.Omega.{arith}

@@ -1,4 +1,4 @@
--- `pbn::bad_record` meets its contract: the number, the calls, the play.
+-- `pbn_checks::bad_record` meets its contract: the number, the calls, the play.
 -- Assumes nothing.
 use mathlib.Core.Path.{sym, _∙_}
 use Rattle.pbn_checks.proofs.CheckLaws.{number-calls, number-plays}

@@ -1,4 +1,4 @@
--- `pbn::check` meets its contract: each verdict by the tests that led there.
+-- `pbn_checks::check` meets its contract: each verdict by the tests that led there.
 -- Assumes nothing.
 use Rattle.pbn_checks.proofs.CheckLaws.{check-long, check-other, check-number, check-past, check-ill, check-good}
 use borrow.Author.Needs.{needs}

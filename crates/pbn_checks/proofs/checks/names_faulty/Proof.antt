@@ -1,4 +1,4 @@
--- `pbn::names_faulty` meets its contract: the names are those of the record.
+-- `pbn_checks::names_faulty` meets its contract: the names are those of the record.
 -- Assumes nothing.
 use mathlib.Core.Path.{ap, _∙_}
 use mathlib.Core.List.{List}

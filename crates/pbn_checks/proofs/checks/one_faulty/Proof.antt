@@ -1,4 +1,4 @@
--- `pbn::one_faulty` meets its contract: a turn passes a name without the fault.
+-- `pbn_checks::one_faulty` meets its contract: a turn passes a name without the fault.
 -- Assumes nothing.
 use Prim.Native.Nat.{_-_}
 use native.Mathlib.Omega.{arith}

@@ -1,4 +1,4 @@
--- `pbn::raw_faulty` meets its contract: the annotation where there is one.
+-- `pbn_checks::raw_faulty` meets its contract: the annotation where there is one.
 -- Assumes nothing.
 use mathlib.Core.Path.{_∙_}
 use borrow.Author.Needs.{needs}

@@ -1,4 +1,4 @@
--- `pbn::raws_faulty` meets its contract: a turn passes a call whose annotation is without the fault.
+-- `pbn_checks::raws_faulty` meets its contract: a turn passes a call whose annotation is without the fault.
 -- Assumes nothing.
 use Prim.Native.Nat.{_-_, _≤_}
 use native.Mathlib.Omega.{arith}

@@ -1,4 +1,4 @@
--- `pbn::name_spans` meets its contract: each starts where the one before it ends.
+-- `pbn_texts::name_spans` meets its contract: each starts where the one before it ends.
 -- Assumes nothing.
 use denote.Ref.{now}
 use native.Mathlib.Omega.{arith}

@@ -1,4 +1,4 @@
--- `pbn::names_len` meets its contract: the sum of the four.
+-- `pbn_texts::names_len` meets its contract: the sum of the four.
 -- Assumes nothing.
 use mathlib.Core.Path.{_≡_}
 use native.Mathlib.Omega.{arith}

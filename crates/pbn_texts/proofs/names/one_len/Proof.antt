@@ -1,4 +1,4 @@
--- `pbn::one_len` meets its contract: nothing, or the length of a name.
+-- `pbn_texts::one_len` meets its contract: nothing, or the length of a name.
 -- Assumes nothing.
 use denote.Ref.{now}
 use mathlib.Core.Path.{ap, sym, _∙_}

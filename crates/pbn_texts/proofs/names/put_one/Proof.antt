@@ -1,4 +1,4 @@
--- `pbn::put_one` meets its contract: nothing, or one put.
+-- `pbn_texts::put_one` meets its contract: nothing, or one put.
 -- Assumes nothing.
 use denote.Ref.{now}
 use Rattle.output.proofs.Laws.{start, finish}

@@ -1,4 +1,4 @@
--- `pbn::raw_len` meets its contract: the sum of the three.
+-- `pbn_texts::raw_len` meets its contract: the sum of the three.
 -- Assumes nothing.
 use denote.Ref.{now}
 use native.Mathlib.Omega.{arith}

@@ -1,4 +1,4 @@
--- `pbn::filled` meets its contract: by the length.
+-- `pbn_texts::filled` meets its contract: by the length.
 -- Assumes nothing.
 use Rattle.pbn_texts.proofs.TextLaws.{filled-empty, filled-full}
 use borrow.Author.Needs.{needs}

@@ -1,4 +1,4 @@
--- `pbn::label_len` meets its contract: by the kind of label.
+-- `pbn_texts::label_len` meets its contract: by the kind of label.
 -- Assumes nothing.
 use mathlib.Core.Path.{ap}
 use lib.ListN.{length}

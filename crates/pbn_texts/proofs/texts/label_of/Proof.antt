@@ -1,4 +1,4 @@
--- `pbn::label_of` meets its contract: by the id, or else by the number.
+-- `pbn_texts::label_of` meets its contract: by the id, or else by the number.
 -- Assumes nothing.
 use Rattle.pbn_texts.proofs.TextLaws.{label-number, label-id}
 use borrow.Author.Needs.{needs}

@@ -1,4 +1,4 @@
--- `pbn::number_label` meets its contract: by the number.
+-- `pbn_texts::number_label` meets its contract: by the number.
 -- Assumes nothing.
 use mathlib.Core.Path.{refl}
 use borrow.Author.Needs.{needs}

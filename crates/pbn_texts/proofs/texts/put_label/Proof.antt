@@ -1,4 +1,4 @@
--- `pbn::put_label` meets its contract: by the kind of label.
+-- `pbn_texts::put_label` meets its contract: by the kind of label.
 -- Assumes nothing.
 use Rattle.output.proofs.Laws.{start, finish}
 use borrow.Author.Needs.{needs}

@@ -1,4 +1,4 @@
--- `pbn::put_labelled` meets its contract: by the label.
+-- `pbn_texts::put_labelled` meets its contract: by the label.
 -- Assumes nothing.
 use denote.Ref.{now}
 use Rattle.output.proofs.Laws.{start, finish}

@@ -1,4 +1,4 @@
--- `pbn::put_span` meets its contract: one put.
+-- `pbn_texts::put_span` meets its contract: one put.
 -- Assumes nothing.
 use borrow.Author.Needs.{needs}
 use Rattle.pbn_texts.proofs.texts.put_span.Statement.{statement}

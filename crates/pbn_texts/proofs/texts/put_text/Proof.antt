@@ -1,4 +1,4 @@
--- `pbn::put_text` meets its contract: nothing, or one put.
+-- `pbn_texts::put_text` meets its contract: nothing, or one put.
 -- Assumes nothing.
 use Rattle.output.proofs.Laws.{start, finish}
 use borrow.Author.Needs.{needs}

@@ -1,4 +1,4 @@
--- `pbn::put_title` meets its contract: by the date.
+-- `pbn_texts::put_title` meets its contract: by the date.
 -- Assumes nothing.
 use denote.Ref.{now}
 use Rattle.pbn_texts.proofs.TextLaws.{title-plain, title-dated}

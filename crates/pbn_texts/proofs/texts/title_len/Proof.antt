@@ -1,4 +1,4 @@
--- `pbn::title_len` meets its contract: by the date.
+-- `pbn_texts::title_len` meets its contract: by the date.
 -- Assumes nothing.
 use denote.Ref.{now}
 use native.Mathlib.Omega.{arith}

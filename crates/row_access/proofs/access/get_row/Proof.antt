@@ -1,4 +1,4 @@
--- `rows::get_row` meets its contract: a walk of its MIR, by hand, with a branch. Where i is below the length the place of `rows[i]` is computed, and element i is copied out of the shared slice.
+-- `row_access::get_row` meets its contract: a walk of its MIR, by hand, with a branch. Where i is below the length the place of `rows[i]` is computed, and element i is copied out of the shared slice.
 -- Assumes nothing.
 use mathlib.Core.Path.{_≡_, refl, sym}
 use Prim.Native.Nat.{ℕ, _<_, _^_}

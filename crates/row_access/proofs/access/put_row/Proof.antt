@@ -1,4 +1,4 @@
--- `rows::put_row` meets its contract: a walk of its MIR, by hand, with a branch. Where i is below the length the place of `rows[i]` is computed, the borrow is opened, element i is taken out of the row and stored to, and the borrow is closed at the list with the row at i.
+-- `row_access::put_row` meets its contract: a walk of its MIR, by hand, with a branch. Where i is below the length the place of `rows[i]` is computed, the borrow is opened, element i is taken out of the row and stored to, and the borrow is closed at the list with the row at i.
 -- Assumes nothing.
 use mathlib.Core.Path.{_≡_, refl, sym, ap, subst}
 use mathlib.Core.Bool.{Bool, true, false}

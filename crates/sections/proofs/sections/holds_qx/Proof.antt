@@ -1,4 +1,4 @@
--- `file::holds_qx` meets its contract: a turn takes a token that is no qx off those that are still to be read.
+-- `sections::holds_qx` meets its contract: a turn takes a token that is no qx off those that are still to be read.
 -- Assumes nothing.
 use Rattle.sections.proofs.SectionLaws.{qx-here, qx-later, no-qx}
 use Rattle.commands.proofs.StepLaws.{commanded}

@@ -1,4 +1,4 @@
--- `file::line_from` meets its contract: the line ends at the next LF or at the end.
+-- `sections::line_from` meets its contract: the line ends at the next LF or at the end.
 -- Assumes nothing.
 use Rattle.sections.proofs.SectionLaws.{line-stop, line-is}
 use native.Mathlib.Omega.{arith}

@@ -1,4 +1,4 @@
--- `file::moved_back` meets its contract.
+-- `sections::moved_back` meets its contract.
 -- Assumes nothing.
 use Rattle.sections.proofs.sections.moved_back.Statement.{statement}
 use Rattle.sections.proofs.sections.moved_back.Tie as tie

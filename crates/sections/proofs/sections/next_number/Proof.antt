@@ -1,4 +1,4 @@
--- `file::next_number` meets its contract.
+-- `sections::next_number` meets its contract.
 -- Assumes nothing.
 use Prim.Native.Nat.{_+_}
 use Rattle.sections.proofs.SectionLaws.{number-stays, number-more}

@@ -1,4 +1,4 @@
--- `file::open_boards` meets its contract.
+-- `sections::open_boards` meets its contract.
 -- Assumes nothing.
 use Rattle.sections.proofs.SectionLaws.{boards-opened, boards-refused}
 use borrow.Author.Needs.{needs}

@@ -1,4 +1,4 @@
--- `file::passed` meets its contract.
+-- `sections::passed` meets its contract.
 -- Assumes nothing.
 use borrow.Author.Needs.{needs}
 use Rattle.sections.proofs.sections.passed.Statement.{statement}

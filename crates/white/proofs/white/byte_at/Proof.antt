@@ -1,4 +1,4 @@
--- `text::white::byte_at` meets its contract: beyond the end the list gives 0 too. (01: Records)
+-- `white::white::byte_at` meets its contract: beyond the end the list gives 0 too. (01: Records)
 -- Assumes nothing.
 use mathlib.Core.Path.{sym}
 use lib.ListN.{List·getD-eq-default}

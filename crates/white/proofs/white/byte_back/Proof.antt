@@ -1,4 +1,4 @@
--- `text::white::byte_back` meets its contract: before the start the definition gives 0 too. (01: Records)
+-- `white::white::byte_back` meets its contract: before the start the definition gives 0 too. (01: Records)
 -- Assumes nothing.
 use borrow.Author.Tests.{le-leb, lt-leb}
 use borrow.Author.Needs.{needs}

@@ -1,4 +1,4 @@
--- `text::is_blank` meets its contract: a text that trims to nothing is blank. (01: Records, trim)
+-- `white::is_blank` meets its contract: a text that trims to nothing is blank. (01: Records, trim)
 -- Assumes nothing.
 use borrow.Author.Needs.{needs}
 use Rattle.white.proofs.WhiteLaws.{blank-is}

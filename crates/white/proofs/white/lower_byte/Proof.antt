@@ -1,4 +1,4 @@
--- `text::white::lower_byte` meets its contract: a byte below A, above Z, and between. (01: Tokens)
+-- `white::white::lower_byte` meets its contract: a byte below A, above Z, and between. (01: Tokens)
 -- Assumes nothing.
 use mathlib.Core.Bool.{and-false}
 use borrow.Author.Tests.{le-leb, lt-leb}

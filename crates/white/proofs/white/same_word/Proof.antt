@@ -1,4 +1,4 @@
--- `text::white::same_word` meets its contract: what is left at i decides as the whole does. The measure is what is left. (01: Tokens)
+-- `white::white::same_word` meets its contract: what is left at i decides as the whole does. The measure is what is left. (01: Tokens)
 -- Assumes nothing.
 use Prim.Native.Nat.{_-_}
 use native.Mathlib.Omega.{arith}

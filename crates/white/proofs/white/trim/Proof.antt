@@ -1,4 +1,4 @@
--- `text::white::trim` meets its contract: a text with plain ends stays. (01: Records)
+-- `white::white::trim` meets its contract: a text with plain ends stays. (01: Records)
 -- Assumes nothing.
 use mathlib.Core.Path.{sym}
 use borrow.Author.Needs.{needs}

@@ -1,4 +1,4 @@
--- `text::white::trim_ends` meets its contract: the end is trimmed after the start. (01: Records)
+-- `white::white::trim_ends` meets its contract: the end is trimmed after the start. (01: Records)
 -- Assumes nothing.
 use mathlib.Core.Path.{sym}
 use lib.Seq.{length-take-le}

@@ -1,4 +1,4 @@
--- `text::white::white1` meets its contract: the test is the definition, by one law. (01: Records)
+-- `white::white::white1` meets its contract: the test is the definition, by one law. (01: Records)
 -- Assumes nothing.
 use Rattle.white.proofs.WhiteLaws.{white₁-is}
 use Rattle.white.proofs.white.white1.Statement.{statement}

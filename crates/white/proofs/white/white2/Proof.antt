@@ -1,4 +1,4 @@
--- `text::white::white2` meets its contract: the test is the definition, by one law. (01: Records)
+-- `white::white::white2` meets its contract: the test is the definition, by one law. (01: Records)
 -- Assumes nothing.
 use Rattle.white.proofs.WhiteLaws.{white₂-is}
 use Rattle.white.proofs.white.white2.Statement.{statement}

@@ -1,4 +1,4 @@
--- `text::white::white3` meets its contract: the test is the definition, by one law. (01: Records)
+-- `white::white::white3` meets its contract: the test is the definition, by one law. (01: Records)
 -- Assumes nothing.
 use Rattle.white.proofs.WhiteLaws.{white₃-is}
 use Rattle.white.proofs.white.white3.Statement.{statement}
