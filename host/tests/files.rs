@@ -1,6 +1,10 @@
 //! The file reader and the name finder against the oracle, document 01's
 //! examples of them, and the growth of their times.
 
+#[path = "../src/bench/clock.rs"]
+mod clock;
+
+use clock::milliseconds;
 use lin_host_rust::{
     boards::{Call, Seat},
     compare,
@@ -8,7 +12,6 @@ use lin_host_rust::{
     model, samples, Refusal, RowKind, LIMIT,
 };
 use oracle::{random::Rng, records, texts};
-use std::time::{Duration, Instant};
 
 fn compared(text: &[u8]) {
     if let Err(difference) = compare::file(text) {
@@ -371,14 +374,14 @@ fn walk(text: &[u8]) -> (u64, u64) {
     unreachable!()
 }
 
-/// The least of some times.
-fn time(text: &[u8]) -> Duration {
+/// The least of some times, in milliseconds.
+fn time(text: &[u8]) -> f64 {
     let once = || {
-        let start = Instant::now();
+        let start = milliseconds();
         walk(text);
-        start.elapsed()
+        milliseconds() - start
     };
-    (0..5).map(|_| once()).min().unwrap()
+    (0..5).map(|_| once()).fold(f64::INFINITY, f64::min)
 }
 
 /// A whole text within the bound, and twice the text in at most three times
@@ -387,12 +390,12 @@ fn grows(unit: &str, times: usize, boards: u64, sections: u64) {
     let whole = repeated(unit, times, LIMIT);
     assert_eq!(walk(&whole), (boards, sections));
     let half = repeated(unit, times / 2, LIMIT / 2);
-    let slack = Duration::from_millis(2);
+    let slack = 2.0;
     let mut seen = Vec::new();
     for _ in 0..4 {
         let (short, long) = (time(&half), time(&whole));
-        assert!(long < Duration::from_secs(5), "{long:?}");
-        if long <= 3 * short + slack {
+        assert!(long < 5000.0, "{long:?}");
+        if long <= 3.0 * short + slack {
             return;
         }
         seen.push((short, long));
