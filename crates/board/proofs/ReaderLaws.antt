@@ -47,7 +47,7 @@ use Rattle.document.specs.declared.tokens.Cursor.{Cursor}
 use Rattle.document.specs.declared.tokens.Opened.{Opened}
 use Rattle.document.specs.declared.tokens.Opened.the-variants.{At, Refused as Shut}
 use Rattle.lin_spec.specs.Lent.{claimOf}
-use Rattle.commands.specs.Fields.{more}
+use Rattle.fields.specs.Fields.{more}
 use Rattle.board_steps.specs.Head.{freshHead, onCount, onCard, Leaves}
 use Rattle.board_steps.specs.Dealing.{held, dealtFrom}
 use Rattle.board_steps.specs.Calls.{isPresent, placeOf, rowOf, rowWords, with, callsAfter, callsFrom}

@@ -21,7 +21,7 @@ use Rattle.lin_spec.specs.declared.Seat.{Seat}
 use Rattle.lin_spec.specs.declared.Seat.the-variants.{South, West, North, East}
 use Rattle.lin_spec.proofs.White.{trim-most}
 use Rattle.lin_spec.proofs.Rules.{over-change, md-skipped, md-whole}
-use Rattle.commands.specs.Fields.{isDealer, lastMd}
+use Rattle.fields.specs.Fields.{isDealer, lastMd}
 use Rattle.board_steps.specs.Head.{onLast}
 use Rattle.board_steps.specs.Dealing.{held, dealtFrom}
 use Rattle.lin_spec.specs.declared.Deal.{Deal}

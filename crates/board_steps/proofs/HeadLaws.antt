@@ -22,7 +22,7 @@ use Rattle.lin_spec.proofs.Base.{picked}
 use Rattle.lin_spec.proofs.Records.{part-length}
 use Rattle.commands.specs.Commands.{words, commandOf}
 use Rattle.commands.specs.Steps.{TokenAt}
-use Rattle.commands.specs.Fields.{more}
+use Rattle.fields.specs.Fields.{more}
 use Rattle.board_steps.specs.Head.{freshHead, Stepped, onLast, onCount, onCard, Leaves}
 use Rattle.board_steps.specs.declared.heading.Head.{Head}
 use Rattle.commands.proofs.CommandLaws.{code-is}

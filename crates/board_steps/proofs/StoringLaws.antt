@@ -25,7 +25,7 @@ use Rattle.lin_spec.specs.declared.Call.{Call}
 use Rattle.output.specs.Put.{Room, Put}
 use Rattle.output.proofs.Laws.{overlay-nil, overlay-overlay, length-overlay}
 use Rattle.commands.specs.Steps.{TokenAt}
-use Rattle.commands.specs.Fields.{more}
+use Rattle.fields.specs.Fields.{more}
 use Rattle.commands.proofs.StepLaws.{command-is}
 use Rattle.board_steps.specs.Head.{boardAt, freshHead, Stepped}
 use Rattle.board_steps.specs.Calls.{rowOf, rowWords}

@@ -16,7 +16,7 @@ use Rattle.lin_spec.specs.declared.MaybeSpan.the-variants.{Absent}
 use Rattle.lin_spec.specs.declared.MaybeClaim.the-variants.{Absent as NoClaim}
 use Rattle.lin_spec.specs.declared.Vulnerability.the-variants.{None}
 use Rattle.lin_spec.specs.Lent.{claimOf}
-use Rattle.commands.specs.Fields.{lastMd, more}
+use Rattle.fields.specs.Fields.{lastMd, more}
 use Rattle.board_steps.specs.declared.heading.Head.{Head}
 
 -- the board that the tokens of a text from a place on give

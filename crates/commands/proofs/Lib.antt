@@ -1,4 +1,3 @@
 pub mod CommandLaws
 pub mod StepLaws
 pub mod PlainLaws
-pub mod FieldLaws

@@ -1,4 +1,3 @@
 pub mod Commands
 pub mod Steps
 pub mod Plain
-pub mod Fields

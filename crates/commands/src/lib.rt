@@ -1,6 +1,5 @@
-// The commands that a board knows: one token at a time with its command's number, and what each command gives to a heading. (01: Tokens, Board)
+// The commands that a board knows: one token at a time with its command's number. (01: Tokens, Board)
 mod commands;
-mod fields;
 mod plain;
 mod steps;
 
@@ -16,14 +15,6 @@ pub use commands::QX;
 pub use commands::SV;
 pub use commands::command_at;
 pub use commands::mark_at;
-pub use fields::on_card;
-pub use fields::on_claim;
-pub use fields::on_count;
-pub use fields::on_md;
-pub use fields::on_names;
-pub use fields::on_present;
-pub use fields::on_sv;
-pub use fields::on_value;
 pub use plain::after_line;
 pub use plain::command_end;
 pub use plain::passed_len;

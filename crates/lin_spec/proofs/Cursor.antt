@@ -55,6 +55,9 @@ find-within c (b ∷ s) zero = go (eqb b c) (find-within c s zero)
     go false h = suc-le-suc h
 find-within c (b ∷ s) (suc i) = suc-le-suc (find-within c s i)
 
+pub find-most : (c : ℕ) (s : List ℕ) (i e : ℕ) → e ≡ findFrom c s i → e ≤ length s
+find-most c s i e h = rw h (find-within c s i)
+
 pub find-after : (c : ℕ) (s : List ℕ) (i : ℕ) → findFrom c s i < length s → i ≤ findFrom c s i
 unfolding findFrom
 find-after c [] i h = absurd (not-suc-le-zero h)

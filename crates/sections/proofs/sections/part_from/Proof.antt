@@ -3,7 +3,7 @@
 use Rattle.sections.proofs.SectionLaws.{Walks, walks-begin, walks-end, marks-stop, marks-on, passes-on}
 use Rattle.commands.proofs.StepLaws.{pipes-none, pipes-command, pipes-token}
 use Rattle.commands.proofs.PlainLaws.{passed-token}
-use Rattle.commands.proofs.FieldLaws.{find-most}
+use Rattle.lin_spec.proofs.Cursor.{find-most}
 use mathlib.Core.Path.{refl}
 use lib.ListN.{length}
 use native.Mathlib.Omega.{arith}

@@ -1,12 +1,12 @@
--- `commands::on_md` meets its contract: by the dealer's digit.
+-- `fields::on_md` meets its contract: by the dealer's digit.
 -- Assumes nothing.
-use Rattle.commands.proofs.FieldLaws.{off, changed}
+use Rattle.fields.proofs.FieldLaws.{off, changed}
 use mathlib.Core.Path.{ap, sym, _∙_}
 use Rattle.lin_spec.specs.White.{trim}
-use Rattle.commands.specs.Fields.{isDealer}
+use Rattle.fields.specs.Fields.{isDealer}
 use borrow.Author.Needs.{needs}
-use Rattle.commands.proofs.fields.on_md.Statement.{statement}
-use Rattle.commands.proofs.fields.on_md.Tie as tie
+use Rattle.fields.proofs.fields.on_md.Statement.{statement}
+use Rattle.fields.proofs.fields.on_md.Tie as tie
 
 -- src/fields.rt:131:9
 returns : tie.Need-returns

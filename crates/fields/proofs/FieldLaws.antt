@@ -23,7 +23,7 @@ use Rattle.lin_spec.proofs.Base.{split}
 use Rattle.lin_spec.proofs.Records.{part-length}
 use Rattle.lin_spec.proofs.Reading.{part-most}
 use Rattle.lin_spec.proofs.Cursor.{find-within, find-after, cut-at, cut-end}
-use Rattle.commands.specs.Fields.{isDealer, namesFrom}
+use Rattle.fields.specs.Fields.{isDealer, namesFrom}
 
 -- a field that the command does not change, and one that it does
 pub off : {A : Type 0} (t : Bool) (a b : A) → not t ≡ true → b ≡ pick t a b
@@ -67,9 +67,6 @@ module _ (s : List ℕ) (a b : Bool) (ea : a ≡ sameWord s (ascii "n")) (eb : b
       sv-none l = simp (← ea, ← eb, h, ← ec, ← ed, k, ← ee, ← ef, ← eg, l)
 
 -- a byte that was looked for stands within the text, or is its end
-pub find-most : (c : ℕ) (s : List ℕ) (i e : ℕ) → e ≡ findFrom c s i → e ≤ length s
-find-most c s i e h = rw h (find-within c s i)
-
 -- pn: names to the left of a seat are set, those to the right are still to be set from the pieces of the rest
 
 pub record Named (value : List ℕ) (start : ℕ) (old names : List Span) (place seat : ℕ) : Type 0 where

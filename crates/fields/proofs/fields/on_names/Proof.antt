@@ -1,15 +1,15 @@
--- `commands::on_names` meets its contract: the pieces of the value.
+-- `fields::on_names` meets its contract: the pieces of the value.
 -- Assumes nothing.
 use mathlib.Core.Path.{ap, _∙_}
 use mathlib.Core.List.{List}
 use Prim.Native.Nat.{ℕ}
 use denote.Ref.{now}
 use Rattle.lin_spec.specs.Tokens.{cut}
-use Rattle.commands.specs.Fields.{namesFrom}
-use Rattle.commands.proofs.FieldLaws.{off, changed, names-by, value-end}
+use Rattle.fields.specs.Fields.{namesFrom}
+use Rattle.fields.proofs.FieldLaws.{off, changed, names-by, value-end}
 use borrow.Author.Needs.{needs}
-use Rattle.commands.proofs.fields.on_names.Statement.{statement}
-use Rattle.commands.proofs.fields.on_names.Tie as tie
+use Rattle.fields.proofs.fields.on_names.Statement.{statement}
+use Rattle.fields.proofs.fields.on_names.Tie as tie
 
 -- src/fields.rt:63:9
 returns : tie.Need-returns

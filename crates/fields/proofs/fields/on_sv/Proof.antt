@@ -1,12 +1,12 @@
--- `commands::on_sv` meets its contract: the trimmed value.
+-- `fields::on_sv` meets its contract: the trimmed value.
 -- Assumes nothing.
-use Rattle.commands.proofs.FieldLaws.{off, changed}
+use Rattle.fields.proofs.FieldLaws.{off, changed}
 use mathlib.Core.Path.{ap, _∙_}
 use Rattle.lin_spec.specs.White.{trim}
 use Rattle.lin_spec.specs.Board.{readSv}
 use borrow.Author.Needs.{needs}
-use Rattle.commands.proofs.fields.on_sv.Statement.{statement}
-use Rattle.commands.proofs.fields.on_sv.Tie as tie
+use Rattle.fields.proofs.fields.on_sv.Statement.{statement}
+use Rattle.fields.proofs.fields.on_sv.Tie as tie
 
 -- src/fields.rt:111:9
 returns : tie.Need-returns

@@ -1,15 +1,15 @@
--- `commands::on_card` meets its contract: the trimmed value.
+-- `fields::on_card` meets its contract: the trimmed value.
 -- Assumes nothing.
 use mathlib.Core.Path.{ap, _∙_}
 use mathlib.Core.Option.{Option}
 use Prim.Native.Nat.{ℕ}
 use Rattle.lin_spec.specs.White.{trim}
 use Rattle.lin_spec.specs.Cards.{readCard}
-use Rattle.commands.specs.Fields.{more}
-use Rattle.commands.proofs.FieldLaws.{off, changed}
+use Rattle.fields.specs.Fields.{more}
+use Rattle.fields.proofs.FieldLaws.{off, changed}
 use borrow.Author.Needs.{needs}
-use Rattle.commands.proofs.fields.on_card.Statement.{statement}
-use Rattle.commands.proofs.fields.on_card.Tie as tie
+use Rattle.fields.proofs.fields.on_card.Statement.{statement}
+use Rattle.fields.proofs.fields.on_card.Tie as tie
 
 -- src/fields.rt:180:9
 returns : tie.Need-returns

@@ -26,7 +26,7 @@ ghost use Rattle.lin_spec.specs.Reading.{spanText};
 ghost use Rattle.lin_spec.specs.Cards.{readCard};
 ghost use Rattle.lin_spec.specs.Lent.{claimOf};
 ghost use Rattle.cards.specs.Letters.{maybeOf};
-ghost use Rattle.commands.specs.Fields.{isDealer, lastMd, namesFrom, more};
+ghost use Rattle.fields.specs.Fields.{isDealer, lastMd, namesFrom, more};
 
 // mn, qx: the value; empty makes it absent.
 pub fn on_value(on: bool, v: Span, old: MaybeSpan) -> MaybeSpan

@@ -1,15 +1,15 @@
--- `commands::on_claim` meets its contract: the number of the trimmed value, or none.
+-- `fields::on_claim` meets its contract: the number of the trimmed value, or none.
 -- Assumes nothing.
 use Rattle.digits.proofs.DigitLaws.{number-most}
-use Rattle.commands.proofs.FieldLaws.{off, changed}
+use Rattle.fields.proofs.FieldLaws.{off, changed}
 use Rattle.lin_spec.specs.Board.{numberIn}
 use Rattle.lin_spec.specs.White.{trim}
 use Rattle.digits.specs.Digits.{numberOf}
 use mathlib.Core.Path.{ap, sym, _∙_}
 use native.Mathlib.Omega.{arith}
 use borrow.Author.Needs.{needs}
-use Rattle.commands.proofs.fields.on_claim.Statement.{statement}
-use Rattle.commands.proofs.fields.on_claim.Tie as tie
+use Rattle.fields.proofs.fields.on_claim.Statement.{statement}
+use Rattle.fields.proofs.fields.on_claim.Tie as tie
 
 -- src/fields.rt:147:9
 returns : tie.Need-returns

@@ -1,8 +1,8 @@
--- `commands::counted` meets its contract: by the case of the card.
+-- `fields::counted` meets its contract: by the case of the card.
 -- Assumes nothing.
 use borrow.Author.Needs.{needs}
-use Rattle.commands.proofs.fields.counted.Statement.{statement}
-use Rattle.commands.proofs.fields.counted.Tie as tie
+use Rattle.fields.proofs.fields.counted.Statement.{statement}
+use Rattle.fields.proofs.fields.counted.Tie as tie
 
 -- src/fields.rt:190:31
 enum-told : tie.Need-enum-told

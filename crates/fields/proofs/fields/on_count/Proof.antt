@@ -1,10 +1,10 @@
--- `commands::on_count` meets its contract: by the test.
+-- `fields::on_count` meets its contract: by the test.
 -- Assumes nothing.
 use mathlib.Core.Path.{refl}
-use Rattle.commands.proofs.FieldLaws.{off, changed}
+use Rattle.fields.proofs.FieldLaws.{off, changed}
 use borrow.Author.Needs.{needs}
-use Rattle.commands.proofs.fields.on_count.Statement.{statement}
-use Rattle.commands.proofs.fields.on_count.Tie as tie
+use Rattle.fields.proofs.fields.on_count.Statement.{statement}
+use Rattle.fields.proofs.fields.on_count.Tie as tie
 
 -- src/fields.rt:169:9
 returns : tie.Need-returns

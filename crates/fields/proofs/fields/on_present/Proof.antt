@@ -1,10 +1,10 @@
--- `commands::on_present` meets its contract: by the test.
+-- `fields::on_present` meets its contract: by the test.
 -- Assumes nothing.
-use Rattle.commands.proofs.FieldLaws.{off, changed}
+use Rattle.fields.proofs.FieldLaws.{off, changed}
 use mathlib.Core.Path.{refl}
-use Rattle.commands.proofs.FieldLaws.{off, changed}
-use Rattle.commands.proofs.fields.on_present.Statement.{statement}
-use Rattle.commands.proofs.fields.on_present.Tie as tie
+use Rattle.fields.proofs.FieldLaws.{off, changed}
+use Rattle.fields.proofs.fields.on_present.Statement.{statement}
+use Rattle.fields.proofs.fields.on_present.Tie as tie
 
 -- src/fields.rt:52:9
 returns : tie.Need-returns

@@ -1,9 +1,9 @@
--- `commands::is_dealer` meets its contract: the first byte, if there is one.
+-- `fields::is_dealer` meets its contract: the first byte, if there is one.
 -- Assumes nothing.
-use Rattle.commands.proofs.FieldLaws.{dealer-none, dealer-here}
+use Rattle.fields.proofs.FieldLaws.{dealer-none, dealer-here}
 use borrow.Author.Needs.{needs}
-use Rattle.commands.proofs.fields.is_dealer.Statement.{statement}
-use Rattle.commands.proofs.fields.is_dealer.Tie as tie
+use Rattle.fields.proofs.fields.is_dealer.Statement.{statement}
+use Rattle.fields.proofs.fields.is_dealer.Tie as tie
 
 -- src/fields.rt:121:9
 returns : tie.Need-returns

@@ -1,12 +1,13 @@
--- `commands::split_names` meets its contract: a turn sets one name from the next piece.
+-- `fields::split_names` meets its contract: a turn sets one name from the next piece.
 -- Assumes nothing.
 use borrow.Author.Needs.{needs}
 use Prim.Native.Nat.{_-_}
 use native.Mathlib.Omega.{arith}
 use mathlib.Core.Path.{refl}
-use Rattle.commands.proofs.FieldLaws.{Named, find-most, name-place, name-last, name-next, names-done}
-use Rattle.commands.proofs.fields.split_names.Statement.{statement}
-use Rattle.commands.proofs.fields.split_names.Tie as tie
+use Rattle.lin_spec.proofs.Cursor.{find-most}
+use Rattle.fields.proofs.FieldLaws.{Named, name-place, name-last, name-next, names-done}
+use Rattle.fields.proofs.fields.split_names.Statement.{statement}
+use Rattle.fields.proofs.fields.split_names.Tie as tie
 
 abbrev Inv-loop : tie.InvT-loop
 Inv-loop value start names₀ place₀ seat₀ names place seat = Named value start names₀ names place seat

@@ -1,9 +1,9 @@
--- `commands::read_sv` meets its contract: each test is that of an answer.
+-- `fields::read_sv` meets its contract: each test is that of an answer.
 -- Assumes nothing.
-use Rattle.commands.proofs.FieldLaws.{sv-n, sv-e, sv-b, sv-none}
+use Rattle.fields.proofs.FieldLaws.{sv-n, sv-e, sv-b, sv-none}
 use borrow.Author.Needs.{needs}
-use Rattle.commands.proofs.fields.read_sv.Statement.{statement}
-use Rattle.commands.proofs.fields.read_sv.Tie as tie
+use Rattle.fields.proofs.fields.read_sv.Statement.{statement}
+use Rattle.fields.proofs.fields.read_sv.Tie as tie
 
 -- src/fields.rt:95:21
 slice-aggregate-same-word : tie.Need-slice-aggregate-same-word

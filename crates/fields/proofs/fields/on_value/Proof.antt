@@ -1,9 +1,9 @@
--- `commands::on_value` meets its contract: by the tests.
+-- `fields::on_value` meets its contract: by the tests.
 -- Assumes nothing.
-use Rattle.commands.proofs.FieldLaws.{off, changed}
+use Rattle.fields.proofs.FieldLaws.{off, changed}
 use borrow.Author.Tests.{eq-eqb, ne-eqb}
-use Rattle.commands.proofs.fields.on_value.Statement.{statement}
-use Rattle.commands.proofs.fields.on_value.Tie as tie
+use Rattle.fields.proofs.fields.on_value.Statement.{statement}
+use Rattle.fields.proofs.fields.on_value.Tie as tie
 
 -- src/fields.rt:39:9
 returns : tie.Need-returns
