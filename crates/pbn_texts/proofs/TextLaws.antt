@@ -17,7 +17,8 @@ use Rattle.lin_spec.specs.declared.MaybeSpan.the-variants.{Absent, Present}
 use Rattle.lin_spec.specs.declared.MaybeNumber.{MaybeNumber}
 use Rattle.pbn_texts.specs.declared.texts.Label.{Label}
 use Rattle.pbn_texts.specs.declared.texts.Label.the-variants.{Id}
-use Rattle.pbn_texts.specs.Texts.{labelBy, labelled, labelBytes, emptyBy, datedText, titleText, labelsText, labelledText, roomText}
+use Rattle.cleaning.specs.Texts.{emptyOr}
+use Rattle.pbn_texts.specs.Texts.{labelBy, labelled, labelBytes, datedText, titleText, labelsText, labelledText, roomText}
 
 -- a text that is present, by its length
 
@@ -45,7 +46,7 @@ module _ (s : List ℕ) (id m : MaybeSpan) (n : MaybeNumber) (e : textBy s m ≡
   label-id y k = ap (λ (o : Option (List ℕ)). labelOf o n) (ap (textBy s) (sym k) ∙ e)
 
 -- the title, by the date
-pub title-plain : (s : List ℕ) (e d : MaybeSpan) → d ≡ Absent → titleText s e d ≡ emptyBy s e
+pub title-plain : (s : List ℕ) (e d : MaybeSpan) → d ≡ Absent → titleText s e d ≡ emptyOr s e
 title-plain s e d k = ap (titleText s e) k
 
 pub title-dated : (s : List ℕ) (e d : MaybeSpan) (y : Span) → d ≡ Present y → titleText s e d ≡ datedText s e y
@@ -56,7 +57,7 @@ title-dated s e d y k = ap (titleText s e) k ∙ go (textBy s e)
     go none = ap (λ (t : List ℕ). ascii " - " ++ t) (sym (append-nil (bytesAt s y)))
     go (some t) = ap (λ (u : List ℕ). t ++ (ascii " - " ++ u)) (sym (append-nil (bytesAt s y)))
 
-pub dated-long : (s : List ℕ) (e : MaybeSpan) (y : Span) → length (datedText s e y) ≡ length (emptyBy s e) + (3 + length (bytesAt s y))
+pub dated-long : (s : List ℕ) (e : MaybeSpan) (y : Span) → length (datedText s e y) ≡ length (emptyOr s e) + (3 + length (bytesAt s y))
 unfolding datedText
 dated-long s e y = simp (length-append, append-nil) (omega arith)
 

@@ -11,6 +11,7 @@ use Rattle.lin_spec.specs.Pbn.{titleOf, textBy}
 use Rattle.lin_spec.specs.declared.Span.{Span}
 use Rattle.lin_spec.specs.declared.MaybeSpan.{MaybeSpan}
 use Rattle.output.specs.Put.{joined}
+use Rattle.cleaning.specs.Texts.{emptyOr}
 use Rattle.pbn_texts.specs.declared.texts.Label.{Label}
 use Rattle.pbn_texts.specs.declared.texts.Label.the-variants.{Absent, Id, Number}
 
@@ -28,13 +29,9 @@ labelled (Number n) = true
 abbrev pub labelBytes : (s : List ℕ) → Label → List ℕ
 labelBytes s l = orEmpty (labelBy s l)
 
--- the bytes of a text, none where it is absent
-abbrev pub emptyBy : (s : List ℕ) → MaybeSpan → List ℕ
-emptyBy s x = orEmpty (textBy s x)
-
 -- a title that has a date, and any
 abbrev pub datedPieces : (s : List ℕ) (event : MaybeSpan) (date : Span) → List (List ℕ)
-datedPieces s e d = emptyBy s e ∷ ascii " - " ∷ bytesAt s d ∷ []
+datedPieces s e d = emptyOr s e ∷ ascii " - " ∷ bytesAt s d ∷ []
 
 unfoldable pub datedText : (s : List ℕ) (event : MaybeSpan) (date : Span) → List ℕ
 datedText s e d = joined (datedPieces s e d)

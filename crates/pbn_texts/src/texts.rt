@@ -18,7 +18,8 @@ ghost use Rattle.lin_spec.specs.Records.{bytesAt};
 ghost use Rattle.lin_spec.specs.Refusals.{sat};
 ghost use Rattle.lin_spec.specs.Pbn.{labelOf, textBy, filledBy};
 ghost use Rattle.output.specs.Put.{Room, Put};
-ghost use Rattle.pbn_texts.specs.Texts.{labelBy, labelled, labelBytes, emptyBy, datedText, titleText, labelsText, labelledText, roomText};
+ghost use Rattle.cleaning.specs.Texts.{emptyOr};
+ghost use Rattle.pbn_texts.specs.Texts.{labelBy, labelled, labelBytes, datedText, titleText, labelsText, labelledText, roomText};
 
 const DASH: [u8; 3] = *b" - ";
 
@@ -114,8 +115,8 @@ pub(crate) fn label_len(text: &[u8], l: Label) -> u64
 
 // Puts a text, nothing where it is absent.
 fn put_text(out: &mut [u8], at: usize, text: &[u8], x: MaybeSpan) -> usize
-    requires { ⌜ Room (now out) at (emptyBy (now text) x) ⌝ }
-    ensures { λ r. ⌜ Put (now (out .entry)) at (emptyBy (now (text .entry)) x) (now (out .exit)) r ⌝ }
+    requires { ⌜ Room (now out) at (emptyOr (now text) x) ⌝ }
+    ensures { λ r. ⌜ Put (now (out .entry)) at (emptyOr (now (text .entry)) x) (now (out .exit)) r ⌝ }
 {
     match x {
         MaybeSpan::Absent => at,
