@@ -10,6 +10,7 @@ use commands::PN;
 use commands::QX;
 use commands::SV;
 use commands::after_line;
+use commands::is_page;
 use commands::next_known;
 use commands::plain_card;
 use document::Cursor;
@@ -110,6 +111,8 @@ pub fn read_head(text: &[u8], at: usize) -> Head
         if plain_card(text, a) < 52 {
             h.cards = on_count(true, h.cards);
             c = a + 6;
+        } else if is_page(text, a) {
+            c = a + 4;
         } else {
             let Known::Token(k, v, next) = next_known(text, Cursor { at: c }) else {
                 return h;

@@ -11,6 +11,7 @@ use commands::MB;
 use commands::MC;
 use commands::PC;
 use commands::after_line;
+use commands::is_page;
 use commands::next_known;
 use commands::plain_card;
 use document::Cursor;
@@ -76,6 +77,8 @@ pub fn read_into(text: &[u8], at: usize, rows: &mut [u32], cards: &mut [u8]) -> 
         if card < 52 {
             h.cards = put_byte(cards, h.cards, card);
             c = a + 6;
+        } else if is_page(text, a) {
+            c = a + 4;
         } else {
             let Known::Token(k, v, next) = next_known(text, Cursor { at: c }) else {
                 return h;

@@ -7,19 +7,22 @@ use native.Mathlib.Omega.{arith}
 use mathlib.Core.Path.{_≡_, refl, ap, sym, _∙_}
 use mathlib.Core.Bool.{Bool, true, false, _&&_}
 use mathlib.Core.List.{List, [], _++_, append-assoc, append-nil}
-use lib.ListN.{length, getD, set, take, drop, replicate, length-append, length-replicate, drop-of-length-le, replicate-append-replicate}
-use lib.Seq.{take-at, drop-at, drop-drop, take-all, paste, paste-suc}
+use lib.ListN.{length, getD, set, take, drop, replicate, length-append, length-replicate, drop-of-length-le, replicate-append-replicate, List·getD-append}
+use lib.Seq.{take-at, drop-at, drop-drop, length-take-le, take-all, getD-take, paste, paste-suc}
+use lib.Dec.{eqb}
 use Rattle.lin_spec.specs.Records.{part}
 use Rattle.lin_spec.specs.White.{blank}
 use Rattle.lin_spec.specs.Tokens.{Pieces, cut}
 use Rattle.lin_spec.specs.Tokens.Pieces.{end, piece}
 use Rattle.lin_spec.specs.Cursor.{findFrom}
-use Rattle.lin_spec.specs.Cards.{readHand, field, remainder, thirteens, dealOf, eastOf}
+use Rattle.lin_spec.specs.Base.{pick}
+use Rattle.lin_spec.specs.Cards.{noCards, readHand, field, remainder, thirteens, dealOf, eastOf}
 use Rattle.lin_spec.proofs.Base.{split}
-use Rattle.lin_spec.proofs.Records.{part-rest}
+use Rattle.lin_spec.proofs.Records.{part-rest, part-length}
 use Rattle.lin_spec.proofs.Cursor.{cut-at, cut-end}
-use Rattle.lin_spec.proofs.Cards.{field-length}
-use Rattle.cards.specs.Deals.{others, placed}
+use Rattle.lin_spec.proofs.Cards.{field-length, hand-length}
+use Rattle.cards.specs.Deals.{others, placed, handOf}
+use Rattle.cards.proofs.HandLaws.{part-long, count-at, Three, all, rest-at}
 
 -- Fields
 
@@ -109,19 +112,95 @@ put-step p h d x k m lp ed ex =
     let back : drop (k * 52) (p ++ z) ≡ z = drop-at p z (k * 52) lp in
     ex ∙ rw (ed, front, ← drop-drop 52 (k * 52) (p ++ z), back, drop-zeros 52 m) (sym (append-assoc p h (replicate m 0)))
 
--- four hands stored one after the other
-pub four-put : (s w n e d₀ d₁ d₂ d₃ d₄ : List ℕ) → d₀ ≡ replicate 208 0 → d₁ ≡ placed d₀ 0 s → d₂ ≡ placed d₁ 1 w → d₃ ≡ placed d₂ 2 n
-    → d₄ ≡ placed d₃ 3 e → length s ≡ 52 → length w ≡ 52 → length n ≡ 52 → d₄ ≡ s ++ (w ++ (n ++ e))
-four-put s w n e d₀ d₁ d₂ d₃ d₄ e₀ e₁ e₂ e₃ e₄ ls lw ln =
-    let p₁ : d₁ ≡ s ++ replicate 156 0 = put-step [] s d₀ d₁ 0 156 refl e₀ e₁ in
-    let p₂ : d₂ ≡ (s ++ w) ++ replicate 104 0 = put-step s w d₁ d₂ 1 104 ls p₁ e₂ in
-    let l₂ : length (s ++ w) ≡ 104 = simp (length-append, ls, lw) in
-    let p₃ : d₃ ≡ ((s ++ w) ++ n) ++ replicate 52 0 = put-step (s ++ w) n d₂ d₃ 2 52 l₂ p₂ e₃ in
-    let l₃ : length ((s ++ w) ++ n) ≡ 156 = simp (length-append, ls, lw, ln) in
-    put-step ((s ++ w) ++ n) e d₃ d₄ 3 0 l₃ p₃ e₄ ∙ simp (append-nil, append-assoc)
+-- The deal so far: k hands, and no cards after them
+
+pub record Dealing (d p : List ℕ) (k m : ℕ) : Type 0 where
+  pub long : length p ≡ k * 52
+  pub is : d ≡ p ++ replicate m 0
+
+pub dealing-none : Dealing (replicate 208 0) [] 0 208
+dealing-none = record { long = refl; is = refl }
+
+module _ (d p : List ℕ) (k m : ℕ) (v : Dealing d p k (52 + m)) where
+  -- there is place for a hand
+  pub dealing-room : part d (k * 52) 52 ≡ noCards
+  unfolding part
+  dealing-room =
+      let e : drop (k * 52) d ≡ replicate (52 + m) 0 = ap (drop (k * 52)) (v .is) ∙ drop-at p (replicate (52 + m) 0) (k * 52) (v .long) in
+      ap (take 52) (e ∙ sym (replicate-append-replicate 52 m 0)) ∙ take-at (replicate 52 0) (replicate m 0) 52 refl
+
+  -- it is stored there
+  pub dealing-more : (x h : List ℕ) → x ≡ placed d k h → length h ≡ 52 → Dealing x (p ++ h) (k + 1) m
+  dealing-more x h e l = record { long = (let a = v .long in let b = length-append p h in omega arith); is = put-step p h d x k m (v .long) (v .is) e }
+
+-- the first three hands of a deal
+pub three-hands : (d s w n : List ℕ) → d ≡ ((s ++ w) ++ n) ++ replicate 52 0 → length s ≡ 52 → length w ≡ 52 → length n ≡ 52
+    → (handOf d 0 ≡ s) × (handOf d 1 ≡ w) × (handOf d 2 ≡ n)
+unfolding part
+three-hands d s w n e ls lw ln =
+    let z : List ℕ = replicate 52 0 in
+    let a : d ≡ s ++ (w ++ (n ++ z)) = e ∙ simp append-assoc in
+    let b : d ≡ (s ++ w) ++ (n ++ z) = e ∙ simp append-assoc in
+    let l : length (s ++ w) ≡ 104 = simp (length-append, ls, lw) in (
+      ap (take 52) a ∙ take-at s (w ++ (n ++ z)) 52 ls,
+      ap (take 52) (ap (drop 52) a ∙ drop-at s (w ++ (n ++ z)) 52 ls) ∙ take-at w (n ++ z) 52 lw,
+      ap (take 52) (ap (drop 104) b ∙ drop-at (s ++ w) (n ++ z) 104 l) ∙ take-at n z 52 ln,
+    )
+
+-- a fourth after them
+pub fourth-put : (d s w n x e : List ℕ) → Dealing d ((s ++ w) ++ n) 3 52 → x ≡ placed d 3 e → x ≡ s ++ (w ++ (n ++ e))
+fourth-put d s w n x e v f = put-step ((s ++ w) ++ n) e d x 3 0 (v .long) (v .is) f ∙ simp (append-nil, append-assoc)
+
+-- East by the others
+
+module _ (d : List ℕ) (room : handOf d 3 ≡ noCards) where
+  long-all : 208 ≤ length d
+  long-all = part-long d 156 room
+
+  part-has : (a : ℕ) → a + 52 ≤ 208 → length (part d a 52) ≡ 52
+  part-has a h = let l = long-all in part-length d a 52 (omega arith)
+
+  three : Three (handOf d 0) (handOf d 1) (handOf d 2)
+  three = record { first = part-has 0 (omega arith); second = part-has 52 (omega arith); third = part-has 104 (omega arith) }
+
+  abbrev rest : List ℕ
+  rest = remainder (handOf d 0) (handOf d 1) (handOf d 2)
+
+  -- the counts of the other seats stay
+  kept : (x : List ℕ) (i a j : ℕ) → x ≡ paste d 156 rest i → j < 52 → a + 52 ≤ 156 → getD x (a + j) 0 ≡ getD (part d a 52) j 0
+  kept x i a j e h k =
+      let l = long-all in
+      let f : length (take 156 d) ≡ 156 = length-take-le 156 d (omega arith) in
+      let g = length-append (take 156 d) (take i rest) in
+      ap (λ (y : List ℕ). getD y (a + j) 0) e
+      ∙ List·getD-append (take 156 d ++ take i rest) (drop (156 + i) d) 0 (a + j) (omega arith)
+      ∙ List·getD-append (take 156 d) (take i rest) 0 (a + j) (omega arith)
+      ∙ getD-take 156 d (a + j) 0 (omega arith)
+      ∙ count-at d a 52 j h
+
+  pub rest-turn : (x : List ℕ) (i w : ℕ) → x ≡ paste d 156 rest i → i < 52
+      → w ≡ pick (eqb (getD x i 0) 0 && (eqb (getD x (52 + i) 0) 0 && eqb (getD x (104 + i) 0) 0)) 1 0
+      → set x (156 + i) w ≡ paste d 156 rest (i + 1)
+  rest-turn x i w e h k =
+      let l = long-all in
+      let z : 0 + i ≡ i = omega arith in
+      let a : getD x i 0 ≡ getD (handOf d 0) i 0 = ap (λ (j : ℕ). getD x j 0) (sym z) ∙ kept x i 0 i e h (omega arith) in
+      let q : w ≡ getD rest i 0 = rest-at _ _ _ three i w h (k ∙ rw (a, kept x i 52 i e h (omega arith), kept x i 104 i e h (omega arith)) refl) in
+      ap (set x (156 + i)) q ∙ put-next d rest x 156 i e (omega arith) (all _ _ _ three) h
+
+  pub rest-end : (x : List ℕ) (i : ℕ) → x ≡ paste d 156 rest i → i ≡ 52 → x ≡ placed d 3 rest
+  rest-end x i e m = put-end d rest x 3 i e (all _ _ _ three) m
 
 -- the deal of the fields
 pub deal-is : (f : Pieces) (x y z v s w n e d : List ℕ) → x ≡ field 0 f → y ≡ field 1 f → z ≡ field 2 f → v ≡ field 3 f
     → s ≡ readHand x → w ≡ readHand y → n ≡ readHand z → e ≡ eastOf v s w n → d ≡ s ++ (w ++ (n ++ e)) → d ≡ dealOf f
 unfolding dealOf
 deal-is f x y z v s w n e d ex ey ez ev es ew en ee ed = ed ∙ rw (ee, es, ew, en, ex, ey, ez, ev)
+
+-- the deal that was made of them, hand by hand
+pub deal-done : (f : Pieces) (x y z v d r : List ℕ) → x ≡ field 0 f → y ≡ field 1 f → z ≡ field 2 f → v ≡ field 3 f
+    → Dealing d ((readHand x ++ readHand y) ++ readHand z) 3 52 → r ≡ placed d 3 (eastOf v (handOf d 0) (handOf d 1) (handOf d 2)) → r ≡ dealOf f
+deal-done f x y z v d r ex ey ez ev k e =
+    let h = three-hands d (readHand x) (readHand y) (readHand z) (k .is) (hand-length x) (hand-length y) (hand-length z) in
+    deal-is f x y z v (readHand x) (readHand y) (readHand z) _ r ex ey ez ev refl refl refl refl
+    (fourth-put d (readHand x) (readHand y) (readHand z) r (eastOf v (readHand x) (readHand y) (readHand z)) k (e ∙ rw (h .0, h .1, h .2) refl))

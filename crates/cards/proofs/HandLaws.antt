@@ -1,23 +1,25 @@
--- Hands as the code goes through them: the loop over a text, the loop that sums, the loop over three hands. (01: Records;
+-- Hands as the code goes through them: the loop over a text, the loop that sums, three hands. (01: Records;
 -- Board, md)
 -- Assumes nothing.
 use Prim.Native.Nat.{ℕ, zero, suc, _+_, _-_, _*_, _≤_, _<_}
+use native.Mathlib.Nat.{zero-add, suc-add}
 use native.Mathlib.Numerals.{add-one}
 use native.Mathlib.Omega.{arith}
 use mathlib.Core.Path.{_≡_, refl, ap, sym, subst, _∙_}
 use mathlib.Core.Bool.{Bool, true, false, _&&_, and-false, false≢true}
 use mathlib.Core.List.{List, [], _∷_, _++_, map}
 use mathlib.Core.Option.{Option, none, some}
-use lib.ListN.{length, getD, set, take, drop, length-map, length-take, drop-of-length-le}
-use lib.Seq.{drop-cons, take-all, take-suc, take-suc-set, getD-take, getD-drop}
+use lib.ListN.{length, getD, set, take, drop, length-map, length-set, length-take, length-drop, drop-of-length-le, take-append-drop, List·getD-append}
+use lib.Seq.{drop-cons, drop-drop, length-take-le, take-all, take-suc, take-suc-set, getD-take, getD-drop, getD-append-add, set-append-left}
 use lib.Dec.{eqb, leb, ltb}
-use borrow.Author.Tests.{lt-ltb, le-ltb, le-leb}
+use borrow.Author.Tests.{lt-ltb, le-ltb, le-leb, ltb-true}
 use Rattle.lin_spec.specs.Base.{pick}
 use Rattle.lin_spec.specs.Records.{part}
 use Rattle.lin_spec.specs.Cards.{suitOf, rankOf, cardOf, noCards, withCard, sum, handFrom, readHand, remainder}
 use Rattle.lin_spec.proofs.Base.{and-left, and-right}
 use Rattle.lin_spec.proofs.Cards.{count-sum, set-sum, remainder-at, remainder-length}
 use Rattle.cards.specs.Letters.{suitIn, rankIn}
+use Rattle.cards.specs.Deals.{placed, handOf}
 
 -- The loop over a text: the rest of it makes of the hand so far what the whole text makes of none
 
@@ -89,6 +91,90 @@ module _ {s h : List ℕ} {suit i n : ℕ} (v : Turn s h suit i n) where
         let b = and-right (ltb suit 4) (ltb n 17) e in
         record { same = left (some (suit * 13 + (n - 4))) (simp (a, b, le-leb 4 n k)); few = omega (arith, set-sum h (suit * 13 + (n - 4)), v .inv .few) }
 
+-- The same within a deal: at a seat's place stands the hand so far
+
+pub record Held (s d counts : List ℕ) (seat suit i : ℕ) : Type 0 where
+  pub hand : List ℕ
+  pub long : length hand ≡ 52
+  pub is : counts ≡ placed d seat hand
+  pub inv : HandInv s hand suit i
+
+-- a store after the front of a list
+set-append-add : (xs ys : List ℕ) (n a : ℕ) → set (xs ++ ys) (length xs + n) a ≡ xs ++ set ys n a
+set-append-add [] ys n a = ap (λ (k : ℕ). set ys k a) (zero-add n)
+set-append-add (x ∷ xs) ys n a = ap (λ (k : ℕ). set (x ∷ (xs ++ ys)) k a) (suc-add (length xs) n) ∙ ap (λ (r : List ℕ). x ∷ r) (set-append-add xs ys n a)
+
+-- a part of a list in its place
+part-in : (d : List ℕ) (a n : ℕ) → d ≡ take a d ++ (part d a n ++ drop (a + n) d)
+unfolding part
+part-in d a n = sym (take-append-drop a d) ∙ ap (λ (x : List ℕ). take a d ++ x) (sym (take-append-drop n (drop a d)) ∙ ap (λ (x : List ℕ). take n (drop a d) ++ x) (drop-drop n a d))
+
+pub held-start : (s d : List ℕ) (seat : ℕ) → part d (seat * 52) 52 ≡ noCards → Held s d d seat 4 0
+unfolding placed
+held-start s d seat e =
+    record {
+      hand = noCards;
+      long = refl;
+      is = part-in d (seat * 52) 52 ∙ ap (λ (x : List ℕ). take (seat * 52) d ++ (x ++ drop (seat * 52 + 52) d)) e;
+      inv = hand-start s;
+    }
+
+-- a deal with a hand at a place has that place
+pub part-long : (d : List ℕ) (a : ℕ) → part d a 52 ≡ noCards → a + 52 ≤ length d
+unfolding part
+part-long d a e = let f : length (take 52 (drop a d)) ≡ 52 = ap length e in omega (arith, length-take 52 (drop a d), length-drop a d)
+
+module _ (s d counts : List ℕ) (seat suit i : ℕ) (v : Held s d counts seat suit i) (l : part d (seat * 52) 52 ≡ noCards) where
+  pub held-end : length s ≤ i → counts ≡ placed d seat (readHand s)
+  held-end h = v .is ∙ ap (placed d seat) (hand-end s (v .hand) suit i (v .inv) h)
+
+  front : length (take (seat * 52) d) ≡ seat * 52
+  front = length-take-le (seat * 52) d (omega (arith, part-long d (seat * 52) l))
+
+  held-at : (c : ℕ) → c < 52 → getD counts (seat * 52 + c) 0 ≡ getD (v .hand) c 0
+  unfolding placed
+  held-at c h =
+      let n = v .long in
+      ap (λ (y : List ℕ). getD y (seat * 52 + c) 0) (v .is)
+      ∙ ap (λ (m : ℕ). getD (take (seat * 52) d ++ (v .hand ++ drop (seat * 52 + 52) d)) (m + c) 0) (sym front)
+      ∙ (getD-append-add (take (seat * 52) d) (v .hand ++ drop (seat * 52 + 52) d) c 0 ∙ List·getD-append (v .hand) (drop (seat * 52 + 52) d) 0 c (omega arith))
+
+  pub held-few : (c : ℕ) → c < 52 → getD counts (seat * 52 + c) 0 ≤ i
+  held-few c h = rw (held-at c h) (count-few s (v .hand) suit i c (v .inv))
+
+  held-set : (c x : ℕ) → c < 52 → set counts (seat * 52 + c) x ≡ placed d seat (set (v .hand) c x)
+  unfolding placed
+  held-set c x h =
+      let n = v .long in
+      ap (λ (y : List ℕ). set y (seat * 52 + c) x) (v .is)
+      ∙ ap (λ (m : ℕ). set (take (seat * 52) d ++ (v .hand ++ drop (seat * 52 + 52) d)) (m + c) x) (sym front)
+      ∙ (set-append-add (take (seat * 52) d) (v .hand ++ drop (seat * 52 + 52) d) c x ∙ ap (λ (y : List ℕ). take (seat * 52) d ++ y) (set-append-left (v .hand) (drop (seat * 52 + 52) d) c x (omega arith)))
+
+  -- a turn, with the number of the letter
+  module _ (n : ℕ) (m : i < length s) (e : (suitOf (getD s i 0) ≡ suitIn n) × (rankOf (getD s i 0) ≡ rankIn n)) where
+    turn-in : Turn s (v .hand) suit i n
+    turn-in = record { inv = v .inv; inside = m; number = e }
+
+    pub held-suit : n < 4 → Held s d counts seat n (i + 1)
+    held-suit h = record { hand = v .hand; long = v .long; is = v .is; inv = hand-suit turn-in h }
+
+    pub held-skip : 4 ≤ n → (ltb suit 4 && ltb n 17) ≡ false → Held s d counts seat suit (i + 1)
+    held-skip h f = record { hand = v .hand; long = v .long; is = v .is; inv = hand-skip turn-in h f }
+
+    pub held-card : 4 ≤ n → (ltb suit 4 && ltb n 17) ≡ true
+        → Held s d (set counts (seat * 52 + (suit * 13 + (n - 4))) (getD counts (seat * 52 + (suit * 13 + (n - 4))) 0 + 1)) seat suit (i + 1)
+    held-card h f =
+        let c = suit * 13 + (n - 4) in
+        let a = ltb-true suit 4 (and-left (ltb suit 4) (ltb n 17) f) in
+        let b = ltb-true n 17 (and-right (ltb suit 4) (ltb n 17) f) in
+        let z : c < 52 = omega arith in
+        record {
+          hand = set (v .hand) c (getD (v .hand) c 0 + 1);
+          long = length-set (v .hand) c (getD (v .hand) c 0 + 1) ∙ v .long;
+          is = rw (held-at c z) (held-set c (getD (v .hand) c 0 + 1) z);
+          inv = hand-card turn-in h f;
+        }
+
 -- The counts of a hand
 
 -- the list of a struct that the code holds has the length of its array
@@ -129,20 +215,9 @@ pub record Three (x y z : List ℕ) : Type 0 where
   pub third : length z ≡ 52
 
 module _ (x y z : List ℕ) (f : Three x y z) where
-  all : length (remainder x y z) ≡ 52
+  pub all : length (remainder x y z) ≡ 52
   all = remainder-length 52 x y z (f .first) (f .second) (f .third)
 
-  -- a turn of the loop over the cards
-  pub rest-next : (h : List ℕ) (i w : ℕ) → take i h ≡ take i (remainder x y z) → length h ≡ 52 → i < 52
-      → w ≡ pick (eqb (getD x i 0) 0 && (eqb (getD y i 0) 0 && eqb (getD z i 0) 0)) 1 0
-      → take (i + 1) (set h i w) ≡ take (i + 1) (remainder x y z)
-  rest-next h i w e l m k =
-      rw add-one
-      (take-suc-set h i w (omega arith)
-      ∙ ap (λ (t : List ℕ). t ++ (w ∷ [])) e
-      ∙ ap (λ (n : ℕ). take i (remainder x y z) ++ (n ∷ [])) (k ∙ sym (remainder-at 52 x y z (f .first) (f .second) (f .third) i m))
-      ∙ sym (take-suc (remainder x y z) i 0 (omega (arith, all))))
-
-  -- its end
-  pub rest-end : (h : List ℕ) (i : ℕ) → take i h ≡ take i (remainder x y z) → length h ≡ 52 → 52 ≤ i → h ≡ remainder x y z
-  rest-end h i e l m = sym (take-all i h (omega arith)) ∙ e ∙ take-all i (remainder x y z) (omega (arith, all))
+  -- one of its counts
+  pub rest-at : (i w : ℕ) → i < 52 → w ≡ pick (eqb (getD x i 0) 0 && (eqb (getD y i 0) 0 && eqb (getD z i 0) 0)) 1 0 → w ≡ getD (remainder x y z) i 0
+  rest-at i w m k = k ∙ sym (remainder-at 52 x y z (f .first) (f .second) (f .third) i m)

@@ -1,27 +1,24 @@
-// Hands: 52 counts, from a text and from three other hands, and their length. (01: Records; Board, md)
+// Hands: 52 counts of a deal, from a text and from three other hands, and their length. (01: Records; Board, md)
 use crate::letters::letter;
 use lin_spec::Deal;
 use lin_spec::Seat;
 ghost use mathlib.Core.Path.{_≡_};
 ghost use mathlib.Core.Bool.{_&&_};
-ghost use Prim.Native.Nat.{_<_, _^_};
+ghost use Prim.Native.Nat.{_<_, _*_, _^_};
 ghost use lib.ListN.{length};
 ghost use lib.Dec.{eqb};
 ghost use Rattle.lin_spec.specs.Base.{pick};
-ghost use Rattle.lin_spec.specs.Cards.{sum, readHand, remainder};
+ghost use Rattle.lin_spec.specs.Records.{part};
+ghost use Rattle.lin_spec.specs.Cards.{noCards, sum, readHand, remainder};
 ghost use Rattle.lin_spec.specs.Letters.{handLength};
+ghost use Rattle.cards.specs.Deals.{placed, handOf};
 
-// How often a hand holds each card.
-pub(crate) struct Hand {
-    pub(crate) counts: [u32; 52],
-}
-
-// The hand of a text. The suit is that of the last suit letter, 4 before the first.
-pub(crate) fn read_hand(s: &[u8]) -> Hand
-    requires { ⌜ length (now s) < 2 ^ 32 ⌝ }
-    ensures { λ r. ⌜ r .counts ≡ readHand (now (s .entry)) ⌝ }
+// Counts the cards of a text at a seat's place in a deal, where none is counted yet. The suit is that of the last suit letter, 4 before the first.
+pub(crate) fn count_hand(counts: &mut [u32; 208], seat: usize, s: &[u8])
+    requires { ⌜ (seat < 4) × (part (now counts) (seat * 52) 52 ≡ noCards) × (length (now s) < 2 ^ 32) ⌝ }
+    ensures { λ r. ⌜ now (counts .exit) ≡ placed (now (counts .entry)) seat (readHand (now (s .entry))) ⌝ }
 {
-    let mut hand = Hand { counts: [0; 52] };
+    let first = seat * Deal::CARDS;
     let mut suit: u8 = 4;
     let mut i = 0;
     while i < s.len() {
@@ -30,14 +27,13 @@ pub(crate) fn read_hand(s: &[u8]) -> Hand
             suit = n;
             i += 1;
         } else if (suit < 4) & (n < 17) {
-            let at = (suit * 13 + (n - 4)) as usize;
-            hand.counts[at] = hand.counts[at] + 1;
+            let at = first + (suit * 13 + (n - 4)) as usize;
+            counts[at] = counts[at] + 1;
             i += 1;
         } else {
             i += 1;
         }
     }
-    hand
 }
 
 // A count as a number of 64 bits.
@@ -45,19 +41,6 @@ fn wide(n: u32) -> u64
     ensures { λ r. ⌜ (r ≡ n) × (r < 2 ^ 32) ⌝ }
 {
     n as u64
-}
-
-// How many cards a hand has. The sum of the counts has up to 38 bits.
-pub(crate) fn hand_len(hand: Hand) -> u64
-    ensures { λ r. ⌜ r ≡ sum (hand .counts) ⌝ }
-{
-    let mut n: u64 = 0;
-    let mut c = 0;
-    while c < Deal::CARDS {
-        n += wide(hand.counts[c]);
-        c += 1;
-    }
-    n
 }
 
 // How many cards a seat's hand has, by the counts of a deal.
@@ -91,15 +74,14 @@ fn unheld(a: u32, b: u32, c: u32) -> u32
     0
 }
 
-// Each card that no other seat holds, once.
-pub(crate) fn remainder(s: Hand, w: Hand, n: Hand) -> Hand
-    ensures { λ r. ⌜ r .counts ≡ remainder (s .counts) (w .counts) (n .counts) ⌝ }
+// Counts at East's place each card that no other seat holds, once.
+pub(crate) fn count_rest(counts: &mut [u32; 208])
+    requires { ⌜ handOf (now counts) 3 ≡ noCards ⌝ }
+    ensures { λ r. ⌜ now (counts .exit) ≡ placed (now (counts .entry)) 3 (remainder (handOf (now (counts .entry)) 0) (handOf (now (counts .entry)) 1) (handOf (now (counts .entry)) 2)) ⌝ }
 {
-    let mut hand = Hand { counts: [0; 52] };
     let mut c = 0;
     while c < Deal::CARDS {
-        hand.counts[c] = unheld(s.counts[c], w.counts[c], n.counts[c]);
+        counts[156 + c] = unheld(counts[c], counts[52 + c], counts[104 + c]);
         c += 1;
     }
-    hand
 }

@@ -235,3 +235,27 @@ marks-none s at p a h f e t =
     let k : codeOf (lower (getD s a 0)) (lower (getD s (a + 1) 0)) ≡ commandOf (part s at (p - at)) = pair-code (getD s a 0) (getD s (a + 1) 0) _ _ refl refl ∙ sym (ap commandOf (two-bytes s a p h e)) ∙ f .same in
     let u = unmarked (lower (getD s a 0)) (getD s (a + 1) 0) t in
     rw (← k) (record { md = sym (u .0); pn = sym (u .1); qx = sym (u .2); mn = sym (u .3) })
+
+-- by the second letter alone
+unmarked-other : (x y : ℕ) → (y ≡ 100 → ⊥) → (y ≡ 110 → ⊥) → (y ≡ 120 → ⊥) → Unmarked (codeOf x y)
+unmarked-other x y d n v =
+    let f = ne-eqb y 100 d in
+    let g = ne-eqb y 110 n in
+    let h = ne-eqb y 120 v in
+    let e : codeOf x y ≡ pick (eqb x 112 && eqb y 99) 0 (pick (eqb x 109 && eqb y 98) 1 (pick (eqb x 115 && eqb y 118) 7 (pick (eqb x 97 && eqb y 104) 8 (pick (eqb x 109 && eqb y 99) 9 10)))) = code-form x y ∙ simp (f, g, h, and-false) in
+    let u : Unmarked 10 = (refl, refl, refl, refl) in
+    rw e
+    (picked Unmarked (eqb x 112 && eqb y 99) (λ _. (refl, refl, refl, refl))
+    (λ _. picked Unmarked (eqb x 109 && eqb y 98) (λ _. (refl, refl, refl, refl))
+    (λ _. picked Unmarked (eqb x 115 && eqb y 118) (λ _. (refl, refl, refl, refl))
+    (λ _. picked Unmarked (eqb x 97 && eqb y 104) (λ _. (refl, refl, refl, refl))
+    (λ _. picked Unmarked (eqb x 109 && eqb y 99) (λ _. (refl, refl, refl, refl)) (λ _. u))))))
+
+pub marks-other : (s : List ℕ) (a : ℕ) → a + 2 ≤ length s → (lower (getD s (a + 1) 0) ≡ 100 → ⊥) → (lower (getD s (a + 1) 0) ≡ 110 → ⊥) → (lower (getD s (a + 1) 0) ≡ 120 → ⊥)
+    → Marks (commandOf (part s a 2)) 10
+marks-other s a h d n v =
+    let c : a + 2 - a ≡ 2 = omega arith in
+    let e : part s a 2 ≡ getD s a 0 ∷ getD s (a + 1) 0 ∷ [] = ap (part s a) (sym c) ∙ two-bytes s a (a + 2) h c in
+    let k : codeOf (lower (getD s a 0)) (lower (getD s (a + 1) 0)) ≡ commandOf (part s a 2) = pair-code (getD s a 0) (getD s (a + 1) 0) _ _ refl refl ∙ sym (ap commandOf e) in
+    let u = unmarked-other (lower (getD s a 0)) (lower (getD s (a + 1) 0)) d n v in
+    rw (← k) (record { md = sym (u .0); pn = sym (u .1); qx = sym (u .2); mn = sym (u .3) })

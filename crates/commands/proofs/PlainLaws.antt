@@ -4,12 +4,12 @@ use Prim.Native.Nat.{ℕ, suc, _+_, _-_, _≤_, _<_}
 use native.Mathlib.Numerals.{add-one}
 use native.Mathlib.Omega.{arith}
 use mathlib.Core.Path.{_≡_, refl, ap, sym, subst, _∙_}
-use mathlib.Core.Bool.{Bool, true, _&&_, _||_, not, false≢true}
+use mathlib.Core.Bool.{Bool, true, false, _&&_, _||_, not, false≢true}
 use mathlib.Core.List.{List, [], _∷_}
 use mathlib.Core.Option.{some}
 use lib.ListN.{length, getD}
 use lib.Seq.{drop-cons}
-use lib.Dec.{eqb}
+use lib.Dec.{eqb, leb}
 use borrow.Author.Tests.{eqb-true, eqb-false, not-true}
 use Rattle.lin_spec.specs.Base.{eqAll}
 use Rattle.lin_spec.specs.Records.{span, part, bytesAt}
@@ -17,14 +17,15 @@ use Rattle.lin_spec.specs.White.{trim, lower}
 use Rattle.lin_spec.specs.Tokens.{pipe}
 use Rattle.lin_spec.specs.Cursor.{findFrom}
 use Rattle.lin_spec.specs.Cards.{readCard}
-use Rattle.lin_spec.proofs.Base.{and-left, and-right}
+use Rattle.lin_spec.specs.Reading.{stream}
+use Rattle.lin_spec.proofs.Base.{and-left, and-right, picked}
 use Rattle.lin_spec.proofs.Cursor.{find-here, find-next, find-after}
 use Rattle.cards.specs.Letters.{CardIs}
-use Rattle.commands.specs.Commands.{firstSmall, codeOf, commandOf, Marks}
-use Rattle.commands.specs.Plain.{Skips, PairAt, ShortAt, CardAt, PassedAt}
+use Rattle.commands.specs.Commands.{firstSmall, codeOf, commandOf}
+use Rattle.commands.specs.Plain.{Skips, PairAt, ShortAt, CardAt, PageAt, OtherLetter, UnmarkedAt, PassedAt}
 use Rattle.commands.specs.Steps.{TokenAt}
-use Rattle.commands.proofs.CommandLaws.{pair-code, same-here, same-lf, marks-none}
-use Rattle.commands.proofs.StepLaws.{pipes-token}
+use Rattle.commands.proofs.CommandLaws.{pair-code, same-lf, marks-other}
+use Rattle.commands.proofs.StepLaws.{pipes-none, pipes-token}
 
 -- An LF before a command
 
@@ -132,53 +133,82 @@ module _ (s : List ℕ) (at a r : ℕ) (k : Skips s at a) (t : CardAt s a r) whe
   pub card-value : some r ≡ readCard (trim (bytesAt s (span (a + 3) 2)))
   card-value = sym (t .card)
 
--- A token that is no mark
+-- A token whose value is sought
 
-module _ (s : List ℕ) (a : ℕ) (h : a + 6 ≤ length s)
-    (t : (not (eqb (getD s a 0) pipe) && (eqb (getD s (a + 2) 0) pipe && (eqb (getD s (a + 1) 0) 99 || (eqb (getD s (a + 1) 0) 103 || eqb (getD s (a + 1) 0) 98)))) ≡ true) where
-  abbrev x : Bool
-  x = not (eqb (getD s a 0) pipe)
+module _ (s : List ℕ) (at a q : ℕ) (k : Skips s at a) (t : PairAt s a) (e : q ≡ findFrom pipe s (a + 3)) where
+  pub pair-none : length s ≤ q → stream s at ≡ []
+  pair-none h = let g : a + 3 ≡ a + 2 + 1 = omega arith in pipes-none s at (a + 2) q (pair-end s at a k t) (e ∙ ap (findFrom pipe s) g) h
 
-  abbrev y : Bool
-  y = eqb (getD s (a + 2) 0) pipe
+  pub pair-least : q < length s → a + 3 ≤ q
+  pair-least h = rw e (find-after pipe s (a + 3) (rw e at h))
 
-  abbrev z : Bool
-  z = eqb (getD s (a + 1) 0) 99 || (eqb (getD s (a + 1) 0) 103 || eqb (getD s (a + 1) 0) 98)
+  pub pair-token : q < length s → (n : ℕ) → n ≡ commandOf (getD s a 0 ∷ getD s (a + 1) 0 ∷ []) → TokenAt s at n (span (a + 3) (q - (a + 3))) (q + 1)
+  pair-token h n f =
+      let w = t .within in
+      short-token s at a q k (record { first = t .first; second = sym e; within = h }) n (f ∙ sym (ap commandOf (two-at s a (omega arith))))
 
-  letter-two : z ≡ true
-  letter-two = and-right y z (and-right x (y && z) t)
+-- A `pg||`
 
-  no-pipe : (b : ℕ) → (eqb b 99 || (eqb b 103 || eqb b 98)) ≡ true → b ≡ pipe → ⊥
-  no-pipe b e k = false≢true (let w : (eqb pipe 99 || (eqb pipe 103 || eqb pipe 98)) ≡ true = subst (λ (c : ℕ). (eqb c 99 || (eqb c 103 || eqb c 98)) ≡ true) k e in w)
+module _ (s : List ℕ) (a : ℕ) (h : a + 4 ≤ length s) where
+  pg-bytes : getD s a 0 ≡ 112 → getD s (a + 1) 0 ≡ 103 → 10 ≡ commandOf (part s a 2)
+  unfolding firstSmall eqAll lower
+  pg-bytes x y =
+      let z : 10 ≡ codeOf 112 103 = refl in
+      let e : part s a 2 ≡ 112 ∷ 103 ∷ [] = two-at s a (omega arith) ∙ rw (x, y) refl in
+      z ∙ pair-code 112 103 112 103 refl refl ∙ sym (ap commandOf e)
 
-  pub passed-at : (n : ℕ) → 4 ≤ n → a + n ≤ length s → findFrom pipe s (a + 3) ≡ a + n - 1 → PassedAt s a n
-  passed-at n l m f =
+  pub page-at : (eqb (getD s a 0) 112 && (eqb (getD s (a + 1) 0) 103 && (eqb (getD s (a + 2) 0) pipe && eqb (getD s (a + 3) 0) pipe))) ≡ true → PageAt s a
+  page-at t =
+      let x = eqb (getD s a 0) 112 in
+      let y = eqb (getD s (a + 1) 0) 103 in
+      let z = eqb (getD s (a + 2) 0) pipe in
+      let w = eqb (getD s (a + 3) 0) pipe in
+      let u = and-right x (y && (z && w)) t in
+      let v = and-right y (z && w) u in
+      let ex : getD s a 0 ≡ 112 = eqb-true _ _ (and-left x (y && (z && w)) t) in
+      let ey : getD s (a + 1) 0 ≡ 103 = eqb-true _ _ (and-left y (z && w) u) in
       record {
-        least = l;
         short =
             record {
-              first = find-two s a (a + 1) (a + 2) refl refl (omega arith) (eqb-false _ _ (not-true _ (and-left x (y && z) t))) (no-pipe (getD s (a + 1) 0) letter-two) (eqb-true _ _ (and-left y z (and-right x (y && z) t)));
-              second = f;
+              first = find-two s a (a + 1) (a + 2) refl refl (omega arith) (λ k. let q : 112 ≡ 124 = sym ex ∙ k in omega (arith, q)) (λ k. let q : 103 ≡ 124 = sym ey ∙ k in omega (arith, q)) (eqb-true _ _ (and-left z w v));
+              second = find-here pipe s (a + 3) (omega arith) (eqb-true _ _ (and-right z w v));
               within = omega arith;
             };
-        marks = subst (λ (i : ℕ). Marks (commandOf (part s a i)) 10) (two a) (marks-none s a (a + 2) a (omega arith) (same-here s a (a + 2) (omega arith)) (two a) letter-two);
+        command = pg-bytes ex ey;
       }
 
-  -- with an empty value
-  pub passed-four : getD s (a + 3) 0 ≡ pipe → PassedAt s a 4
-  passed-four e = passed-at 4 (omega arith) (omega arith) (find-here pipe s (a + 3) (omega arith) e ∙ (let q : a + 3 ≡ a + 4 - 1 = omega arith in q))
+pub page-token : (s : List ℕ) (at a : ℕ) → Skips s at a → PageAt s a → TokenAt s at 10 (span (a + 3) (a + 3 - (a + 3))) (a + 4)
+page-token s at a k t =
+    let g : a + 3 + 1 ≡ a + 4 = omega arith in
+    subst (λ (n : ℕ). TokenAt s at 10 (span (a + 3) (a + 3 - (a + 3))) n) g (short-token s at a (a + 3) k (t .short) 10 (t .command))
 
-  -- with one of two bytes
-  pub passed-six : (getD s (a + 3) 0 ≡ pipe → ⊥) → (not (eqb (getD s (a + 4) 0) pipe) && eqb (getD s (a + 5) 0) pipe) ≡ true → PassedAt s a 6
-  passed-six e g =
-      let u = not (eqb (getD s (a + 4) 0) pipe) in
-      let v = eqb (getD s (a + 5) 0) pipe in
-      passed-at 6 (omega arith) (omega arith)
-      (find-two s (a + 3) (a + 4) (a + 5) (omega arith) (omega arith) (omega arith) e (eqb-false _ _ (not-true _ (and-left u v g))) (eqb-true _ _ (and-right u v g)) ∙ (let q : a + 5 ≡ a + 6 - 1 = omega arith in q))
+-- A token that is no mark
+
+-- neither a letter nor its capital
+pub not-lower : (b k : ℕ) → (b ≡ k → ⊥) → (b + 32 ≡ k → ⊥) → lower b ≡ k → ⊥
+unfolding lower
+not-lower b k h g = picked (λ (x : ℕ). x ≡ k → ⊥) (leb 0x41 b && leb b 0x5A) (λ _. g) (λ _. h)
+
+pub unmarked-at : (s : List ℕ) (a : ℕ) → a + 3 ≤ length s → (eqb (getD s a 0) pipe || not (eqb (getD s (a + 2) 0) pipe)) ≡ false → OtherLetter (getD s (a + 1) 0) → UnmarkedAt s a
+unmarked-at s a h t o = go (eqb (getD s a 0) pipe) refl (eqb (getD s (a + 2) 0) pipe) refl t
+  where
+    go : (x : Bool) → eqb (getD s a 0) pipe ≡ x → (y : Bool) → eqb (getD s (a + 2) 0) pipe ≡ y → (x || not y) ≡ false → UnmarkedAt s a
+    go true ex y ey k = absurd (false≢true (sym k))
+    go false ex false ey k = absurd (false≢true (sym k))
+    go false ex true ey k =
+        record {
+          within = h;
+          first = find-two s a (a + 1) (a + 2) refl refl (omega arith) (eqb-false _ _ ex) (o .bar) (eqb-true _ _ ey);
+          marks = marks-other s a (omega arith) (o .d) (o .n) (o .x);
+        }
+
+pub passed-at : (s : List ℕ) (a q : ℕ) → UnmarkedAt s a → q ≡ findFrom pipe s (a + 3) → q < length s → PassedAt s a (q + 1)
+passed-at s a q t e h =
+    let g : q ≡ q + 1 - 1 = omega arith in
+    record { short = subst (ShortAt s a) g (record { first = t .first; second = sym e; within = h }); marks = t .marks }
 
 -- the token, with the number of its command
-pub passed-token : (s : List ℕ) (at a n : ℕ) → Skips s at a → PassedAt s a n → TokenAt s at (commandOf (part s a 2)) (span (a + 3) (a + n - 1 - (a + 3))) (a + n)
-passed-token s at a n k t =
-    let l = t .least in
-    let g : a + n - 1 + 1 ≡ a + n = omega arith in
-    subst (λ (m : ℕ). TokenAt s at (commandOf (part s a 2)) (span (a + 3) (a + n - 1 - (a + 3))) m) g (short-token s at a (a + n - 1) k (t .short) _ refl)
+pub passed-token : (s : List ℕ) (at a e : ℕ) → 0 < e → Skips s at a → PassedAt s a e → TokenAt s at (commandOf (part s a 2)) (span (a + 3) (e - 1 - (a + 3))) e
+passed-token s at a e h k t =
+    let g : e - 1 + 1 ≡ e = omega arith in
+    subst (λ (m : ℕ). TokenAt s at (commandOf (part s a 2)) (span (a + 3) (e - 1 - (a + 3))) m) g (short-token s at a (e - 1) k (t .short) _ refl)

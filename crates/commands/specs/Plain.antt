@@ -5,7 +5,7 @@ use mathlib.Core.Option.{some}
 use lib.ListN.{length}
 use mathlib.Core.List.{List}
 use Rattle.lin_spec.specs.Records.{part}
-use Rattle.lin_spec.specs.White.{trim}
+use Rattle.lin_spec.specs.White.{trim, lower}
 use Rattle.lin_spec.specs.Tokens.{pipe}
 use Rattle.lin_spec.specs.Cursor.{findFrom}
 use Rattle.lin_spec.specs.Cards.{readCard}
@@ -33,8 +33,25 @@ pub record CardAt (s : List ℕ) (a r : ℕ) : Type 0 where
   pub command : 0 ≡ commandOf (part s a 2)
   pub card : readCard (trim (part s (a + 3) 2)) ≡ some r
 
--- a token of n bytes that is none of qx, md, mn and pn
-pub record PassedAt (s : List ℕ) (a n : ℕ) : Type 0 where
-  pub least : 4 ≤ n
-  pub short : ShortAt s a (a + n - 1)
+-- a `pg||`
+pub record PageAt (s : List ℕ) (a : ℕ) : Type 0 where
+  pub short : ShortAt s a (a + 3)
+  pub command : 10 ≡ commandOf (part s a 2)
+
+-- a byte that is neither a pipe nor the second letter of qx, md, mn or pn
+pub record OtherLetter (b : ℕ) : Type 0 where
+  pub bar : b ≡ pipe → ⊥
+  pub d : lower b ≡ 100 → ⊥
+  pub n : lower b ≡ 110 → ⊥
+  pub x : lower b ≡ 120 → ⊥
+
+-- a command of two bytes that is none of them
+pub record UnmarkedAt (s : List ℕ) (a : ℕ) : Type 0 where
+  pub within : a + 3 ≤ length s
+  pub first : findFrom pipe s a ≡ a + 2
+  pub marks : Marks (commandOf (part s a 2)) 10
+
+-- a token with such a command, that ends at e
+pub record PassedAt (s : List ℕ) (a e : ℕ) : Type 0 where
+  pub short : ShortAt s a (e - 1)
   pub marks : Marks (commandOf (part s a 2)) 10

@@ -51,7 +51,7 @@ fn other_pair(x: u8, y: u8) -> u8
 }
 
 // The number of a command of two bytes, as nearly all are.
-fn pair_of(a: u8, b: u8) -> u8
+pub(crate) fn pair_of(a: u8, b: u8) -> u8
     ensures { λ r. ⌜ r ≡ commandOf (a ∷ b ∷ []) ⌝ }
 {
     let x = lower_byte(a);

@@ -6,7 +6,7 @@ ghost use mathlib.Core.Bool.{true};
 ghost use Prim.Native.Nat.{_<_};
 ghost use Rattle.lin_spec.specs.Tokens.{pipe};
 ghost use Rattle.lin_spec.specs.Cursor.{findFrom};
-ghost use Rattle.commands.specs.Plain.{Skips, PairAt, CardAt, PassedAt};
+ghost use Rattle.commands.specs.Plain.{Skips, PairAt, CardAt, PageAt, OtherLetter, UnmarkedAt, PassedAt};
 
 // The place after an LF, if one is there: the same token stands from it on.
 pub fn after_line(text: &[u8], at: usize) -> usize
@@ -22,7 +22,7 @@ pub fn after_line(text: &[u8], at: usize) -> usize
 }
 
 // Tests for a command of two bytes. Promised is what its caller needs: where it says true, the first pipe is the third byte.
-fn is_pair(text: &[u8], at: usize) -> bool
+pub(crate) fn is_pair(text: &[u8], at: usize) -> bool
     ensures { λ r. ⌜ (r ≡ true → PairAt (now (text .entry)) at) ⌝ }
 {
     if text.len() < 3 {
@@ -63,25 +63,59 @@ pub fn plain_card(text: &[u8], at: usize) -> u8
     52
 }
 
-// How long a token is whose command of two bytes ends in c, g or b and whose value is empty or two bytes, as most are; 0 where no such token
-// stands. It is none of qx, md, mn and pn.
-pub fn passed_len(text: &[u8], at: usize) -> usize
+// Tests for a `pg||`, which says nothing of a board. Promised is what its callers need: where it says true, such a token stands there.
+pub fn is_page(text: &[u8], at: usize) -> bool
+    ensures { λ r. ⌜ (r ≡ true → PageAt (now (text .entry)) at) ⌝ }
+{
+    if text.len() < 4 {
+        return false;
+    }
+    if text.len() - 4 < at {
+        return false;
+    }
+    (text[at] == b'p')
+        & ((text[at + 1] == b'g') & ((text[at + 2] == b'|') & (text[at + 3] == b'|')))
+}
+
+// Tests that a byte is neither a pipe nor the second letter of qx, md, mn or pn. Promised is where it says true.
+fn other_letter(b: u8) -> bool
+    ensures { λ r. ⌜ (r ≡ true → OtherLetter b) ⌝ }
+{
+    match b {
+        b'x' | b'X' => false,
+        b'd' | b'D' => false,
+        b'n' | b'N' => false,
+        b'|' => false,
+        _ => true,
+    }
+}
+
+// Tests for a command of two bytes that is none of qx, md, mn and pn, as `is_pair` does for any.
+fn is_unmarked(text: &[u8], at: usize) -> bool
+    ensures { λ r. ⌜ (r ≡ true → UnmarkedAt (now (text .entry)) at) ⌝ }
+{
+    if text.len() < 3 {
+        return false;
+    }
+    if text.len() - 3 < at {
+        return false;
+    }
+    if (text[at] == b'|') | (text[at + 2] != b'|') {
+        return false;
+    }
+    other_letter(text[at + 1])
+}
+
+// Where a token ends whose command has two bytes and is none of qx, md, mn and pn; 0 where no such token stands.
+pub fn passed_end(text: &[u8], at: usize) -> usize
     ensures { λ r. ⌜ (0 < r → PassedAt (now (text .entry)) at r) ⌝ }
 {
-    if text.len() < 6 {
+    if !is_unmarked(text, at) {
         return 0;
     }
-    if text.len() - 6 < at {
+    let q = next_pipe(text, at + 3);
+    if text.len() <= q {
         return 0;
     }
-    let b = text[at + 1];
-    if (text[at] != b'|') & ((text[at + 2] == b'|') & ((b == b'c') | ((b == b'g') | (b == b'b')))) {
-        if text[at + 3] == b'|' {
-            return 4;
-        }
-        if (text[at + 4] != b'|') & (text[at + 5] == b'|') {
-            return 6;
-        }
-    }
-    0
+    q + 1
 }

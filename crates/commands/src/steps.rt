@@ -1,6 +1,9 @@
 // One token at a time, with its command's number. (01: Tokens, Board)
 use crate::commands::command_at;
+use crate::commands::pair_of;
+use crate::plain::after_line;
 use crate::plain::command_end;
+use crate::plain::is_pair;
 use document::Cursor;
 use document::Part;
 use document::next_pipe;
@@ -44,7 +47,7 @@ pub fn next_command(text: &[u8], cursor: Cursor) -> Commanded
 }
 
 // The same in a text whose places are numbers of 32 bits.
-pub fn next_known(text: &[u8], cursor: Cursor) -> Known
+fn far_known(text: &[u8], cursor: Cursor) -> Known
     requires { ⌜ length (now text) < 2 ^ 32 ⌝ }
     ensures { λ r. ⌜ Knows (now (text .entry)) (cursor .at) r ⌝ }
 {
@@ -58,4 +61,26 @@ pub fn next_known(text: &[u8], cursor: Cursor) -> Known
         }
         Commanded::Ended => Known::Ended,
     }
+}
+
+// The same, for a command of two bytes at once.
+pub fn next_known(text: &[u8], cursor: Cursor) -> Known
+    requires { ⌜ length (now text) < 2 ^ 32 ⌝ }
+    ensures { λ r. ⌜ Knows (now (text .entry)) (cursor .at) r ⌝ }
+{
+    let a = after_line(text, cursor.at);
+    if !is_pair(text, a) {
+        return far_known(text, cursor);
+    }
+    let v = a + 3;
+    let q = next_pipe(text, v);
+    if text.len() <= q {
+        return Known::Ended;
+    }
+    let k = pair_of(text[a], text[a + 1]);
+    let value = Span {
+        start: v as u32,
+        len: (q - v) as u32,
+    };
+    Known::Token(k, value, Cursor { at: q + 1 })
 }

@@ -8,7 +8,7 @@ use commands::after_line;
 use commands::command_end;
 use commands::mark_at;
 use commands::next_command;
-use commands::passed_len;
+use commands::passed_end;
 use document::Cursor;
 use document::Opened;
 use document::next_pipe;
@@ -92,10 +92,10 @@ fn part_from(text: &[u8], at: usize) -> Section
     let mut c = at;
     loop {
         let a = after_line(text, c);
-        let n = passed_len(text, a);
-        if 0 < n {
-            c = a + n;
-            back = c;
+        let e = passed_end(text, a);
+        if 0 < e {
+            c = e;
+            back = e;
         } else {
             let p = command_end(text, c);
             let v = p + 1;

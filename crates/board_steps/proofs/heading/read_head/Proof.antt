@@ -2,7 +2,7 @@
 -- Assumes nothing.
 use Rattle.board_steps.proofs.HeadLaws.{Reads, begins, ends, turn, card-more, stepped-none, stepped-card, stepped-call}
 use Rattle.commands.proofs.StepLaws.{known}
-use Rattle.commands.proofs.PlainLaws.{card-token, card-value}
+use Rattle.commands.proofs.PlainLaws.{card-token, card-value, page-token}
 use lib.ListN.{length}
 use mathlib.Core.Path.{refl}
 use native.Mathlib.Omega.{arith}
@@ -41,8 +41,20 @@ loop-less c = let t = (card-token _ _ _ _ (c .before .before .before .after-line
 loop-again : tie.Need-loop-again Inv-loop μ-loop
 loop-again c = turn _ _ _ _ (c .before .before .before .before .loop .inv) _ _ _ (card-token _ _ _ _ (c .before .before .before .after-line .ensures) (c .before .before .plain-card .ensures (c .before .if1 .taken))) _ (stepped-card _ _ _ _ refl _ (card-more _ _ _ _ (card-value _ _ _ _ (c .before .before .before .after-line .ensures) (c .before .before .plain-card .ensures (c .before .if1 .taken))) (c .on-count .ensures)))
 
+is-page-requires : tie.Need-is-page-requires Inv-loop μ-loop
+is-page-requires c κs = tt
+
+add-c-2 : tie.Need-add-c-2 Inv-loop μ-loop
+add-c-2 c = omega (arith, (c .before .is-page .ensures (c .if2 .taken)) .short .within, c .before .before .before .before .before .before .before .before .pre .1)
+
+loop-less-2 : tie.Need-loop-less-2 Inv-loop μ-loop
+loop-less-2 c = let t = (page-token _ _ _ (c .before .before .before .before .after-line .ensures) (c .before .is-page .ensures (c .if2 .taken))) in omega (arith, t .later, t .within)
+
+loop-again-2 : tie.Need-loop-again-2 Inv-loop μ-loop
+loop-again-2 c = turn _ _ _ _ (c .before .before .before .before .before .loop .inv) _ _ _ (page-token _ _ _ (c .before .before .before .before .after-line .ensures) (c .before .is-page .ensures (c .if2 .taken))) _ (stepped-none _ _ _ _ (omega arith))
+
 next-known-requires : tie.Need-next-known-requires Inv-loop μ-loop
-next-known-requires c κs = c .before .before .before .before .before .before .pre .1
+next-known-requires c κs = c .before .before .before .before .before .before .before .before .pre .1
 
 enum-known-k : tie.Need-enum-known-k Inv-loop μ-loop
 enum-known-k c = search needs
@@ -51,40 +63,40 @@ enum-told : tie.Need-enum-told Inv-loop μ-loop
 enum-told c = search needs
 
 returns : tie.Need-returns Inv-loop μ-loop
-returns c = ends _ _ _ _ (c .before .before .before .before .before .before .loop .inv) (known _ _ _ _ (c .before .before .next-known .ensures) (c .enum-told .given .1))
+returns c = ends _ _ _ _ (c .before .before .before .before .before .before .before .before .loop .inv) (known _ _ _ _ (c .before .before .next-known .ensures) (c .enum-told .given .1))
 
 on-card-requires : tie.Need-on-card-requires Inv-loop μ-loop
-on-card-requires c κs = let i = c .before .before .before .before .before .before .before .before .loop .inv in omega (arith, i .cards, i .within, c .before .before .before .before .before .before .before .before .before .before .before .pre .1)
-
-loop-less-2 : tie.Need-loop-less-2 Inv-loop μ-loop
-loop-less-2 c = let t = (known _ _ _ _ (c .before .before .before .before .before .next-known .ensures) (c .before .before .before .k .given .1)) in omega (arith, t .later, t .within)
-
-loop-again-2 : tie.Need-loop-again-2 Inv-loop μ-loop
-loop-again-2 c = turn _ _ _ _ (c .before .before .before .before .before .before .before .before .before .loop .inv) _ _ _ (known _ _ _ _ (c .before .before .before .before .before .next-known .ensures) (c .before .before .before .k .given .1)) _ (stepped-card _ _ _ _ (c .before .if2 .taken) _ (c .on-card .ensures))
+on-card-requires c κs = let i = c .before .before .before .before .before .before .before .before .before .before .loop .inv in omega (arith, i .cards, i .within, c .before .before .before .before .before .before .before .before .before .before .before .before .before .pre .1)
 
 loop-less-3 : tie.Need-loop-less-3 Inv-loop μ-loop
 loop-less-3 c = let t = (known _ _ _ _ (c .before .before .before .before .before .next-known .ensures) (c .before .before .before .k .given .1)) in omega (arith, t .later, t .within)
 
 loop-again-3 : tie.Need-loop-again-3 Inv-loop μ-loop
-loop-again-3 c = turn _ _ _ _ (c .before .before .before .before .before .before .before .before .before .loop .inv) _ _ _ (known _ _ _ _ (c .before .before .before .before .before .next-known .ensures) (c .before .before .before .k .given .1)) _ (stepped-none _ _ _ _ (c .if3 .taken))
-
-on-count-requires-2 : tie.Need-on-count-requires-2 Inv-loop μ-loop
-on-count-requires-2 c κs = let i = c .before .before .before .before .before .before .before .before .before .before .loop .inv in omega (arith, i .calls, i .within, c .before .before .before .before .before .before .before .before .before .before .before .before .before .pre .1)
+loop-again-3 c = turn _ _ _ _ (c .before .before .before .before .before .before .before .before .before .before .before .loop .inv) _ _ _ (known _ _ _ _ (c .before .before .before .before .before .next-known .ensures) (c .before .before .before .k .given .1)) _ (stepped-card _ _ _ _ (c .before .if3 .taken) _ (c .on-card .ensures))
 
 loop-less-4 : tie.Need-loop-less-4 Inv-loop μ-loop
-loop-less-4 c = let t = (known _ _ _ _ (c .before .before .before .before .before .before .before .next-known .ensures) (c .before .before .before .before .before .k .given .1)) in omega (arith, t .later, t .within)
+loop-less-4 c = let t = (known _ _ _ _ (c .before .before .before .before .before .next-known .ensures) (c .before .before .before .k .given .1)) in omega (arith, t .later, t .within)
 
 loop-again-4 : tie.Need-loop-again-4 Inv-loop μ-loop
-loop-again-4 c = turn _ _ _ _ (c .before .before .before .before .before .before .before .before .before .before .before .loop .inv) _ _ _ (known _ _ _ _ (c .before .before .before .before .before .before .before .next-known .ensures) (c .before .before .before .before .before .k .given .1)) _ (stepped-call _ _ _ _ (c .before .if4 .taken) _ (c .on-count2 .ensures))
+loop-again-4 c = turn _ _ _ _ (c .before .before .before .before .before .before .before .before .before .before .before .loop .inv) _ _ _ (known _ _ _ _ (c .before .before .before .before .before .next-known .ensures) (c .before .before .before .k .given .1)) _ (stepped-none _ _ _ _ (c .if4 .taken))
 
-step-requires : tie.Need-step-requires Inv-loop μ-loop
-step-requires c κs = let i = c .before .before .before .before .before .before .before .before .before .before .loop .inv in ((known _ _ _ _ (c .before .before .before .before .before .before .next-known .ensures) (c .before .before .before .before .k .given .1)) .value, c .before .before .before .before .before .before .before .before .before .before .before .before .before .pre .1, omega (arith, i .calls, i .within, c .before .before .before .before .before .before .before .before .before .before .before .before .before .pre .1), omega (arith, i .cards, i .within, c .before .before .before .before .before .before .before .before .before .before .before .before .before .pre .1))
+on-count-requires-2 : tie.Need-on-count-requires-2 Inv-loop μ-loop
+on-count-requires-2 c κs = let i = c .before .before .before .before .before .before .before .before .before .before .before .before .loop .inv in omega (arith, i .calls, i .within, c .before .before .before .before .before .before .before .before .before .before .before .before .before .before .before .pre .1)
 
 loop-less-5 : tie.Need-loop-less-5 Inv-loop μ-loop
 loop-less-5 c = let t = (known _ _ _ _ (c .before .before .before .before .before .before .before .next-known .ensures) (c .before .before .before .before .before .k .given .1)) in omega (arith, t .later, t .within)
 
 loop-again-5 : tie.Need-loop-again-5 Inv-loop μ-loop
-loop-again-5 c = turn _ _ _ _ (c .before .before .before .before .before .before .before .before .before .before .before .loop .inv) _ _ _ (known _ _ _ _ (c .before .before .before .before .before .before .before .next-known .ensures) (c .before .before .before .before .before .k .given .1)) _ (c .step .ensures)
+loop-again-5 c = turn _ _ _ _ (c .before .before .before .before .before .before .before .before .before .before .before .before .before .loop .inv) _ _ _ (known _ _ _ _ (c .before .before .before .before .before .before .before .next-known .ensures) (c .before .before .before .before .before .k .given .1)) _ (stepped-call _ _ _ _ (c .before .if5 .taken) _ (c .on-count2 .ensures))
+
+step-requires : tie.Need-step-requires Inv-loop μ-loop
+step-requires c κs = let i = c .before .before .before .before .before .before .before .before .before .before .before .before .loop .inv in ((known _ _ _ _ (c .before .before .before .before .before .before .next-known .ensures) (c .before .before .before .before .k .given .1)) .value, c .before .before .before .before .before .before .before .before .before .before .before .before .before .before .before .pre .1, omega (arith, i .calls, i .within, c .before .before .before .before .before .before .before .before .before .before .before .before .before .before .before .pre .1), omega (arith, i .cards, i .within, c .before .before .before .before .before .before .before .before .before .before .before .before .before .before .before .pre .1))
+
+loop-less-6 : tie.Need-loop-less-6 Inv-loop μ-loop
+loop-less-6 c = let t = (known _ _ _ _ (c .before .before .before .before .before .before .before .next-known .ensures) (c .before .before .before .before .before .k .given .1)) in omega (arith, t .later, t .within)
+
+loop-again-6 : tie.Need-loop-again-6 Inv-loop μ-loop
+loop-again-6 c = turn _ _ _ _ (c .before .before .before .before .before .before .before .before .before .before .before .before .before .loop .inv) _ _ _ (known _ _ _ _ (c .before .before .before .before .before .before .before .next-known .ensures) (c .before .before .before .before .before .k .given .1)) _ (c .step .ensures)
 
 pub read-head-spec : {M : Type 1} → statement M
 read-head-spec =
@@ -100,18 +112,22 @@ read-head-spec =
     add-c
     loop-less
     loop-again
+    is-page-requires
+    add-c-2
+    loop-less-2
+    loop-again-2
     next-known-requires
     enum-known-k
     enum-told
     returns
     on-card-requires
-    loop-less-2
-    loop-again-2
     loop-less-3
     loop-again-3
-    on-count-requires-2
     loop-less-4
     loop-again-4
-    step-requires
+    on-count-requires-2
     loop-less-5
-    loop-again-5)
+    loop-again-5
+    step-requires
+    loop-less-6
+    loop-again-6)

@@ -3,7 +3,7 @@
 use Rattle.board_steps.proofs.HeadLaws.{stepped-none}
 use Rattle.board_steps.proofs.StoringLaws.{Into, into-begin, into-end, rows-long, cards-long, one-room, one-put, card-room, into-card, into-step, call-room, into-call, note-at, note-room, into-note, into-bare}
 use Rattle.commands.proofs.StepLaws.{known}
-use Rattle.commands.proofs.PlainLaws.{card-token, card-value}
+use Rattle.commands.proofs.PlainLaws.{card-token, card-value, page-token}
 use lib.ListN.{length}
 use mathlib.Core.Path.{refl}
 use native.Mathlib.Omega.{arith}
@@ -42,8 +42,20 @@ loop-less c = let t = (card-token _ _ _ _ (c .before .before .before .before .be
 loop-again : tie.Need-loop-again Inv-loop μ-loop
 loop-again c = into-card _ _ _ _ (c .before .before .before .before .before .before .before .before .before .before .before .before .pre) _ _ _ _ _ (c .before .before .before .before .before .before .before .loop .inv) _ _ _ (card-token _ _ _ _ (c .before .before .before .before .before .before .after-line .ensures) (c .before .before .before .before .before .plain-card .ensures (c .before .before .before .before .if1 .taken))) refl _ _ (one-put _ _ _ _ _ (card-value _ _ _ _ (c .before .before .before .before .before .before .after-line .ensures) (c .before .before .before .before .before .plain-card .ensures (c .before .before .before .before .if1 .taken))) _ _ (c .before .before .put-byte .ensures))
 
+is-page-requires : tie.Need-is-page-requires Inv-loop μ-loop
+is-page-requires c κs = tt
+
+add-c-2 : tie.Need-add-c-2 Inv-loop μ-loop
+add-c-2 c = omega (arith, (c .before .is-page .ensures (c .if2 .taken)) .short .within, c .before .before .before .before .before .before .before .before .before .before .pre .short)
+
+loop-less-2 : tie.Need-loop-less-2 Inv-loop μ-loop
+loop-less-2 c = let t = (page-token _ _ _ (c .before .before .before .before .after-line .ensures) (c .before .is-page .ensures (c .if2 .taken))) in omega (arith, t .later, t .within)
+
+loop-again-2 : tie.Need-loop-again-2 Inv-loop μ-loop
+loop-again-2 c = into-step _ _ _ _ (c .before .before .before .before .before .before .before .before .before .before .pre) _ _ _ _ _ (c .before .before .before .before .before .loop .inv) _ _ _ (page-token _ _ _ (c .before .before .before .before .after-line .ensures) (c .before .is-page .ensures (c .if2 .taken))) (λ e. omega (arith, e)) (λ e. omega (arith, e)) (λ e. omega (arith, e)) _ (stepped-none _ _ _ _ (omega arith))
+
 next-known-requires : tie.Need-next-known-requires Inv-loop μ-loop
-next-known-requires c κs = c .before .before .before .before .before .before .before .before .pre .short
+next-known-requires c κs = c .before .before .before .before .before .before .before .before .before .before .pre .short
 
 enum-known-k : tie.Need-enum-known-k Inv-loop μ-loop
 enum-known-k c = search needs
@@ -52,70 +64,70 @@ enum-told : tie.Need-enum-told Inv-loop μ-loop
 enum-told c = search needs
 
 same-length : tie.Need-same-length Inv-loop μ-loop
-same-length c = rows-long _ _ _ _ (c .before .before .before .before .before .before .before .before .before .before .before .pre) _ _ _ _ _ (c .before .before .before .before .before .before .loop .inv)
+same-length c = rows-long _ _ _ _ (c .before .before .before .before .before .before .before .before .before .before .before .before .before .pre) _ _ _ _ _ (c .before .before .before .before .before .before .before .before .loop .inv)
 
 same-length-2 : tie.Need-same-length-2 Inv-loop μ-loop
-same-length-2 c = cards-long _ _ _ _ (c .before .before .before .before .before .before .before .before .before .before .before .pre) _ _ _ _ _ (c .before .before .before .before .before .before .loop .inv)
+same-length-2 c = cards-long _ _ _ _ (c .before .before .before .before .before .before .before .before .before .before .before .before .before .pre) _ _ _ _ _ (c .before .before .before .before .before .before .before .before .loop .inv)
 
 returns : tie.Need-returns Inv-loop μ-loop
-returns c = into-end _ _ _ _ (c .before .before .before .before .before .before .before .before .before .before .before .pre) _ _ _ _ _ (c .before .before .before .before .before .before .loop .inv) (known _ _ _ _ (c .before .before .next-known .ensures) (c .enum-told .given .1))
+returns c = into-end _ _ _ _ (c .before .before .before .before .before .before .before .before .before .before .before .before .before .pre) _ _ _ _ _ (c .before .before .before .before .before .before .before .before .loop .inv) (known _ _ _ _ (c .before .before .next-known .ensures) (c .enum-told .given .1))
 
 put-card-requires : tie.Need-put-card-requires Inv-loop μ-loop
-put-card-requires c κs = card-room _ _ _ _ (c .before .before .before .before .before .before .before .before .before .before .before .before .before .before .pre) _ _ _ _ _ (c .before .before .before .before .before .before .before .before .before .loop .inv) _ _ _ (known _ _ _ _ (c .before .before .before .before .before .next-known .ensures) (c .before .before .before .k .given .1)) (c .before .if2 .taken)
-
-loop-less-2 : tie.Need-loop-less-2 Inv-loop μ-loop
-loop-less-2 c = let t = (known _ _ _ _ (c .before .before .before .before .before .before .before .before .next-known .ensures) (c .before .before .before .before .before .before .k .given .1)) in omega (arith, t .later, t .within)
-
-loop-again-2 : tie.Need-loop-again-2 Inv-loop μ-loop
-loop-again-2 c = into-card _ _ _ _ (c .before .before .before .before .before .before .before .before .before .before .before .before .before .before .before .before .before .pre) _ _ _ _ _ (c .before .before .before .before .before .before .before .before .before .before .before .before .loop .inv) _ _ _ (known _ _ _ _ (c .before .before .before .before .before .before .before .before .next-known .ensures) (c .before .before .before .before .before .before .k .given .1)) (c .before .before .before .before .if2 .taken) _ _ (c .before .before .put-card .ensures)
+put-card-requires c κs = card-room _ _ _ _ (c .before .before .before .before .before .before .before .before .before .before .before .before .before .before .before .before .pre) _ _ _ _ _ (c .before .before .before .before .before .before .before .before .before .before .before .loop .inv) _ _ _ (known _ _ _ _ (c .before .before .before .before .before .next-known .ensures) (c .before .before .before .k .given .1)) (c .before .if3 .taken)
 
 loop-less-3 : tie.Need-loop-less-3 Inv-loop μ-loop
-loop-less-3 c = let t = (known _ _ _ _ (c .before .before .before .before .before .next-known .ensures) (c .before .before .before .k .given .1)) in omega (arith, t .later, t .within)
+loop-less-3 c = let t = (known _ _ _ _ (c .before .before .before .before .before .before .before .before .next-known .ensures) (c .before .before .before .before .before .before .k .given .1)) in omega (arith, t .later, t .within)
 
 loop-again-3 : tie.Need-loop-again-3 Inv-loop μ-loop
-loop-again-3 c = into-step _ _ _ _ (c .before .before .before .before .before .before .before .before .before .before .before .before .before .before .pre) _ _ _ _ _ (c .before .before .before .before .before .before .before .before .before .loop .inv) _ _ _ (known _ _ _ _ (c .before .before .before .before .before .next-known .ensures) (c .before .before .before .k .given .1)) (c .before .if2 .left) (λ e. omega (arith, (c .if3 .taken))) (λ e. omega (arith, (c .if3 .taken))) _ (stepped-none _ _ _ _ (c .if3 .taken))
+loop-again-3 c = into-card _ _ _ _ (c .before .before .before .before .before .before .before .before .before .before .before .before .before .before .before .before .before .before .before .pre) _ _ _ _ _ (c .before .before .before .before .before .before .before .before .before .before .before .before .before .before .loop .inv) _ _ _ (known _ _ _ _ (c .before .before .before .before .before .before .before .before .next-known .ensures) (c .before .before .before .before .before .before .k .given .1)) (c .before .before .before .before .if3 .taken) _ _ (c .before .before .put-card .ensures)
+
+loop-less-4 : tie.Need-loop-less-4 Inv-loop μ-loop
+loop-less-4 c = let t = (known _ _ _ _ (c .before .before .before .before .before .next-known .ensures) (c .before .before .before .k .given .1)) in omega (arith, t .later, t .within)
+
+loop-again-4 : tie.Need-loop-again-4 Inv-loop μ-loop
+loop-again-4 c = into-step _ _ _ _ (c .before .before .before .before .before .before .before .before .before .before .before .before .before .before .before .before .pre) _ _ _ _ _ (c .before .before .before .before .before .before .before .before .before .before .before .loop .inv) _ _ _ (known _ _ _ _ (c .before .before .before .before .before .next-known .ensures) (c .before .before .before .k .given .1)) (c .before .if3 .left) (λ e. omega (arith, (c .if4 .taken))) (λ e. omega (arith, (c .if4 .taken))) _ (stepped-none _ _ _ _ (c .if4 .taken))
 
 call-of-requires : tie.Need-call-of-requires Inv-loop μ-loop
 call-of-requires c κs = (known _ _ _ _ (c .before .before .before .before .before .before .next-known .ensures) (c .before .before .before .before .k .given .1)) .value
 
 put-call-requires : tie.Need-put-call-requires Inv-loop μ-loop
-put-call-requires c κs = call-room _ _ _ _ (c .before .before .before .before .before .before .before .before .before .before .before .before .before .before .before .before .before .pre) _ _ _ _ _ (c .before .before .before .before .before .before .before .before .before .before .before .before .loop .inv) _ _ _ (known _ _ _ _ (c .before .before .before .before .before .before .before .before .next-known .ensures) (c .before .before .before .before .before .before .k .given .1)) (c .before .before .if4 .taken) _ (c .before .call-of .ensures)
+put-call-requires c κs = call-room _ _ _ _ (c .before .before .before .before .before .before .before .before .before .before .before .before .before .before .before .before .before .before .before .pre) _ _ _ _ _ (c .before .before .before .before .before .before .before .before .before .before .before .before .before .before .loop .inv) _ _ _ (known _ _ _ _ (c .before .before .before .before .before .before .before .before .next-known .ensures) (c .before .before .before .before .before .before .k .given .1)) (c .before .before .if5 .taken) _ (c .before .call-of .ensures)
 
 on-count-requires : tie.Need-on-count-requires Inv-loop μ-loop
-on-count-requires c κs = let i = c .before .before .before .before .before .before .before .before .before .before .before .before .before .before .before .loop .inv .reads in omega (arith, i .calls, i .within, c .before .before .before .before .before .before .before .before .before .before .before .before .before .before .before .before .before .before .before .before .pre .short)
-
-loop-less-4 : tie.Need-loop-less-4 Inv-loop μ-loop
-loop-less-4 c = let t = (known _ _ _ _ (c .before .before .before .before .before .before .before .before .before .before .before .before .next-known .ensures) (c .before .before .before .before .before .before .before .before .before .before .k .given .1)) in omega (arith, t .later, t .within)
-
-loop-again-4 : tie.Need-loop-again-4 Inv-loop μ-loop
-loop-again-4 c = into-call _ _ _ _ (c .before .before .before .before .before .before .before .before .before .before .before .before .before .before .before .before .before .before .before .before .before .pre) _ _ _ _ _ (c .before .before .before .before .before .before .before .before .before .before .before .before .before .before .before .before .loop .inv) _ _ _ (known _ _ _ _ (c .before .before .before .before .before .before .before .before .before .before .before .before .next-known .ensures) (c .before .before .before .before .before .before .before .before .before .before .k .given .1)) (c .before .before .before .before .before .before .if4 .taken) _ (c .before .before .before .before .before .call-of .ensures) _ _ (c .before .before .before .put-call .ensures) _ (c .on-count .ensures)
-
-sub-put-note : tie.Need-sub-put-note Inv-loop μ-loop
-sub-put-note c = note-at _ _ _ _ (c .before .before .before .before .before .before .before .before .before .before .before .before .before .before .before .before .before .before .pre) _ _ _ _ _ (c .before .before .before .before .before .before .before .before .before .before .before .before .before .loop .inv) (c .before .if6 .taken)
-
-put-note-requires : tie.Need-put-note-requires Inv-loop μ-loop
-put-note-requires c κs = note-room _ _ _ _ (c .before .before .before .before .before .before .before .before .before .before .before .before .before .before .before .before .before .before .pre) _ _ _ _ _ (c .before .before .before .before .before .before .before .before .before .before .before .before .before .loop .inv) _ _ _ (known _ _ _ _ (c .before .before .before .before .before .before .before .before .before .next-known .ensures) (c .before .before .before .before .before .before .before .k .given .1)) (c .before .before .if5 .taken) (c .before .if6 .taken)
+on-count-requires c κs = let i = c .before .before .before .before .before .before .before .before .before .before .before .before .before .before .before .before .before .loop .inv .reads in omega (arith, i .calls, i .within, c .before .before .before .before .before .before .before .before .before .before .before .before .before .before .before .before .before .before .before .before .before .before .pre .short)
 
 loop-less-5 : tie.Need-loop-less-5 Inv-loop μ-loop
 loop-less-5 c = let t = (known _ _ _ _ (c .before .before .before .before .before .before .before .before .before .before .before .before .next-known .ensures) (c .before .before .before .before .before .before .before .before .before .before .k .given .1)) in omega (arith, t .later, t .within)
 
 loop-again-5 : tie.Need-loop-again-5 Inv-loop μ-loop
-loop-again-5 c = into-note _ _ _ _ (c .before .before .before .before .before .before .before .before .before .before .before .before .before .before .before .before .before .before .before .before .before .pre) _ _ _ _ _ (c .before .before .before .before .before .before .before .before .before .before .before .before .before .before .before .before .loop .inv) _ _ _ (known _ _ _ _ (c .before .before .before .before .before .before .before .before .before .before .before .before .next-known .ensures) (c .before .before .before .before .before .before .before .before .before .before .k .given .1)) (c .before .before .before .before .before .if5 .taken) (c .before .before .before .before .if6 .taken) _ _ (c .before .before .put-note .ensures)
+loop-again-5 c = into-call _ _ _ _ (c .before .before .before .before .before .before .before .before .before .before .before .before .before .before .before .before .before .before .before .before .before .before .before .pre) _ _ _ _ _ (c .before .before .before .before .before .before .before .before .before .before .before .before .before .before .before .before .before .before .loop .inv) _ _ _ (known _ _ _ _ (c .before .before .before .before .before .before .before .before .before .before .before .before .next-known .ensures) (c .before .before .before .before .before .before .before .before .before .before .k .given .1)) (c .before .before .before .before .before .before .if5 .taken) _ (c .before .before .before .before .before .call-of .ensures) _ _ (c .before .before .before .put-call .ensures) _ (c .on-count .ensures)
+
+sub-put-note : tie.Need-sub-put-note Inv-loop μ-loop
+sub-put-note c = note-at _ _ _ _ (c .before .before .before .before .before .before .before .before .before .before .before .before .before .before .before .before .before .before .before .before .pre) _ _ _ _ _ (c .before .before .before .before .before .before .before .before .before .before .before .before .before .before .before .loop .inv) (c .before .if7 .taken)
+
+put-note-requires : tie.Need-put-note-requires Inv-loop μ-loop
+put-note-requires c κs = note-room _ _ _ _ (c .before .before .before .before .before .before .before .before .before .before .before .before .before .before .before .before .before .before .before .before .pre) _ _ _ _ _ (c .before .before .before .before .before .before .before .before .before .before .before .before .before .before .before .loop .inv) _ _ _ (known _ _ _ _ (c .before .before .before .before .before .before .before .before .before .next-known .ensures) (c .before .before .before .before .before .before .before .k .given .1)) (c .before .before .if6 .taken) (c .before .if7 .taken)
 
 loop-less-6 : tie.Need-loop-less-6 Inv-loop μ-loop
-loop-less-6 c = let t = (known _ _ _ _ (c .before .before .before .before .before .before .before .before .next-known .ensures) (c .before .before .before .before .before .before .k .given .1)) in omega (arith, t .later, t .within)
+loop-less-6 c = let t = (known _ _ _ _ (c .before .before .before .before .before .before .before .before .before .before .before .before .next-known .ensures) (c .before .before .before .before .before .before .before .before .before .before .k .given .1)) in omega (arith, t .later, t .within)
 
 loop-again-6 : tie.Need-loop-again-6 Inv-loop μ-loop
-loop-again-6 c = into-bare _ _ _ _ (c .before .before .before .before .before .before .before .before .before .before .before .before .before .before .before .before .before .pre) _ _ _ _ _ (c .before .before .before .before .before .before .before .before .before .before .before .before .loop .inv) _ _ _ (known _ _ _ _ (c .before .before .before .before .before .before .before .before .next-known .ensures) (c .before .before .before .before .before .before .k .given .1)) (c .before .if5 .taken) (c .if6 .left)
-
-step-requires : tie.Need-step-requires Inv-loop μ-loop
-step-requires c κs = let i = c .before .before .before .before .before .before .before .before .before .before .before .loop .inv .reads in ((known _ _ _ _ (c .before .before .before .before .before .before .before .next-known .ensures) (c .before .before .before .before .before .k .given .1)) .value, c .before .before .before .before .before .before .before .before .before .before .before .before .before .before .before .before .pre .short, omega (arith, i .calls, i .within, c .before .before .before .before .before .before .before .before .before .before .before .before .before .before .before .before .pre .short), omega (arith, i .cards, i .within, c .before .before .before .before .before .before .before .before .before .before .before .before .before .before .before .before .pre .short))
+loop-again-6 c = into-note _ _ _ _ (c .before .before .before .before .before .before .before .before .before .before .before .before .before .before .before .before .before .before .before .before .before .before .before .pre) _ _ _ _ _ (c .before .before .before .before .before .before .before .before .before .before .before .before .before .before .before .before .before .before .loop .inv) _ _ _ (known _ _ _ _ (c .before .before .before .before .before .before .before .before .before .before .before .before .next-known .ensures) (c .before .before .before .before .before .before .before .before .before .before .k .given .1)) (c .before .before .before .before .before .if6 .taken) (c .before .before .before .before .if7 .taken) _ _ (c .before .before .put-note .ensures)
 
 loop-less-7 : tie.Need-loop-less-7 Inv-loop μ-loop
 loop-less-7 c = let t = (known _ _ _ _ (c .before .before .before .before .before .before .before .before .next-known .ensures) (c .before .before .before .before .before .before .k .given .1)) in omega (arith, t .later, t .within)
 
 loop-again-7 : tie.Need-loop-again-7 Inv-loop μ-loop
-loop-again-7 c = into-step _ _ _ _ (c .before .before .before .before .before .before .before .before .before .before .before .before .before .before .before .before .before .pre) _ _ _ _ _ (c .before .before .before .before .before .before .before .before .before .before .before .before .loop .inv) _ _ _ (known _ _ _ _ (c .before .before .before .before .before .before .before .before .next-known .ensures) (c .before .before .before .before .before .before .k .given .1)) (c .before .before .before .before .if2 .left) (c .before .before .if4 .left) (c .before .if5 .left) _ (c .step .ensures)
+loop-again-7 c = into-bare _ _ _ _ (c .before .before .before .before .before .before .before .before .before .before .before .before .before .before .before .before .before .before .before .pre) _ _ _ _ _ (c .before .before .before .before .before .before .before .before .before .before .before .before .before .before .loop .inv) _ _ _ (known _ _ _ _ (c .before .before .before .before .before .before .before .before .next-known .ensures) (c .before .before .before .before .before .before .k .given .1)) (c .before .if6 .taken) (c .if7 .left)
+
+step-requires : tie.Need-step-requires Inv-loop μ-loop
+step-requires c κs = let i = c .before .before .before .before .before .before .before .before .before .before .before .before .before .loop .inv .reads in ((known _ _ _ _ (c .before .before .before .before .before .before .before .next-known .ensures) (c .before .before .before .before .before .k .given .1)) .value, c .before .before .before .before .before .before .before .before .before .before .before .before .before .before .before .before .before .before .pre .short, omega (arith, i .calls, i .within, c .before .before .before .before .before .before .before .before .before .before .before .before .before .before .before .before .before .before .pre .short), omega (arith, i .cards, i .within, c .before .before .before .before .before .before .before .before .before .before .before .before .before .before .before .before .before .before .pre .short))
+
+loop-less-8 : tie.Need-loop-less-8 Inv-loop μ-loop
+loop-less-8 c = let t = (known _ _ _ _ (c .before .before .before .before .before .before .before .before .next-known .ensures) (c .before .before .before .before .before .before .k .given .1)) in omega (arith, t .later, t .within)
+
+loop-again-8 : tie.Need-loop-again-8 Inv-loop μ-loop
+loop-again-8 c = into-step _ _ _ _ (c .before .before .before .before .before .before .before .before .before .before .before .before .before .before .before .before .before .before .before .pre) _ _ _ _ _ (c .before .before .before .before .before .before .before .before .before .before .before .before .before .before .loop .inv) _ _ _ (known _ _ _ _ (c .before .before .before .before .before .before .before .before .next-known .ensures) (c .before .before .before .before .before .before .k .given .1)) (c .before .before .before .before .if3 .left) (c .before .before .if5 .left) (c .before .if6 .left) _ (c .step .ensures)
 
 pub read-into-spec : {M : Type 1} → statement M
 read-into-spec =
@@ -131,6 +143,10 @@ read-into-spec =
     add-c
     loop-less
     loop-again
+    is-page-requires
+    add-c-2
+    loop-less-2
+    loop-again-2
     next-known-requires
     enum-known-k
     enum-told
@@ -138,21 +154,21 @@ read-into-spec =
     same-length-2
     returns
     put-card-requires
-    loop-less-2
-    loop-again-2
     loop-less-3
     loop-again-3
+    loop-less-4
+    loop-again-4
     call-of-requires
     put-call-requires
     on-count-requires
-    loop-less-4
-    loop-again-4
-    sub-put-note
-    put-note-requires
     loop-less-5
     loop-again-5
+    sub-put-note
+    put-note-requires
     loop-less-6
     loop-again-6
-    step-requires
     loop-less-7
-    loop-again-7)
+    loop-again-7
+    step-requires
+    loop-less-8
+    loop-again-8)

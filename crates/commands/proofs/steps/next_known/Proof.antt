@@ -1,40 +1,77 @@
--- `commands::next_known` meets its contract: the value is within the text, so its places have 32 bits.
+-- `commands::next_known` meets its contract: a command of two bytes and a value up to the next pipe, or what `far_known` says.
 -- Assumes nothing.
-use Rattle.commands.proofs.StepLaws.{commanded}
 use native.Mathlib.Omega.{arith}
+use borrow.Author.Tests.{not-false}
+use Rattle.commands.proofs.PlainLaws.{pair-none, pair-least, pair-token}
 use borrow.Author.Needs.{needs}
 use Rattle.commands.proofs.steps.next_known.Statement.{statement}
 use Rattle.commands.proofs.steps.next_known.Tie as tie
 
--- src/steps.rt:43:11
-next-command-requires : tie.Need-next-command-requires
-next-command-requires c κs = search needs
+after-line-requires : tie.Need-after-line-requires
+after-line-requires c κs = search needs
 
--- src/steps.rt:44:26
-enum-known-k : tie.Need-enum-known-k
-enum-known-k c = search needs
+is-pair-requires : tie.Need-is-pair-requires
+is-pair-requires c κs = search needs
 
--- src/steps.rt:46:24
-cast-t9 : tie.Need-cast-t9
-cast-t9 c = omega (arith, (commanded _ _ _ _ (c .before .before .before .before .next-command .ensures) (c .before .before .k .given .1)) .value, c .before .before .before .before .before .before .pre)
+far-known-requires : tie.Need-far-known-requires
+far-known-requires c κs = search needs
 
--- src/steps.rt:47:22
-cast-t10 : tie.Need-cast-t10
-cast-t10 c = omega (arith, (commanded _ _ _ _ (c .before .before .before .before .before .next-command .ensures) (c .before .before .before .k .given .1)) .value, c .before .before .before .before .before .before .before .pre)
-
--- src/steps.rt:51:29
-enum-told : tie.Need-enum-told
-enum-told c = search needs
-
--- src/steps.rt:39:1
 returns : tie.Need-returns
-returns c = commanded _ _ _ _ (c .before .before .before .before .before .next-command .ensures) (c .before .before .before .k .given .1)
+returns c = search needs
 
--- src/steps.rt:39:1
+add-v : tie.Need-add-v
+add-v c = omega (arith, (c .before .is-pair .ensures (not-false _ (c .if1 .left)) .within))
+
+next-pipe-requires : tie.Need-next-pipe-requires
+next-pipe-requires c κs = search needs
+
 returns-2 : tie.Need-returns-2
-returns-2 c = commanded _ _ _ _ (c .before .before .next-command .ensures) (c .enum-told .given .1)
+returns-2 c = pair-none _ _ _ _ (c .before .before .before .before .after-line .ensures) (c .before .before .before .is-pair .ensures (not-false _ (c .before .before .if1 .left))) (c .before .next-pipe .ensures) (c .if2 .taken)
+
+shared-slice-read-pair-of : tie.Need-shared-slice-read-pair-of
+shared-slice-read-pair-of c = omega (arith, (c .before .before .before .before .is-pair .ensures (not-false _ (c .before .before .before .if1 .left)) .within))
+
+add-pair-of : tie.Need-add-pair-of
+add-pair-of c = omega (arith, (c .before .before .before .before .is-pair .ensures (not-false _ (c .before .before .before .if1 .left)) .within))
+
+shared-slice-read-pair-of-2 : tie.Need-shared-slice-read-pair-of-2
+shared-slice-read-pair-of-2 c = omega (arith, (c .before .before .before .before .before .is-pair .ensures (not-false _ (c .before .before .before .before .if1 .left)) .within))
+
+pair-of-requires : tie.Need-pair-of-requires
+pair-of-requires c κs = search needs
+
+cast-t15 : tie.Need-cast-t15
+cast-t15 c = omega (arith, (c .before .before .before .before .before .before .is-pair .ensures (not-false _ (c .before .before .before .before .before .if1 .left)) .within), c .before .before .before .before .before .before .before .before .before .pre)
+
+sub-t10 : tie.Need-sub-t10
+sub-t10 c = pair-least _ _ _ _ (c .before .before .before .before .before .before .before .after-line .ensures) (c .before .before .before .before .before .before .is-pair .ensures (not-false _ (c .before .before .before .before .before .if1 .left))) (c .before .before .before .before .next-pipe .ensures) (c .before .before .before .if2 .left)
+
+cast-t16 : tie.Need-cast-t16
+cast-t16 c = search needs
+
+add-t10 : tie.Need-add-t10
+add-t10 c = search needs
+
+returns-3 : tie.Need-returns-3
+returns-3 c = pair-token _ _ _ _ (c .before .before .before .before .before .before .before .after-line .ensures) (c .before .before .before .before .before .before .is-pair .ensures (not-false _ (c .before .before .before .before .before .if1 .left))) (c .before .before .before .before .next-pipe .ensures) (c .before .before .before .if2 .left) _ (c .pair-of .ensures)
 
 pub next-known-spec : {M : Type 1} → statement M
 next-known-spec =
     tie.close
-    (tie.spec next-command-requires enum-known-k cast-t9 cast-t10 enum-told returns returns-2)
+    (tie.spec
+    after-line-requires
+    is-pair-requires
+    far-known-requires
+    returns
+    add-v
+    next-pipe-requires
+    returns-2
+    shared-slice-read-pair-of
+    add-pair-of
+    shared-slice-read-pair-of-2
+    pair-of-requires
+    cast-t15
+    sub-t10
+    cast-t16
+    add-t10
+    returns-3)

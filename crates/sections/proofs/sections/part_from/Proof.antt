@@ -23,17 +23,14 @@ loop-holds c = walks-begin _ _
 after-line-requires : tie.Need-after-line-requires Inv-loop μ-loop
 after-line-requires c κs = tt
 
-passed-len-requires : tie.Need-passed-len-requires Inv-loop μ-loop
-passed-len-requires c κs = tt
-
-add-c : tie.Need-add-c Inv-loop μ-loop
-add-c c = let t = (passed-token _ _ _ _ (c .before .before .after-line .ensures) (c .before .passed-len .ensures (c .if1 .taken))) in omega (arith, t .within)
+passed-end-requires : tie.Need-passed-end-requires Inv-loop μ-loop
+passed-end-requires c κs = tt
 
 loop-less : tie.Need-loop-less Inv-loop μ-loop
-loop-less c = let t = (passed-token _ _ _ _ (c .before .before .after-line .ensures) (c .before .passed-len .ensures (c .if1 .taken))) in omega (arith, t .later, t .within)
+loop-less c = let t = (passed-token _ _ _ _ (c .if1 .taken) (c .before .before .after-line .ensures) (c .before .passed-end .ensures (c .if1 .taken))) in omega (arith, t .later, t .within)
 
 loop-again : tie.Need-loop-again Inv-loop μ-loop
-loop-again c = passes-on _ _ _ _ _ (c .before .before .before .loop .inv) _ _ _ (passed-token _ _ _ _ (c .before .before .after-line .ensures) (c .before .passed-len .ensures (c .if1 .taken))) ((c .before .passed-len .ensures (c .if1 .taken)) .marks)
+loop-again c = passes-on _ _ _ _ _ (c .before .before .before .loop .inv) _ _ _ (passed-token _ _ _ _ (c .if1 .taken) (c .before .before .after-line .ensures) (c .before .passed-end .ensures (c .if1 .taken))) ((c .before .passed-end .ensures (c .if1 .taken)) .marks)
 
 command-end-requires : tie.Need-command-end-requires Inv-loop μ-loop
 command-end-requires c κs = tt
@@ -53,8 +50,8 @@ mark-at-requires c κs = pipes-command _ _ _ _ (c .before .before .command-end .
 returns-2 : tie.Need-returns-2 Inv-loop μ-loop
 returns-2 c = marks-stop _ _ _ _ _ (c .before .before .before .before .before .before .before .before .loop .inv) _ _ _ (pipes-token _ _ _ _ (c .before .before .before .before .command-end .ensures) (c .before .before .before .next-pipe .ensures) (c .before .before .if2 .left) _ refl) _ (c .before .mark-at .ensures) (c .if3 .taken)
 
-add-c-2 : tie.Need-add-c-2 Inv-loop μ-loop
-add-c-2 c = omega arith
+add-c : tie.Need-add-c Inv-loop μ-loop
+add-c c = omega arith
 
 moved-back-requires : tie.Need-moved-back-requires Inv-loop μ-loop
 moved-back-requires c κs = tt
@@ -73,8 +70,7 @@ part-from-spec =
     μ-loop
     loop-holds
     after-line-requires
-    passed-len-requires
-    add-c
+    passed-end-requires
     loop-less
     loop-again
     command-end-requires
@@ -83,7 +79,7 @@ part-from-spec =
     returns
     mark-at-requires
     returns-2
-    add-c-2
+    add-c
     moved-back-requires
     loop-less-2
     loop-again-2)
