@@ -78,6 +78,7 @@ pub const MISSING: usize = BLOCKS + 12;
 pub const COUNTED: usize = BLOCKS + 13;
 pub const BLANK: usize = BLOCKS + 14;
 pub const BLANK2: usize = BLOCKS + 15;
+pub const NO_NAMES: usize = BLOCKS + 16;
 /// The number of boards of the text, and of the next one.
 pub const COUNT_OF: usize = OWN + 5;
 pub const BOARD_NUMBER: usize = OWN + 6;
