@@ -43,8 +43,9 @@ fn define(s: &mut Steps) {
     s.mark(MOST_BYTES);
     s.block(FOUND, |b| {
         b.call(Call::Next);
-        b.copy(NUMBER, ANSWER + 5, 1, 1);
+        b.is(ANSWER, &[1]);
         b.is(ANSWER + 6, &[0; 10]);
+        b.copy(NUMBER, ANSWER + 5, 1, 1);
     });
     // No token more, and the cursor stays; what is left is from its place on.
     s.block(ENDED, |b| {
@@ -87,7 +88,6 @@ fn put(s: &mut Steps, text: &str) {
     for (n, (command, value)) in tokens.iter().enumerate() {
         next += command.len() + value.len() + 2;
         s.go(FOUND);
-        s.is(ANSWER, &[1]);
         s.shows(ANSWER + 1, command.as_bytes());
         s.shows(ANSWER + 3, value.as_bytes());
         s.is(ANSWER + 5, &[next as u32]);

@@ -8,16 +8,13 @@ use crate::memory::low;
 use crate::memory::plus;
 use crate::memory::set;
 use crate::stores::put_all;
-use lin_host::LinAnnotation;
 use lin_host::LinAnswer;
 use lin_host::LinBoard;
 use lin_host::LinBoards;
-use lin_host::LinConverted;
 use lin_host::LinHeading;
 use lin_host::LinPart;
 use lin_host::LinSection;
 use lin_host::LinStep;
-use lin_host::LinText;
 
 // Lays eight numbers.
 fn lay(m: &mut [u32; WORDS], numbers: [u64; 8]) {
@@ -29,12 +26,13 @@ fn lay(m: &mut [u32; WORDS], numbers: [u64; 8]) {
     }
 }
 
-fn lay_four(m: &mut [u32; WORDS], a: LinAnswer, d: u64, e: u64, f: u64) {
+// Lays an answer, and three numbers after it.
+pub fn lay_with(m: &mut [u32; WORDS], a: LinAnswer, d: u64, e: u64, f: u64) {
     lay(m, [a.refusal as u64, a.kind as u64, a.value, d, e, f, 0, 0]);
 }
 
 pub fn lay_answer(m: &mut [u32; WORDS], a: LinAnswer) {
-    lay_four(m, a, 0, 0, 0);
+    lay_with(m, a, 0, 0, 0);
 }
 
 pub fn lay_step(m: &mut [u32; WORDS], s: LinStep) {
@@ -60,7 +58,7 @@ pub fn lay_part(m: &mut [u32; WORDS], p: LinPart) {
 
 pub fn lay_boards(m: &mut [u32; WORDS], b: LinBoards) {
     let a = b.answer;
-    lay_four(m, a, b.at, b.number, b.lines as u64);
+    lay_with(m, a, b.at, b.number, b.lines as u64);
 }
 
 pub fn lay_section(m: &mut [u32; WORDS], s: LinSection) {
@@ -81,15 +79,6 @@ pub fn lay_section(m: &mut [u32; WORDS], s: LinSection) {
     );
 }
 
-pub fn lay_annotation(m: &mut [u32; WORDS], a: LinAnnotation) {
-    let answer = a.answer;
-    lay_four(m, answer, a.present as u64, 0, 0);
-}
-
-fn lay_text(m: &mut [u32; WORDS], at: usize, x: LinText) {
-    put_all(m, at, &[x.present, x.start, x.len]);
-}
-
 // A board's 21 words, and its 208 counts.
 fn lay_board(m: &mut [u32; WORDS], b: LinBoard) {
     let title = b.title;
@@ -97,24 +86,17 @@ fn lay_board(m: &mut [u32; WORDS], b: LinBoard) {
     let header = b.board_header;
     put_all(m, BOARD, &b.names);
     put_all(m, BOARD + 8, &[b.dealer, b.vulnerability]);
-    lay_text(m, BOARD + 10, title);
-    lay_text(m, BOARD + 13, room);
-    lay_text(m, BOARD + 16, header);
+    put_all(m, BOARD + 10, &[title.present, title.start, title.len]);
+    put_all(m, BOARD + 13, &[room.present, room.start, room.len]);
+    put_all(m, BOARD + 16, &[header.present, header.start, header.len]);
     put_all(m, BOARD + 19, &[b.claimed, b.claim]);
     put_all(m, BOARD + 21, &b.counts);
 }
 
-pub fn lay_heading(m: &mut [u32; WORDS], h: LinHeading) {
+// A heading, and how many bytes its texts have in an output.
+pub fn lay_heading(m: &mut [u32; WORDS], h: LinHeading, len: u64) {
     let answer = h.answer;
     let board = h.board;
-    lay_four(m, answer, h.calls, h.cards, 0);
-    lay_board(m, board);
-}
-
-pub fn lay_converted(m: &mut [u32; WORDS], c: LinConverted) {
-    let h = c.heading;
-    let answer = h.answer;
-    let board = h.board;
-    lay_four(m, answer, h.calls, h.cards, c.len);
+    lay_with(m, answer, h.calls, h.cards, len);
     lay_board(m, board);
 }

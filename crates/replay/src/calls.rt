@@ -1,12 +1,11 @@
 // The exports, called with what the memory says is lent, and their answers laid into it. (01: Tokens; Board; File; Writer; From PBN)
-use crate::answers::lay_annotation;
 use crate::answers::lay_answer;
 use crate::answers::lay_boards;
-use crate::answers::lay_converted;
 use crate::answers::lay_heading;
 use crate::answers::lay_part;
 use crate::answers::lay_section;
 use crate::answers::lay_step;
+use crate::answers::lay_with;
 use crate::boards::board_at;
 use crate::boards::record_at;
 use crate::lent::CALLS;
@@ -75,30 +74,22 @@ fn some(rows: &[u32; READ], n: usize) -> &[u32] {
     words(rows, n)
 }
 
-// The calls that take a text and numbers.
-fn reading(call: usize, m: &mut [u32; WORDS], text: &[u8]) {
+// The calls that take texts and numbers.
+fn reading(call: usize, m: &mut [u32; WORDS], text: &[u8], name: &[u8]) {
     let n = long(m, NUMBER);
+    let second = long(m, SECOND);
+    let lines = get(m, LINES);
     match call {
         0 => lay_answer(m, lin_open(text)),
         1 => lay_step(m, lin_next(text, n)),
         2 => lay_part(m, lin_trailing(text, n)),
-        3 => lay_heading(m, lin_parse_heading(text)),
+        3 => lay_heading(m, lin_parse_heading(text), 0),
         4 => lay_answer(m, lin_count_boards(text)),
-        5 => lay_heading(m, lin_file_heading(text, n)),
-        _ => lay_boards(m, lin_open_boards(text)),
+        5 => lay_heading(m, lin_file_heading(text, n), 0),
+        6 => lay_boards(m, lin_open_boards(text)),
+        7 => lay_section(m, lin_next_board(text, n, second, lines)),
+        _ => lay_answer(m, lin_find_name(text, name)),
     }
-}
-
-fn next_board(m: &mut [u32; WORDS], text: &[u8]) {
-    let at = long(m, NUMBER);
-    let number = long(m, SECOND);
-    let lines = get(m, LINES);
-    lay_section(m, lin_next_board(text, at, number, lines));
-}
-
-fn find_name(m: &mut [u32; WORDS], text: &[u8], bytes: &[u8; BYTES]) {
-    let name = part(bytes, place(m, TEXT2), place(m, TEXT2 + 1));
-    lay_answer(m, lin_find_name(text, name));
 }
 
 // Lays what was lent to be filled.
@@ -114,7 +105,7 @@ fn parse(m: &mut [u32; WORDS], text: &[u8]) {
     let w = place(m, LENT_WORDS);
     let p = place(m, LENT_CARDS);
     let h = lin_parse_lin(text, front_words(&mut rows, w), front(&mut cards, p));
-    lay_heading(m, h);
+    lay_heading(m, h, 0);
     lay_lent(m, &rows, &cards);
 }
 
@@ -126,7 +117,7 @@ fn file_board(m: &mut [u32; WORDS], text: &[u8]) {
     let p = place(m, LENT_CARDS);
     let n = long(m, NUMBER);
     let h = lin_file_board(text, n, front_words(&mut rows, w), front(&mut cards, p));
-    lay_heading(m, h);
+    lay_heading(m, h, 0);
     lay_lent(m, &rows, &cards);
 }
 
@@ -146,10 +137,9 @@ fn annotation(m: &mut [u32; WORDS], text: &[u8], out: &mut [u8]) {
     let start = get(m, SPAN);
     let len = get(m, SPAN + 1);
     let room = place(m, ROOM);
-    lay_annotation(
-        m,
-        lin_annotation_text(text, start, len, &notes, front(out, room)),
-    );
+    let a = lin_annotation_text(text, start, len, &notes, front(out, room));
+    let answer = a.answer;
+    lay_with(m, answer, a.present as u64, 0, 0);
 }
 
 fn append(m: &mut [u32; WORDS], text: &[u8], cards: &[u8], out: &mut [u8]) {
@@ -176,13 +166,11 @@ fn play(m: &mut [u32; WORDS], cards: &[u8], out: &mut [u8]) {
     lay_answer(m, lin_play_text(cards, front(out, room)));
 }
 
-fn same_board(m: &mut [u32; WORDS], text: &[u8], cards: &[u8], bytes: &[u8; BYTES]) {
+fn same_board(m: &mut [u32; WORDS], text: &[u8], cards: &[u8], text2: &[u8], cards2: &[u8]) {
     let rows = rows_at(m, ROWS);
     let rows2 = rows_at(m, ROWS2);
     let n = place(m, ROWS + 1);
     let n2 = place(m, ROWS2 + 1);
-    let text2 = part(bytes, place(m, TEXT2), place(m, TEXT2 + 1));
-    let cards2 = part(bytes, place(m, CARDS2), place(m, CARDS2 + 1));
     let board = board_at(m, LENT_BOARD);
     let board2 = board_at(m, LENT_BOARD2);
     let a = lin_same_board(
@@ -219,7 +207,8 @@ fn from_board(m: &mut [u32; WORDS], text: &[u8], plays: &[u8], out: &mut [u8]) {
         front_words(&mut rows, w),
         front(&mut cards, p),
     );
-    lay_converted(m, c);
+    let heading = c.heading;
+    lay_heading(m, heading, c.len);
     lay_lent(m, &rows, &cards);
 }
 
@@ -239,13 +228,13 @@ fn writing(call: usize, m: &mut [u32; WORDS], text: &[u8], cards: &[u8], out: &m
 pub fn called(call: usize, m: &mut [u32; WORDS], bytes: &[u8; BYTES], out: &mut [u8; BYTES]) {
     let text = part(bytes, place(m, TEXT), place(m, TEXT + 1));
     let cards = part(bytes, place(m, CARDS), place(m, CARDS + 1));
+    let text2 = part(bytes, place(m, TEXT2), place(m, TEXT2 + 1));
+    let cards2 = part(bytes, place(m, CARDS2), place(m, CARDS2 + 1));
     match call {
-        0 | 1 | 2 | 3 | 4 | 5 | 6 => reading(call, m, text),
-        7 => next_board(m, text),
+        0..=7 | 10 => reading(call, m, text, text2),
         8 => parse(m, text),
         9 => file_board(m, text),
-        10 => find_name(m, text, bytes),
-        17 => same_board(m, text, cards, bytes),
+        17 => same_board(m, text, cards, text2, cards2),
         _ => writing(call, m, text, cards, out),
     }
 }

@@ -19,8 +19,8 @@ use vectors::load;
 // The bytes that a file may have.
 const FILE: usize = 1_310_720;
 
-// The steps of one file.
-fn replay(
+// Loads a file, and does its steps.
+fn load_and_run(
     name: &[u8],
     file: &mut [u8; FILE],
     m: &mut [u32; WORDS],
@@ -31,28 +31,24 @@ fn replay(
     run(part(file, 0, n), m, bytes, out);
 }
 
-fn all(
-    file: &mut [u8; FILE],
-    m: &mut [u32; WORDS],
-    bytes: &mut [u8; BYTES],
-    out: &mut [u8; BYTES],
-) {
-    replay(b"tokens.bin", file, m, bytes, out);
-    replay(b"utf8.bin", file, m, bytes, out);
-    replay(b"boards.bin", file, m, bytes, out);
-    replay(b"files.bin", file, m, bytes, out);
-    replay(b"writer.bin", file, m, bytes, out);
-    replay(b"equality.bin", file, m, bytes, out);
-    replay(b"appends.bin", file, m, bytes, out);
-    replay(b"annotation.bin", file, m, bytes, out);
-    replay(b"pbn.bin", file, m, bytes, out);
-    replay(b"by_hand.bin", file, m, bytes, out);
-}
-
-fn main() {
+// The same with a memory of its own.
+fn replay(name: &[u8]) {
     let mut file = [0u8; FILE];
     let mut m = [0u32; WORDS];
     let mut bytes = [0u8; BYTES];
     let mut out = [0u8; BYTES];
-    all(&mut file, &mut m, &mut bytes, &mut out);
+    load_and_run(name, &mut file, &mut m, &mut bytes, &mut out);
+}
+
+fn main() {
+    replay(b"tokens.bin");
+    replay(b"utf8.bin");
+    replay(b"boards.bin");
+    replay(b"files.bin");
+    replay(b"writer.bin");
+    replay(b"equality.bin");
+    replay(b"appends.bin");
+    replay(b"annotation.bin");
+    replay(b"pbn.bin");
+    replay(b"by_hand.bin");
 }

@@ -26,8 +26,8 @@ use crate::stores::count_all;
 use crate::stores::fill;
 use crate::stores::half;
 use crate::stores::item;
-use crate::stores::patch;
 use crate::stores::put;
+use crate::stores::put_bytes;
 use std::num::wrapping_add_u32;
 use std::num::wrapping_sub_u32;
 use text::part;
@@ -99,7 +99,7 @@ fn sum(m: &mut [u32; WORDS], at: usize, other: usize, less: bool) {
 
 // Puts the data into bytes, and their number after the place.
 fn lend(m: &mut [u32; WORDS], at: usize, data: &[u8], bytes: &mut [u8; BYTES]) {
-    patch(m, at, data, bytes);
+    put_bytes(bytes, place(m, at), data);
     set(m, plus(at, 1), word(data.len()));
 }
 
@@ -116,7 +116,7 @@ fn store(op: u8, at: usize, data: &[u8], m: &mut [u32; WORDS], bytes: &mut [u8; 
         4 => sum(m, at, from, false),
         5 => sum(m, at, from, true),
         6 => lend(m, at, data, bytes),
-        7 => patch(m, at, data, bytes),
+        7 => put_bytes(bytes, place(m, at), data),
         _ => fill(m, at, data, bytes),
     }
 }

@@ -100,7 +100,7 @@ fn set_byte(to: &mut [u8; BYTES], at: usize, b: u8) {
 }
 
 // Puts the data into bytes.
-fn put_bytes(to: &mut [u8; BYTES], at: usize, data: &[u8]) {
+pub fn put_bytes(to: &mut [u8; BYTES], at: usize, data: &[u8]) {
     let mut i = 0;
     while i < data.len() {
         set_byte(to, plus(at, i), data[i]);
@@ -117,11 +117,6 @@ fn fill_bytes(to: &mut [u8; BYTES], at: usize, count: usize, b: u8) {
         t = plus(t, 1);
         left -= 1;
     }
-}
-
-// Puts the data where the word at a place says.
-pub fn patch(m: &[u32; WORDS], at: usize, data: &[u8], to: &mut [u8; BYTES]) {
-    put_bytes(to, place(m, at), data);
 }
 
 // Fills what a start and a length in the memory say.

@@ -6,8 +6,9 @@ use super::{
     *,
 };
 
-/// A record without anything, and no note.
+/// A record without anything, and no note; a blank call, whose annotation is absent.
 const BLANK_RECORD: usize = OWN_BLOCK + 4;
+const BLANK_CALL: usize = OWN_BLOCK + 7;
 
 /// The answer is a board with so many bytes of texts, calls and cards, and the bytes after
 /// them are as they were.
@@ -46,16 +47,12 @@ fn text(s: &mut Steps, place: usize, start: u32, len: u32) {
 /// pass 7, of a continue 8 and of a blank 9, and from 10 on the notes.
 fn record_with(s: &mut Steps, place: usize, start: u32, len: u32) {
     s.go(BLANK_RECORD);
-    let raw = |kind| [kind, 0, 0, 1, start, len];
-    lend_calls(
-        s,
-        &match place {
-            7 => raw(0),
-            8 => raw(4),
-            9 => raw(5),
-            _ => [5, 0, 0, 0, u32::MAX, 1],
-        },
-    );
+    match place {
+        7 => lend_calls(s, &[0, 0, 0, 1, start, len]),
+        8 => lend_calls(s, &[4, 0, 0, 1, start, len]),
+        9 => lend_calls(s, &[5, 0, 0, 1, start, len]),
+        _ => s.go(BLANK_CALL),
+    }
     match place {
         0..=6 => text(s, place, start, len),
         7..=9 => (),
@@ -77,22 +74,58 @@ fn bytes(place: usize, len: u32) -> u32 {
     }
 }
 
+/// The number that must be answered, and the bytes and calls that are made; the blocks
+/// that ask for that refusal, and for a board.
+const EXPECTED: usize = OWN_NUMBER;
+const LEN: usize = OWN_NUMBER + 1;
+const MADE_CALLS: usize = OWN_NUMBER + 2;
+const REFUSED: usize = OWN_BLOCK + 5;
+const MADE: usize = OWN_BLOCK + 6;
+
+fn define_places(s: &mut Steps) {
+    s.block(BLANK_CALL, |b| lend_calls(b, &[5, 0, 0, 0, u32::MAX, 1]));
+    s.block(REFUSED, |b| {
+        b.call(Call::FromBoard);
+        b.same(ANSWER, EXPECTED);
+        b.is(ANSWER + 1, &[0; 15]);
+        b.go(FRESH);
+        b.go(UNTOUCHED);
+        b.stayed();
+        b.case(0);
+    });
+    s.block(MADE, |b| {
+        b.call(Call::FromBoard);
+        b.is(ANSWER, &[0, 0, 0]);
+        b.same(ANSWER + 3, MADE_CALLS);
+        b.is(ANSWER + 4, &[0]);
+        b.same(ANSWER + 5, LEN);
+        b.is(ANSWER + 6, &[0; 10]);
+        b.copy(REST, LEN, 1, 1);
+        b.copy(REST_LEN, OUT_LEN, 1, 1);
+        b.sub(REST_LEN, LEN);
+        b.all_are(REST, MARK);
+        b.case(0);
+        b.mark_again();
+    });
+}
+
 /// A span in each place of a record: those of dropped calls and of notes that no annotation
 /// names too.
 fn places(s: &mut Steps, (start, len, number): Refused) {
+    s.set(EXPECTED, &[number]);
     for place in 0..266 {
         record_with(s, place, start, len);
         if number == 0 {
-            accepted(s, bytes(place, len), u32::from(place == 7), 0);
-            s.mark_again();
+            s.set(LEN, &[bytes(place, len), u32::from(place == 7)]);
+            s.go(MADE);
         } else {
-            is_refused(s, number, 0, 0);
+            s.go(REFUSED);
         }
-        s.case(0);
     }
 }
 
 fn refusals(s: &mut Steps) {
+    define_places(s);
     s.mark(32);
     s.set(ROOM, &[31]);
     s.set(LENT_WORDS, &[6, 0]);

@@ -7,7 +7,7 @@ use crate::{
     annotation::{define_notes, lend_notes},
     boards::{held, number, seat, text_of, vulnerability},
     lin::LinData,
-    steps::{expected::marks, *},
+    steps::{expected::marks, lent::span, *},
 };
 
 /// The groups: with rows, places and bytes to spare, with exactly enough, and with a
@@ -86,13 +86,6 @@ fn given(s: &mut Steps, at: usize, number: Option<u32>) {
     if let Some(n) = number {
         s.set(at + 1, &[n]);
     }
-}
-
-/// A text at the end of others, as a span.
-fn span(texts: &mut Vec<u8>, text: &[u8]) -> [u32; 2] {
-    let start = texts.len() as u32;
-    texts.extend(text);
-    [start, text.len() as u32]
 }
 
 /// The board's words without its counts, its rows, and its texts back to back.

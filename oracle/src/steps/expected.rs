@@ -1,7 +1,9 @@
 //! The board that an answer must be: a block that compares its heading, and one
 //! that compares its rows and cards.
 
-use super::{Steps, BOARD, CALLS_OF, CARDS_OF, CLEAR, DEAL, FILLED_CARDS, FILLED_ROWS, HEAD, TAIL};
+use super::{
+    Steps, BOARD, CALLS_OF, CARDS_OF, CLEAR, DEAL, FILLED_CARDS, FILLED_ROWS, HEAD, NO_NAMES, TAIL,
+};
 use crate::{
     boards::{held, number, seat, text_of, vulnerability},
     lin::LinData,
@@ -17,9 +19,18 @@ pub(crate) fn marks(board: &LinData) -> [u32; 4] {
     ]
 }
 
-fn head(s: &mut Steps, board: &LinData) {
-    for (n, name) in board.player_names.iter().enumerate() {
+/// The four names.
+pub(super) fn names(s: &mut Steps, names: &[String; 4]) {
+    for (n, name) in names.iter().enumerate() {
         s.shows(BOARD + 2 * n, name.as_bytes());
+    }
+}
+
+fn head(s: &mut Steps, board: &LinData) {
+    if board.player_names.iter().all(String::is_empty) {
+        s.go(NO_NAMES);
+    } else {
+        names(s, &board.player_names);
     }
     let [dealer, side, claimed, claim] = marks(board);
     s.is(BOARD + 8, &[dealer, side]);

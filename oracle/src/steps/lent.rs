@@ -47,7 +47,7 @@ pub fn define(s: &mut Steps, side: Side) {
 }
 
 /// A text at the end of others, as a span.
-fn span(texts: &mut Vec<u8>, text: &[u8]) -> [u32; 2] {
+pub(crate) fn span(texts: &mut Vec<u8>, text: &[u8]) -> [u32; 2] {
     let start = texts.len() as u32;
     texts.extend(text);
     [start, text.len() as u32]

@@ -17,6 +17,7 @@ pub const GROUPS: [&str; 6] = [
 
 /// Blocks that every reader has.
 fn shared(s: &mut Steps) {
+    s.block(NO_NAMES, |b| expected::names(b, &Default::default()));
     s.block(CLEAR, |b| b.repeat(DEAL, ZERO, 208));
     s.block(FRESH, |b| {
         b.is(BOARD, &[0, 0, 0, 0, 0, 0, 0, 0, 2, 0]);
