@@ -14,7 +14,6 @@ pub use commands::PC;
 pub use commands::PN;
 pub use commands::QX;
 pub use commands::SV;
-pub use commands::command_at;
 pub use commands::mark_at;
 pub use fields::on_card;
 pub use fields::on_claim;
