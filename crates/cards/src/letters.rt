@@ -12,7 +12,7 @@ pub enum Lookup {
 
 // The number of a letter, in either case: 0 to 3 for the suits S, H, D, C, 4 to 16 for the ranks 2 to 9, T, J, Q, K, A, and from 17 on for none. The
 // compiler makes one table of it, since the letters lie dense enough; B is there for that alone.
-pub fn letter(c: u8) -> u8
+pub(crate) fn letter(c: u8) -> u8
     ensures { λ r. ⌜ (suitOf c ≡ suitIn r) × (rankOf c ≡ rankIn r) ⌝ }
 {
     match c {

@@ -9,7 +9,6 @@ pub use hands::seat_sum;
 pub use letters::Lookup;
 pub use letters::MaybeCard;
 pub use letters::card_number;
-pub use letters::letter;
 pub use letters::rank_of;
 pub use letters::read_card;
 pub use letters::suit_of;

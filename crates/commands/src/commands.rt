@@ -148,7 +148,7 @@ fn word_at(text: &[u8], at: usize, p: usize) -> u8
 }
 
 // The number of the command that stands from `at` up to p, 10 where it is none of them. Nearly all are two bytes, perhaps after an LF.
-pub fn command_at(text: &[u8], at: usize, p: usize) -> u8
+pub(crate) fn command_at(text: &[u8], at: usize, p: usize) -> u8
     requires { ⌜ (at ≤ p) × (p ≤ length (now text)) ⌝ }
     ensures { λ r. ⌜ r ≡ commandOf (part (now (text .entry)) at (p - at)) ⌝ }
 {

@@ -13,7 +13,6 @@ pub use commands::PC;
 pub use commands::PN;
 pub use commands::QX;
 pub use commands::SV;
-pub use commands::command_at;
 pub use commands::mark_at;
 pub use plain::after_line;
 pub use plain::command_end;
