@@ -175,6 +175,60 @@ module _ (s d counts : List ℕ) (seat suit i : ℕ) (v : Held s d counts seat s
           inv = hand-card turn-in h f;
         }
 
+-- The same with the place of the suit's lowest card instead of the suit
+
+pub record Stands (s d counts : List ℕ) (seat at i : ℕ) : Type 0 where
+  pub suit : ℕ
+  pub held : Held s d counts seat suit i
+  pub is : at ≡ pick (ltb suit 4) (seat * 52 + suit * 13) 208
+
+pub stands-start : (s d : List ℕ) (seat : ℕ) → part d (seat * 52) 52 ≡ noCards → Stands s d d seat 208 0
+stands-start s d seat e = record { suit = 4; held = held-start s d seat e; is = refl }
+
+module _ (s d counts : List ℕ) (seat at i : ℕ) (v : Stands s d counts seat at i) (k : seat < 4) (l : part d (seat * 52) 52 ≡ noCards) where
+  pub stands-end : length s ≤ i → counts ≡ placed d seat (readHand s)
+  stands-end h = held-end s d counts seat (v .suit) i (v .held) l h
+
+  -- a suit is known
+  known : ltb at 208 ≡ ltb (v .suit) 4
+  known = rw (v .is) (go (ltb (v .suit) 4) refl)
+    where
+      go : (t : Bool) → ltb (v .suit) 4 ≡ t → ltb (pick t (seat * 52 + v .suit * 13) 208) 208 ≡ t
+      go true e = let h = ltb-true (v .suit) 4 e in lt-ltb (seat * 52 + v .suit * 13) 208 (omega arith)
+      go false e = refl
+
+  suit-at : at < 208 → (at ≡ seat * 52 + v .suit * 13) × (v .suit < 4)
+  suit-at h =
+      let e : ltb (v .suit) 4 ≡ true = sym known ∙ lt-ltb at 208 h in
+      (v .is ∙ simp e, ltb-true (v .suit) 4 e)
+
+  module _ (n : ℕ) (m : i < length s) (e : (suitOf (getD s i 0) ≡ suitIn n) × (rankOf (getD s i 0) ≡ rankIn n)) where
+    pub stands-suit : n < 4 → Stands s d counts seat (seat * 52 + n * 13) (i + 1)
+    stands-suit h = record { suit = n; held = held-suit s d counts seat (v .suit) i (v .held) l n m e h; is = sym (simp (lt-ltb n 4 h)) }
+
+    pub stands-skip : 4 ≤ n → (ltb at 208 && ltb n 17) ≡ false → Stands s d counts seat at (i + 1)
+    stands-skip h f = record { suit = v .suit; held = held-skip s d counts seat (v .suit) i (v .held) l n m e h (rw known at f); is = v .is }
+
+    module _ (h : 4 ≤ n) (f : (ltb at 208 && ltb n 17) ≡ true) where
+      below-at : at < 208
+      below-at = ltb-true at 208 (and-left (ltb at 208) (ltb n 17) f)
+
+      below-rank : n < 17
+      below-rank = ltb-true n 17 (and-right (ltb at 208) (ltb n 17) f)
+
+      -- the place of the card
+      card-at : at + (n - 4) ≡ seat * 52 + (v .suit * 13 + (n - 4))
+      card-at = let x = suit-at below-at .0 in omega arith
+
+      pub stands-within : at + (n - 4) < 208
+      stands-within = let x = suit-at below-at in let y = below-rank in omega (arith, x .0, x .1)
+
+      pub stands-few : getD counts (at + (n - 4)) 0 ≤ i
+      stands-few = rw card-at (held-few s d counts seat (v .suit) i (v .held) l (v .suit * 13 + (n - 4)) (let x = suit-at below-at .1 in let y = below-rank in omega arith))
+
+      pub stands-card : Stands s d (set counts (at + (n - 4)) (getD counts (at + (n - 4)) 0 + 1)) seat at (i + 1)
+      stands-card = record { suit = v .suit; held = rw card-at (held-card s d counts seat (v .suit) i (v .held) l n m e h (rw known at f)); is = v .is }
+
 -- The counts of a hand
 
 -- the list of a struct that the code holds has the length of its array

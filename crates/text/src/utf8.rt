@@ -181,7 +181,7 @@ fn ascii_end(s: &[u8], from: usize) -> usize
     i
 }
 
-// The same, where most often there is none; where there are sixteen, there may be many.
+// The same, where most often there is none.
 fn past_ascii(s: &[u8], from: usize) -> usize
     ensures { λ r. ⌜ Past (now (s .entry)) from r ⌝ }
 {
@@ -190,9 +190,6 @@ fn past_ascii(s: &[u8], from: usize) -> usize
     }
     if 0x7F < s[from] {
         return from;
-    }
-    if ascii_sixteen(s, from) {
-        return ascii_end(s, sixty_fours_end(s, from + 16));
     }
     ascii_end(s, from)
 }
