@@ -1,13 +1,4 @@
 // The answers of the exports, laid into the memory: eight numbers, and a board where there is one. (01: Eight refusals, "With it"; Records)
-use crate::memory::ANSWER;
-use crate::memory::BOARD;
-use crate::memory::HIGH;
-use crate::memory::WORDS;
-use crate::memory::high;
-use crate::memory::low;
-use crate::memory::plus;
-use crate::memory::set;
-use crate::stores::put_all;
 use lin_host::LinAnswer;
 use lin_host::LinBoard;
 use lin_host::LinBoards;
@@ -15,6 +6,15 @@ use lin_host::LinHeading;
 use lin_host::LinPart;
 use lin_host::LinSection;
 use lin_host::LinStep;
+use replay_memory::ANSWER;
+use replay_memory::BOARD;
+use replay_memory::HIGH;
+use replay_memory::WORDS;
+use replay_memory::high;
+use replay_memory::low;
+use replay_memory::plus;
+use replay_memory::put_all;
+use replay_memory::set;
 
 // Lays eight numbers.
 fn lay(m: &mut [u32; WORDS], numbers: [u64; 8]) {

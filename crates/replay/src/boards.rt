@@ -1,12 +1,12 @@
 // The boards and the record that are lent, taken from the memory. (01: Records; From PBN, "Input ..")
-use crate::memory::RECORD;
-use crate::memory::WORDS;
-use crate::memory::get;
-use crate::memory::plus;
-use crate::stores::take;
 use lin_host::LinBoard;
 use lin_host::LinPbn;
 use lin_host::LinText;
+use replay_memory::RECORD;
+use replay_memory::WORDS;
+use replay_memory::get;
+use replay_memory::plus;
+use replay_memory::take;
 
 fn text_at(m: &[u32; WORDS], at: usize) -> LinText {
     LinText {

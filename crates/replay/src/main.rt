@@ -4,15 +4,11 @@
 mod answers;
 mod boards;
 mod calls;
-mod expects;
-mod lent;
-mod memory;
 mod steps;
-mod stores;
 
-use crate::memory::WORDS;
 use crate::steps::run;
-use crate::stores::BYTES;
+use replay_memory::BYTES;
+use replay_memory::WORDS;
 use text::part;
 use vectors::load;
 

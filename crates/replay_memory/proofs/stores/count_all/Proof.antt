@@ -1,10 +1,10 @@
--- `replay::stores::count_all` is safe and ends. The invariant says nothing, and the measure is what is left of the data.
+-- `replay_memory::stores::count_all` is safe and ends. The invariant says nothing, and the measure is what is left of the data.
 -- Assumes nothing.
 use Prim.Native.Nat.{_-_}
 use borrow.Author.Needs.{needs}
 use lib.ListN.{length}
-use Rattle.replay.proofs.stores.count_all.Statement.{statement}
-use Rattle.replay.proofs.stores.count_all.Tie as tie
+use Rattle.replay_memory.proofs.stores.count_all.Statement.{statement}
+use Rattle.replay_memory.proofs.stores.count_all.Tie as tie
 
 abbrev Inv-loop : tie.InvT-loop
 Inv-loop m₀ at d i₀ m i = Unit {0}

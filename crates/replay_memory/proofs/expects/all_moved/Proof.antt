@@ -1,8 +1,8 @@
--- `replay::expects::all_moved` is safe and ends. The invariant says nothing, and the measure is the number of spans left.
+-- `replay_memory::expects::all_moved` is safe and ends. The invariant says nothing, and the measure is the number of spans left.
 -- Assumes nothing.
 use borrow.Author.Needs.{needs}
-use Rattle.replay.proofs.expects.all_moved.Statement.{statement}
-use Rattle.replay.proofs.expects.all_moved.Tie as tie
+use Rattle.replay_memory.proofs.expects.all_moved.Statement.{statement}
+use Rattle.replay_memory.proofs.expects.all_moved.Tie as tie
 
 abbrev Inv-loop : tie.InvT-loop
 Inv-loop m own whole count stride by left₀ o₀ w₀ left o w = Unit {0}

@@ -1,8 +1,8 @@
--- `replay::stores::fill_bytes` is safe and ends. The invariant says nothing, and the measure is the number of bytes left.
+-- `replay_memory::stores::fill_bytes` is safe and ends. The invariant says nothing, and the measure is the number of bytes left.
 -- Assumes nothing.
 use borrow.Author.Needs.{needs}
-use Rattle.replay.proofs.stores.fill_bytes.Statement.{statement}
-use Rattle.replay.proofs.stores.fill_bytes.Tie as tie
+use Rattle.replay_memory.proofs.stores.fill_bytes.Statement.{statement}
+use Rattle.replay_memory.proofs.stores.fill_bytes.Tie as tie
 
 abbrev Inv-loop : tie.InvT-loop
 Inv-loop to₀ at count b left₀ t₀ to left t = Unit {0}

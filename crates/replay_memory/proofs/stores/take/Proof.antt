@@ -1,11 +1,11 @@
--- `replay::stores::take` is safe and ends. The invariant keeps the length, and the measure is what is left to fill.
+-- `replay_memory::stores::take` is safe and ends. The invariant keeps the length, and the measure is what is left to fill.
 -- Assumes nothing.
 use Prim.Native.Nat.{_-_}
 use borrow.Author.Needs.{needs}
 use lib.ListN.{length}
 use mathlib.Core.Path.{_≡_}
-use Rattle.replay.proofs.stores.take.Statement.{statement}
-use Rattle.replay.proofs.stores.take.Tie as tie
+use Rattle.replay_memory.proofs.stores.take.Statement.{statement}
+use Rattle.replay_memory.proofs.stores.take.Tie as tie
 
 abbrev Inv-loop : tie.InvT-loop
 Inv-loop to₀ m at i₀ to i = length to ≡ length to₀

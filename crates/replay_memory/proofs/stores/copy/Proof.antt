@@ -1,8 +1,8 @@
--- `replay::stores::copy` is safe and ends. The invariant says nothing, and the measure is the number of words left.
+-- `replay_memory::stores::copy` is safe and ends. The invariant says nothing, and the measure is the number of words left.
 -- Assumes nothing.
 use borrow.Author.Needs.{needs}
-use Rattle.replay.proofs.stores.copy.Statement.{statement}
-use Rattle.replay.proofs.stores.copy.Tie as tie
+use Rattle.replay_memory.proofs.stores.copy.Statement.{statement}
+use Rattle.replay_memory.proofs.stores.copy.Tie as tie
 
 abbrev Inv-loop : tie.InvT-loop
 Inv-loop m₀ to from count stride left₀ t₀ f₀ m left t f = Unit {0}

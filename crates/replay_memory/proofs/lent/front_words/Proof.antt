@@ -1,10 +1,10 @@
--- `replay::lent::front_words` is safe: the first n are n where there are as many.
+-- `replay_memory::lent::front_words` is safe: the first n are n where there are as many.
 -- Assumes nothing.
 use lib.ListN.{length-take}
 use native.Mathlib.Omega.{arith}
 use borrow.Author.Needs.{needs}
-use Rattle.replay.proofs.lent.front_words.Statement.{statement}
-use Rattle.replay.proofs.lent.front_words.Tie as tie
+use Rattle.replay_memory.proofs.lent.front_words.Statement.{statement}
+use Rattle.replay_memory.proofs.lent.front_words.Tie as tie
 
 returns : tie.Need-returns
 returns c = search needs

@@ -1,8 +1,8 @@
--- `replay::expects::agree` is safe and ends. The invariant says nothing, and the measure is the number of words left.
+-- `replay_memory::expects::agree` is safe and ends. The invariant says nothing, and the measure is the number of words left.
 -- Assumes nothing.
 use borrow.Author.Needs.{needs}
-use Rattle.replay.proofs.expects.agree.Statement.{statement}
-use Rattle.replay.proofs.expects.agree.Tie as tie
+use Rattle.replay_memory.proofs.expects.agree.Statement.{statement}
+use Rattle.replay_memory.proofs.expects.agree.Tie as tie
 
 abbrev Inv-loop : tie.InvT-loop
 Inv-loop m at from count stride left₀ t₀ f₀ left t f = Unit {0}
