@@ -13,22 +13,21 @@ ghost use Rattle.lin_spec.specs.Cards.{noCards, sum, readHand, remainder};
 ghost use Rattle.lin_spec.specs.Letters.{handLength};
 ghost use Rattle.cards.specs.Deals.{placed, handOf};
 
-// Counts the cards of a text at a seat's place in a deal, where none is counted yet. `suit` is the place of the lowest card of the suit of the last
-// suit letter, 208 before the first.
+// Counts the cards of a text at a seat's place in a deal, where none is counted yet. The suit is that of the last suit letter, 4 before the first.
 pub(crate) fn count_hand(counts: &mut [u32; 208], seat: usize, s: &[u8])
     requires { ⌜ (seat < 4) × (part (now counts) (seat * 52) 52 ≡ noCards) × (length (now s) < 2 ^ 32) ⌝ }
     ensures { λ r. ⌜ now (counts .exit) ≡ placed (now (counts .entry)) seat (readHand (now (s .entry))) ⌝ }
 {
     let first = seat * Deal::CARDS;
-    let mut suit = 208;
+    let mut suit: u8 = 4;
     let mut i = 0;
     while i < s.len() {
-        let n = letter(s[i]) as usize;
+        let n = letter(s[i]);
         if n < 4 {
-            suit = first + n * 13;
+            suit = n;
             i += 1;
-        } else if (suit < 208) & (n < 17) {
-            let at = suit + (n - 4);
+        } else if (suit < 4) & (n < 17) {
+            let at = first + (suit * 13 + (n - 4)) as usize;
             counts[at] = counts[at] + 1;
             i += 1;
         } else {

@@ -2,7 +2,6 @@
 use crate::commands::command_at;
 use crate::commands::pair_of;
 use crate::plain::after_line;
-use crate::plain::command_end;
 use crate::plain::is_pair;
 use document::Cursor;
 use document::Part;
@@ -29,7 +28,7 @@ pub fn next_command(text: &[u8], cursor: Cursor) -> Commanded
     ensures { λ r. ⌜ Commands (now (text .entry)) (cursor .at) r ⌝ }
 {
     let at = cursor.at;
-    let p = command_end(text, at);
+    let p = next_pipe(text, at);
     if text.len() <= p {
         return Commanded::Ended;
     }

@@ -1,40 +1,41 @@
 -- `cards::hands::count_hand` meets its contract. The loop's invariant: at the seat's place stands a hand of which the rest of the text makes
 -- what the whole makes of none, with no more cards counted than bytes are passed. The measure is what is left. (01: Board, md)
 -- Assumes nothing.
-use Prim.Native.Nat.{_-_}
+use Prim.Native.Nat.{_+_, _-_, _*_, _<_}
 use native.Mathlib.Omega.{arith}
 use lib.ListN.{length}
+use lib.Dec.{ltb}
+use borrow.Author.Tests.{ltb-true}
 use borrow.Author.Needs.{needs}
-use Rattle.cards.proofs.HandLaws.{Stands, stands-start, stands-within, stands-few, stands-suit, stands-skip, stands-card, stands-end}
+use Rattle.lin_spec.proofs.Base.{and-left, and-right}
+use Rattle.cards.proofs.HandLaws.{Held, held-start, held-few, held-suit, held-skip, held-card, held-end}
 use Rattle.cards.proofs.hands.count_hand.Statement.{statement}
 use Rattle.cards.proofs.hands.count_hand.Tie as tie
 
 abbrev Inv-loop : tie.InvT-loop
-Inv-loop counts₀ seat s first suit₀ i₀ counts suit i = Stands s counts₀ counts seat suit i
+Inv-loop counts₀ seat s first suit₀ i₀ counts suit i = Held s counts₀ counts seat suit i
 
 abbrev μ-loop : tie.MeasureT-loop
 μ-loop counts₀ seat s first suit₀ i₀ counts suit i = length s - i
+
+-- the suit and the rank of a card
+small : (d : tie.Then2 Inv-loop μ-loop) → (d .before .before .before .before .before .loop .suit < 4) × (d .before .before .letter .result < 17)
+small d =
+    let s = d .before .before .before .before .before .loop .suit in
+    let n = d .before .before .letter .result in
+    (ltb-true s 4 (and-left (ltb s 4) (ltb n 17) (d .if2 .taken)), ltb-true n 17 (and-right (ltb s 4) (ltb n 17) (d .if2 .taken)))
 
 mul-first : tie.Need-mul-first Inv-loop μ-loop
 mul-first c = omega (arith, c .before .pre .0)
 
 loop-holds : tie.Need-loop-holds Inv-loop μ-loop
-loop-holds c = stands-start _ _ _ (c .before .pre .1)
+loop-holds c = held-start _ _ _ (c .before .pre .1)
 
 shared-slice-read-letter : tie.Need-shared-slice-read-letter Inv-loop μ-loop
 shared-slice-read-letter c = search needs
 
 letter-requires : tie.Need-letter-requires Inv-loop μ-loop
 letter-requires c κs = tt
-
-cast-n : tie.Need-cast-n Inv-loop μ-loop
-cast-n c = search needs
-
-mul-suit : tie.Need-mul-suit Inv-loop μ-loop
-mul-suit c = omega (arith, c .if1 .taken)
-
-add-suit : tie.Need-add-suit Inv-loop μ-loop
-add-suit c = omega (arith, c .if1 .taken, c .before .before .before .before .before .before .pre .0)
 
 add-i : tie.Need-add-i Inv-loop μ-loop
 add-i c = search needs
@@ -43,25 +44,34 @@ loop-less : tie.Need-loop-less Inv-loop μ-loop
 loop-less c = search needs
 
 loop-again : tie.Need-loop-again Inv-loop μ-loop
-loop-again c = stands-suit _ _ _ _ _ _ (c .before .before .before .before .loop .inv) (c .before .before .before .before .before .before .pre .0) (c .before .before .before .before .before .before .pre .1) _ (c .before .before .before .loop-test .taken) (c .before .letter .ensures) (c .if1 .taken)
+loop-again c = held-suit _ _ _ _ _ _ (c .before .before .before .before .loop .inv) (c .before .before .before .before .before .before .pre .1) _ (c .before .before .before .loop-test .taken) (c .before .letter .ensures) (c .if1 .taken)
+
+mul-at : tie.Need-mul-at Inv-loop μ-loop
+mul-at c = omega (arith, small c .0, small c .1, c .before .before .before .before .before .before .before .pre .0)
 
 add-at : tie.Need-add-at Inv-loop μ-loop
-add-at c = omega (arith, stands-within _ _ _ _ _ _ (c .before .before .before .before .before .loop .inv) (c .before .before .before .before .before .before .before .pre .0) (c .before .before .before .before .before .before .before .pre .1) _ (c .before .before .before .before .loop-test .taken) (c .before .before .letter .ensures) (c .before .if1 .left) (c .if2 .taken))
+add-at c = omega (arith, small c .0, small c .1, c .before .before .before .before .before .before .before .pre .0)
+
+cast-at : tie.Need-cast-at Inv-loop μ-loop
+cast-at c = omega (arith, small c .0, small c .1, c .before .before .before .before .before .before .before .pre .0)
+
+add-at-2 : tie.Need-add-at-2 Inv-loop μ-loop
+add-at-2 c = omega (arith, small c .0, small c .1, c .before .before .before .before .before .before .before .pre .0)
 
 mul-counts : tie.Need-mul-counts Inv-loop μ-loop
-mul-counts c = omega (arith, stands-within _ _ _ _ _ _ (c .before .before .before .before .before .loop .inv) (c .before .before .before .before .before .before .before .pre .0) (c .before .before .before .before .before .before .before .pre .1) _ (c .before .before .before .before .loop-test .taken) (c .before .before .letter .ensures) (c .before .if1 .left) (c .if2 .taken))
+mul-counts c = omega (arith, small c .0, small c .1, c .before .before .before .before .before .before .before .pre .0)
 
 element-copy-out-counts : tie.Need-element-copy-out-counts Inv-loop μ-loop
-element-copy-out-counts c = omega (arith, stands-within _ _ _ _ _ _ (c .before .before .before .before .before .loop .inv) (c .before .before .before .before .before .before .before .pre .0) (c .before .before .before .before .before .before .before .pre .1) _ (c .before .before .before .before .loop-test .taken) (c .before .before .letter .ensures) (c .before .if1 .left) (c .if2 .taken))
+element-copy-out-counts c = omega (arith, small c .0, small c .1, c .before .before .before .before .before .before .before .pre .0)
 
 add-counts : tie.Need-add-counts Inv-loop μ-loop
-add-counts c = omega (arith, stands-few _ _ _ _ _ _ (c .before .before .before .before .before .before .loop .inv) (c .before .before .before .before .before .before .before .before .pre .0) (c .before .before .before .before .before .before .before .before .pre .1) _ (c .before .before .before .before .before .loop-test .taken) (c .before .before .before .letter .ensures) (c .before .before .if1 .left) (c .before .if2 .taken), c .before .before .before .before .before .loop-test .taken, c .before .before .before .before .before .before .before .before .pre .2)
+add-counts c = omega (arith, held-few _ _ _ _ _ _ (c .before .before .before .before .before .before .loop .inv) (c .before .before .before .before .before .before .before .before .pre .1) (c .before .before .before .before .before .before .loop .suit * 13 + (c .before .before .before .letter .result - 4)) (omega (arith, small (c .before) .0, small (c .before) .1)), c .before .before .before .before .before .loop-test .taken, c .before .before .before .before .before .before .before .before .pre .2)
 
 mul-counts-2 : tie.Need-mul-counts-2 Inv-loop μ-loop
-mul-counts-2 c = omega (arith, stands-within _ _ _ _ _ _ (c .before .before .before .before .before .before .loop .inv) (c .before .before .before .before .before .before .before .before .pre .0) (c .before .before .before .before .before .before .before .before .pre .1) _ (c .before .before .before .before .before .loop-test .taken) (c .before .before .before .letter .ensures) (c .before .before .if1 .left) (c .before .if2 .taken))
+mul-counts-2 c = omega (arith, small (c .before) .0, small (c .before) .1, c .before .before .before .before .before .before .before .before .pre .0)
 
 element-write-counts : tie.Need-element-write-counts Inv-loop μ-loop
-element-write-counts c = omega (arith, stands-within _ _ _ _ _ _ (c .before .before .before .before .before .before .loop .inv) (c .before .before .before .before .before .before .before .before .pre .0) (c .before .before .before .before .before .before .before .before .pre .1) _ (c .before .before .before .before .before .loop-test .taken) (c .before .before .before .letter .ensures) (c .before .before .if1 .left) (c .before .if2 .taken))
+element-write-counts c = omega (arith, small (c .before) .0, small (c .before) .1, c .before .before .before .before .before .before .before .before .pre .0)
 
 add-i-2 : tie.Need-add-i-2 Inv-loop μ-loop
 add-i-2 c = search needs
@@ -70,7 +80,7 @@ loop-less-2 : tie.Need-loop-less-2 Inv-loop μ-loop
 loop-less-2 c = search needs
 
 loop-again-2 : tie.Need-loop-again-2 Inv-loop μ-loop
-loop-again-2 c = stands-card _ _ _ _ _ _ (c .before .before .before .before .before .before .loop .inv) (c .before .before .before .before .before .before .before .before .pre .0) (c .before .before .before .before .before .before .before .before .pre .1) _ (c .before .before .before .before .before .loop-test .taken) (c .before .before .before .letter .ensures) (c .before .before .if1 .left) (c .before .if2 .taken)
+loop-again-2 c = held-card _ _ _ _ _ _ (c .before .before .before .before .before .before .loop .inv) (c .before .before .before .before .before .before .before .before .pre .1) _ (c .before .before .before .before .before .loop-test .taken) (c .before .before .before .letter .ensures) (c .before .before .if1 .left) (c .before .if2 .taken)
 
 add-i-3 : tie.Need-add-i-3 Inv-loop μ-loop
 add-i-3 c = search needs
@@ -79,10 +89,10 @@ loop-less-3 : tie.Need-loop-less-3 Inv-loop μ-loop
 loop-less-3 c = search needs
 
 loop-again-3 : tie.Need-loop-again-3 Inv-loop μ-loop
-loop-again-3 c = stands-skip _ _ _ _ _ _ (c .before .before .before .before .before .loop .inv) (c .before .before .before .before .before .before .before .pre .0) (c .before .before .before .before .before .before .before .pre .1) _ (c .before .before .before .before .loop-test .taken) (c .before .before .letter .ensures) (c .before .if1 .left) (c .if2 .left)
+loop-again-3 c = held-skip _ _ _ _ _ _ (c .before .before .before .before .before .loop .inv) (c .before .before .before .before .before .before .before .pre .1) _ (c .before .before .before .before .loop-test .taken) (c .before .before .letter .ensures) (c .before .if1 .left) (c .if2 .left)
 
 returns : tie.Need-returns Inv-loop μ-loop
-returns c = stands-end _ _ _ _ _ _ (c .before .loop .inv) (c .before .before .before .pre .0) (c .before .before .before .pre .1) (c .loop-test .left)
+returns c = held-end _ _ _ _ _ _ (c .before .loop .inv) (c .before .before .before .pre .1) (c .loop-test .left)
 
 pub count-hand-spec : {M : Type 1} → statement M
 count-hand-spec =
@@ -94,13 +104,13 @@ count-hand-spec =
     loop-holds
     shared-slice-read-letter
     letter-requires
-    cast-n
-    mul-suit
-    add-suit
     add-i
     loop-less
     loop-again
+    mul-at
     add-at
+    cast-at
+    add-at-2
     mul-counts
     element-copy-out-counts
     add-counts
