@@ -177,17 +177,8 @@ pub fn same_heads(
     requires { ⌜ (length (now counts) ≡ 208) × (length (now counts2) ≡ 208) ⌝ }
     ensures { λ r. ⌜ equalityOf r ≡ sameBoards other (lent (now (text .entry)) (boardOf head (now (counts .entry))) (now (rows .entry)) (now (cards .entry))) (lent (now (text2 .entry)) (boardOf head2 (now (counts2 .entry))) (now (rows2 .entry)) (now (cards2 .entry))) ⌝ }
 {
-    if let Verdict::Refused(r) = check_both(
-        other,
-        text,
-        head,
-        rows,
-        cards,
-        text2,
-        head2,
-        rows2,
-        cards2,
-    ) {
+    let verdict = check_both(other, text, head, rows, cards, text2, head2, rows2, cards2);
+    if let Verdict::Refused(r) = verdict {
         return Equality::Refused(r);
     }
     if equal(

@@ -11,11 +11,11 @@ use Rattle.equality.proofs.boards.same_heads.Tie as tie
 check-both-requires : tie.Need-check-both-requires
 check-both-requires c κs = search needs
 
-enum-known-r : tie.Need-enum-known-r
-enum-known-r c = search needs
+enum-known-verdict : tie.Need-enum-known-verdict
+enum-known-verdict c = search needs
 
 returns : tie.Need-returns
-returns c = let a = c .before .before .before .before .before .before .before .before .before .before .args in same-refused _ _ _ _ (c .before .before .before .check-both .ensures (now (a .counts)) (now (a .counts2))) _ (c .before .r .given .1)
+returns c = let a = c .before .before .before .before .before .before .before .before .before .before .args in same-refused _ _ _ _ (c .before .before .before .check-both .ensures (now (a .counts)) (now (a .counts2))) _ (c .before .verdict .given .1)
 
 enum-told : tie.Need-enum-told
 enum-told c = search needs
@@ -34,7 +34,7 @@ same-heads-spec =
     tie.close
     (tie.spec
     check-both-requires
-    enum-known-r
+    enum-known-verdict
     returns
     enum-told
     equal-requires
