@@ -85,7 +85,7 @@ pub fn read_card(s: &[u8]) -> MaybeCard
     MaybeCard::Card(u * 13 + r)
 }
 
-// The card of two bytes, a suit and a rank; 52 where they are none.
+// The card of two bytes, a suit and a rank; 52 where they are none. Promised is what its caller needs: an answer below 52 is their card.
 pub fn card_number(a: u8, b: u8) -> u8
     ensures { λ r. ⌜ (r < 52 → CardIs a b r) ⌝ }
 {

@@ -8,7 +8,7 @@ ghost use Rattle.lin_spec.specs.Tokens.{pipe};
 ghost use Rattle.lin_spec.specs.Cursor.{findFrom};
 ghost use Rattle.commands.specs.Plain.{Skips, PairAt, CardAt, PageAt, OtherLetter, UnmarkedAt, PassedAt};
 
-// The place after an LF, if one is there: the same token stands from it on.
+// The place after an LF, if one is there. Promised is what its callers need: the same token stands from it on.
 pub fn after_line(text: &[u8], at: usize) -> usize
     ensures { λ r. ⌜ Skips (now (text .entry)) at r ⌝ }
 {
@@ -45,7 +45,8 @@ pub fn command_end(text: &[u8], at: usize) -> usize
     next_pipe(text, at)
 }
 
-// The card of a pc that is six bytes: the command, a suit, a rank and the pipes. 52 where no such token stands.
+// The card of a pc that is six bytes: the command, a suit, a rank and the pipes; 52 for any other token. Promised is what its callers need: an answer
+// below 52 is the card of such a token.
 pub fn plain_card(text: &[u8], at: usize) -> u8
     ensures { λ r. ⌜ (r < 52 → CardAt (now (text .entry)) at r) ⌝ }
 {
@@ -106,7 +107,8 @@ fn is_unmarked(text: &[u8], at: usize) -> bool
     other_letter(text[at + 1])
 }
 
-// Where a token ends whose command has two bytes and is none of qx, md, mn and pn; 0 where no such token stands.
+// Where a token ends whose command has two bytes and is none of qx, md, mn and pn; 0 for others. Promised is what its caller needs: an answer above 0 is
+// the end of such a token.
 pub fn passed_end(text: &[u8], at: usize) -> usize
     ensures { λ r. ⌜ (0 < r → PassedAt (now (text .entry)) at r) ⌝ }
 {
