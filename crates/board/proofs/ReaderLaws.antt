@@ -53,7 +53,7 @@ use Rattle.board_steps.specs.Dealing.{held, dealtFrom}
 use Rattle.board_steps.specs.Calls.{isPresent, placeOf, rowOf, rowWords, with, callsAfter, callsFrom}
 use Rattle.board_steps.specs.Play.{before, cardsFrom, Gives as Card·Gives}
 use Rattle.board_steps.specs.Head.{boardAt}
-use Rattle.board.specs.Reader.{headOf, Ample, Counted}
+use Rattle.board.specs.Reader.{headOf, Places, Ample, Counted}
 use Rattle.board_steps.specs.Storing.{Fits, Stored}
 use Rattle.board_steps.specs.declared.heading.Head.{Head}
 use Rattle.board_steps.specs.declared.dealing.Dealt.{Dealt}
@@ -170,10 +170,17 @@ play-four s at = rw (cards-count s (stream s at)) (stream-four (onCard s) (λ c 
     most none n = omega arith
     most (some c) n = omega arith
 
-pub ample : (s : List ℕ) (at : ℕ) (rows cards : List ℕ) → (leb ((length s - at) / 4) (length rows / 6) && leb ((length s - at) / 4) (length cards)) ≡ true → Ample s at rows cards
-ample s at rows cards e =
-    let a : (length s - at) / 4 ≤ length rows / 6 = leb-true _ _ (and-left (leb ((length s - at) / 4) (length rows / 6)) (leb ((length s - at) / 4) (length cards)) e) in
-    let b : (length s - at) / 4 ≤ length cards = leb-true _ _ (and-right (leb ((length s - at) / 4) (length rows / 6)) (leb ((length s - at) / 4) (length cards)) e) in
+pub places : (n : ℕ) (rows cards : List ℕ) → (leb (n / 4) (length rows / 6) && leb (n / 4) (length cards)) ≡ true → Places n rows cards
+places n rows cards e =
+    record {
+      calls = leb-true _ _ (and-left (leb (n / 4) (length rows / 6)) (leb (n / 4) (length cards)) e);
+      play = leb-true _ _ (and-right (leb (n / 4) (length rows / 6)) (leb (n / 4) (length cards)) e);
+    }
+
+pub ample : (s : List ℕ) (at n : ℕ) (rows cards : List ℕ) → length s - at ≤ n → Places n rows cards → Ample s at rows cards
+ample s at n rows cards l p =
+    let a = p .calls in
+    let b = p .play in
     let c = calls-four s at in
     let d = play-four s at in
     record { calls = omega arith; play = omega arith }

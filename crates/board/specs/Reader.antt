@@ -34,6 +34,11 @@ headOf s h =
       cards = h .cards;
     }
 
+-- places for the calls and cards of any board of so many bytes: an mb or a pc takes four bytes at least
+pub record Places (n : ℕ) (rows cards : List ℕ) : Type 0 where
+  pub calls : n / 4 ≤ length rows / 6
+  pub play : n / 4 ≤ length cards
+
 -- the board has places for all its calls and cards
 pub record Ample (s : List ℕ) (at : ℕ) (rows cards : List ℕ) : Type 0 where
   pub calls : length (boardAt s at .calls) ≤ length rows / 6

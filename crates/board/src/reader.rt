@@ -17,13 +17,13 @@ use lin_spec::Verdict;
 use output::put_byte;
 ghost use mathlib.Core.Path.{_≡_};
 ghost use mathlib.Core.Bool.{true};
-ghost use Prim.Native.Nat.{_<_, _≤_, _^_};
+ghost use Prim.Native.Nat.{_-_, _<_, _≤_, _^_};
 ghost use lib.ListN.{length};
 ghost use Rattle.output.specs.Put.{Room, Put};
 ghost use Rattle.lin_spec.specs.Refusals.{unless};
 ghost use Rattle.lin_spec.specs.Reading.{headingOf, fewRows, Reading, stored, readHeading, readBoard};
 ghost use Rattle.board_steps.specs.Head.{boardAt};
-ghost use Rattle.board.specs.Reader.{headOf, Ample, Counted};
+ghost use Rattle.board.specs.Reader.{headOf, Places, Counted};
 
 // Stores every card from a place on.
 pub fn put_cards(cards: &mut [u8], text: &[u8], at: usize) -> usize
@@ -46,7 +46,7 @@ pub fn put_cards(cards: &mut [u8], text: &[u8], at: usize) -> usize
 }
 
 // A heading that was read, with dealer and deal.
-fn heading_of(text: &[u8], h: Head) -> Heading
+pub fn heading_of(text: &[u8], h: Head) -> Heading
     requires { ⌜ length (now text) < 2 ^ 32 ⌝ }
     ensures { λ r. ⌜ r ≡ headOf (now (text .entry)) h ⌝ }
 {
@@ -95,10 +95,10 @@ pub fn names_at(text: &[u8], at: usize) -> [Span; 4]
     h.names
 }
 
-// Whether no board of the text from a place on can have too few rows or cards: an mb or a pc takes four bytes at least.
-fn roomy(text: &[u8], at: usize, rows: &[u32], cards: &[u8]) -> bool
+// Tests for places enough for any board of the text from a place on. Promised is what its callers need: where it says true, there are.
+pub fn roomy(text: &[u8], at: usize, rows: &[u32], cards: &[u8]) -> bool
     requires { ⌜ at ≤ length (now text) ⌝ }
-    ensures { λ r. ⌜ (r ≡ true → Ample (now (text .entry)) at (now (rows .entry)) (now (cards .entry))) ⌝ }
+    ensures { λ r. ⌜ (r ≡ true → Places (length (now (text .entry)) - at) (now (rows .entry)) (now (cards .entry))) ⌝ }
 {
     let most = (text.len() - at) / 4;
     (most <= rows.len() / 6) & (most <= cards.len())

@@ -10,7 +10,7 @@ use mathlib.Core.Option.{Option, none, some}
 use lib.ListN.{length, take, drop, length-append}
 use lib.Seq.{take-append-seam, drop-append-add}
 use lib.Dec.{eqb}
-use borrow.Author.Tests.{eq-eqb, ne-eqb}
+use borrow.Author.Tests.{eq-eqb, ne-eqb, eqb-true, eqb-false}
 use Rattle.lin_spec.specs.Base.{pick, ascii}
 use Rattle.lin_spec.specs.Records.{bytesAt}
 use Rattle.lin_spec.specs.White.{trim, isCommand}
@@ -30,10 +30,11 @@ use Rattle.commands.proofs.StepLaws.{command-is}
 use Rattle.board_steps.specs.Head.{boardAt, freshHead, Stepped}
 use Rattle.board_steps.specs.Calls.{rowOf, rowWords}
 use Rattle.board_steps.specs.Play.{before, cardOf}
-use Rattle.board_steps.specs.Storing.{noteWords, Fits, Stored}
+use Rattle.board_steps.specs.Storing.{bidWords, noteWords, noted, Fits, Stored}
 use Rattle.board_steps.specs.declared.heading.Head.{Head}
 use Rattle.board_steps.proofs.HeadLaws.{Reads, begins, ends, turn, stepped-card, stepped-call, stepped-note}
 use Rattle.board_steps.proofs.CallLaws.{words-cons, annotated-length}
+use Rattle.lin_spec.proofs.Base.{picked, split}
 use Rattle.lin_spec.proofs.Accepted.{words-length}
 
 -- No token takes a call or a card away
@@ -78,6 +79,24 @@ module _ (cards : List ℕ) (at : ℕ) (s : List ℕ) (v : Span) where
   none-put e = rw (← e) (record { next = omega arith; text = sym (overlay-nil cards at) })
 
 -- A row more, and the last row's annotation
+
+module _ (rows : List ℕ) (i : ℕ) (s : List ℕ) (v : Span) (r : Call) (e : r ≡ rowOf (callOf (spanText s) v)) where
+  pub row-room : Room rows (i * 6) (bidWords s v) → Room rows (i * 6) (rowWords r)
+  row-room h = rw e h
+
+  pub row-put : (rows′ : List ℕ) (n : ℕ) → Put rows (i * 6) (rowWords r) rows′ n → rows′ ≡ overlay rows (i * 6) (bidWords s v)
+  row-put rows′ n p = p .text ∙ ap (λ (c : Call). overlay rows (i * 6) (rowWords c)) e
+
+module _ (rows : List ℕ) (i : ℕ) (v : Span) where
+  pub last-room : 0 < i → i * 6 ≤ length rows → Room rows (i * 6 - 3) (noteWords v)
+  unfolding noteWords
+  last-room h l = record { room = omega arith }
+
+  pub last-noted : 0 < i → (rows′ : List ℕ) (n : ℕ) → Put rows (i * 6 - 3) (noteWords v) rows′ n → rows′ ≡ noted rows i v
+  last-noted h rows′ n p = simp (ne-eqb i 0 (λ e. omega arith)) (p .text)
+
+  pub none-noted : i ≤ 0 → rows ≡ noted rows i v
+  none-noted h = simp (eq-eqb i 0 (omega arith))
 
 words-snoc : (cs : List (CallOf Span)) (c : CallOf Span) → callWords (cs ++ (c ∷ [])) ≡ callWords cs ++ rowWords (rowOf c)
 unfolding callWords
@@ -148,18 +167,18 @@ bare v (c ∷ cs) q = absurd (let a = words-length (c ∷ cs) in let z : ⊥ = o
 
 -- The board so far
 
-pub record Into (s : List ℕ) (at₀ : ℕ) (rows₀ cards₀ rows cards : List ℕ) (h : Head) (n at : ℕ) : Type 0 where
+pub record Into (s : List ℕ) (at₀ : ℕ) (rows₀ cards₀ rows cards : List ℕ) (h : Head) (at : ℕ) : Type 0 where
   pub reads : Reads s at₀ h at
   pub calls : List (CallOf Span)
   pub play : List ℕ
   pub calls-left : over (onCalls (spanText s)) calls (stream s at) ≡ boardAt s at₀ .calls
   pub play-left : over (onPlay (spanText s)) play (stream s at) ≡ boardAt s at₀ .play
-  pub words : n ≡ length (callWords calls)
+  pub called : h .calls ≡ length calls
   pub count : h .cards ≡ length play
   pub rows-are : rows ≡ overlay rows₀ 0 (callWords calls)
   pub cards-are : cards ≡ overlay cards₀ 0 play
 
-pub into-begin : (s : List ℕ) (at : ℕ) (rows cards : List ℕ) → Fits s at rows cards → Into s at rows cards rows cards freshHead 0 at
+pub into-begin : (s : List ℕ) (at : ℕ) (rows cards : List ℕ) → Fits s at rows cards → Into s at rows cards rows cards freshHead at
 unfolding boardFrom callWords
 into-begin s at rows cards f =
     record {
@@ -168,13 +187,16 @@ into-begin s at rows cards f =
       play = [];
       calls-left = refl;
       play-left = refl;
-      words = refl;
+      called = refl;
       count = refl;
       rows-are = sym (overlay-nil rows 0);
       cards-are = sym (overlay-nil cards 0);
     }
 
-module _ (s : List ℕ) (at₀ : ℕ) (rows₀ cards₀ : List ℕ) (f : Fits s at₀ rows₀ cards₀) (rows cards : List ℕ) (h : Head) (n at : ℕ) (i : Into s at₀ rows₀ cards₀ rows cards h n at) where
+module _ (s : List ℕ) (at₀ : ℕ) (rows₀ cards₀ : List ℕ) (f : Fits s at₀ rows₀ cards₀) (rows cards : List ℕ) (h : Head) (at : ℕ) (i : Into s at₀ rows₀ cards₀ rows cards h at) where
+  pub words : h .calls * 6 ≡ length (callWords (i .calls))
+  words = let a = words-length (i .calls) in let b = i .called in omega arith
+
   calls-most : length (i .calls) ≤ length (boardAt s at₀ .calls)
   calls-most = omega (arith, calls-grow s (stream s at) (i .calls), ap length (i .calls-left))
 
@@ -190,8 +212,15 @@ module _ (s : List ℕ) (at₀ : ℕ) (rows₀ cards₀ : List ℕ) (f : Fits s 
   pub cards-long : length cards ≡ length cards₀
   cards-long = ap length (i .cards-are) ∙ length-overlay cards₀ 0 (i .play) (let m = play-most in let r = f .play in omega arith)
 
-  pub note-at : 0 < n → 3 ≤ n
-  note-at q = let a = words-length (i .calls) in let b = i .words in omega arith
+  pub rows-most : h .calls * 6 ≤ length rows
+  rows-most =
+      let a = words-length (i .calls) in
+      let b = words-length (boardAt s at₀ .calls) in
+      let c = calls-most in
+      let d = f .calls in
+      let l = rows-long in
+      let w = words in
+      omega arith
 
   pub into-end : stream s at ≡ [] → Stored s at₀ rows₀ cards₀ h rows cards
   unfolding over
@@ -213,7 +242,7 @@ module _ (s : List ℕ) (at₀ : ℕ) (rows₀ cards₀ : List ℕ) (f : Fits s 
     play-by = rw (← command-is s at k v m t 0 (omega arith)) (let z = i .play-left in rw (t .front) at z)
 
     -- one that is neither a pc nor an mb nor an an
-    pub into-step : (k ≡ 0 → ⊥) → (k ≡ 1 → ⊥) → (k ≡ 2 → ⊥) → (r : Head) → Stepped s h k v r → Into s at₀ rows₀ cards₀ rows cards r n m
+    pub into-step : (k ≡ 0 → ⊥) → (k ≡ 1 → ⊥) → (k ≡ 2 → ⊥) → (r : Head) → Stepped s h k v r → Into s at₀ rows₀ cards₀ rows cards r m
     into-step a b c r p =
         record {
           reads = turn s at₀ h at (i .reads) k v m t r p;
@@ -221,7 +250,7 @@ module _ (s : List ℕ) (at₀ : ℕ) (rows₀ cards₀ : List ℕ) (f : Fits s 
           play = i .play;
           calls-left = let z = calls-by in rw (ne-eqb k 1 b, ne-eqb k 2 c) at z;
           play-left = let z = play-by in rw (ne-eqb k 0 a) at z;
-          words = i .words;
+          called = (let z = p .calls in rw (ne-eqb k 1 b) at z) ∙ i .called;
           count = (let z = p .cards in rw (ne-eqb k 0 a) at z) ∙ i .count;
           rows-are = i .rows-are;
           cards-are = i .cards-are;
@@ -250,7 +279,7 @@ module _ (s : List ℕ) (at₀ : ℕ) (rows₀ cards₀ : List ℕ) (f : Fits s 
       counted (some c) x q = q
 
       pub into-card : (cards′ : List ℕ) (x : ℕ) → Put cards (h .cards) (cardOf s v) cards′ x
-          → Into s at₀ rows₀ cards₀ rows cards′ (record { names = h .names; md = h .md; vulnerability = h .vulnerability; title = h .title; room = h .room; header = h .header; claim = h .claim; calls = h .calls; cards = x }) n m
+          → Into s at₀ rows₀ cards₀ rows cards′ (record { names = h .names; md = h .md; vulnerability = h .vulnerability; title = h .title; room = h .room; header = h .header; claim = h .claim; calls = h .calls; cards = x }) m
       into-card cards′ x p =
           record {
             reads = turn s at₀ h at (i .reads) k v m t _ (stepped-card s h k v e x (counted (readCard (trim (bytesAt s v))) x (p .next)));
@@ -258,21 +287,21 @@ module _ (s : List ℕ) (at₀ : ℕ) (rows₀ cards₀ : List ℕ) (f : Fits s 
             play = i .play ++ cardOf s v;
             calls-left = let z = calls-by in rw (ne-eqb k 1 (λ q. omega arith), ne-eqb k 2 (λ q. omega arith)) at z;
             play-left = play-next;
-            words = i .words;
+            called = i .called;
             count = p .next ∙ (let a = i .count in let b = length-append (i .play) (cardOf s v) in let z : h .cards + length (cardOf s v) ≡ length (i .play ++ cardOf s v) = omega arith in z);
             rows-are = i .rows-are;
             cards-are = p .text ∙ rw (i .count, i .cards-are, ← zero-add (length (i .play))) (overlay-overlay cards₀ 0 (i .play) (cardOf s v));
           }
 
     -- an mb
-    module _ (e : k ≡ 1) (r : Call) (er : r ≡ rowOf (callOf (spanText s) v)) where
+    module _ (e : k ≡ 1) where
       calls-next : over (onCalls (spanText s)) (i .calls ++ (callOf (spanText s) v ∷ [])) (stream s m) ≡ boardAt s at₀ .calls
       calls-next = let z = calls-by in rw (eq-eqb k 1 e) at z
 
-      row-words : callWords (i .calls ++ (callOf (spanText s) v ∷ [])) ≡ callWords (i .calls) ++ rowWords r
-      row-words = words-snoc (i .calls) (callOf (spanText s) v) ∙ ap (λ (x : Call). callWords (i .calls) ++ rowWords x) (sym er)
+      row-words : callWords (i .calls ++ (callOf (spanText s) v ∷ [])) ≡ callWords (i .calls) ++ bidWords s v
+      row-words = words-snoc (i .calls) (callOf (spanText s) v)
 
-      pub call-room : Room rows n (rowWords r)
+      pub call-room : Room rows (h .calls * 6) (bidWords s v)
       call-room =
           record {
             room =
@@ -281,25 +310,25 @@ module _ (s : List ℕ) (at₀ : ℕ) (rows₀ cards₀ : List ℕ) (f : Fits s 
                 let b = ap length calls-next in
                 let c = rows-long in
                 let d = f .calls in
-                let x = i .words in
+                let x = words in
                 let y = ap length row-words in
-                let z = length-append (callWords (i .calls)) (rowWords r) in
+                let z = length-append (callWords (i .calls)) (bidWords s v) in
                 let w = words-length (boardAt s at₀ .calls) in
                 omega arith;
           }
 
-      pub into-call : (rows′ : List ℕ) (n′ : ℕ) → Put rows n (rowWords r) rows′ n′ → (x : ℕ) → x ≡ h .calls + 1
-          → Into s at₀ rows₀ cards₀ rows′ cards (record { names = h .names; md = h .md; vulnerability = h .vulnerability; title = h .title; room = h .room; header = h .header; claim = h .claim; calls = x; cards = h .cards }) n′ m
-      into-call rows′ n′ p x q =
+      pub into-call : (rows′ : List ℕ) → rows′ ≡ overlay rows (h .calls * 6) (bidWords s v) → (x : ℕ) → x ≡ h .calls + 1
+          → Into s at₀ rows₀ cards₀ rows′ cards (record { names = h .names; md = h .md; vulnerability = h .vulnerability; title = h .title; room = h .room; header = h .header; claim = h .claim; calls = x; cards = h .cards }) m
+      into-call rows′ p x q =
           record {
             reads = turn s at₀ h at (i .reads) k v m t _ (stepped-call s h k v e x q);
             calls = i .calls ++ (callOf (spanText s) v ∷ []);
             play = i .play;
             calls-left = calls-next;
             play-left = let z = play-by in rw (ne-eqb k 0 (λ q. omega arith)) at z;
-            words = p .next ∙ (let a = i .words in let b = ap length row-words in let c = length-append (callWords (i .calls)) (rowWords r) in let z : n + length (rowWords r) ≡ length (callWords (i .calls ++ (callOf (spanText s) v ∷ []))) = omega arith in z);
+            called = let a = i .called in let b = length-append (i .calls) (callOf (spanText s) v ∷ []) in omega arith;
             count = i .count;
-            rows-are = p .text ∙ rw (i .words, i .rows-are, ← zero-add (length (callWords (i .calls)))) (overlay-overlay rows₀ 0 (callWords (i .calls)) (rowWords r)) ∙ ap (overlay rows₀ 0) (sym row-words);
+            rows-are = p ∙ rw (words, i .rows-are, ← zero-add (length (callWords (i .calls)))) (overlay-overlay rows₀ 0 (callWords (i .calls)) (bidWords s v)) ∙ ap (overlay rows₀ 0) (sym row-words);
             cards-are = i .cards-are;
           }
 
@@ -308,40 +337,23 @@ module _ (s : List ℕ) (at₀ : ℕ) (rows₀ cards₀ : List ℕ) (f : Fits s 
       note-next : over (onCalls (spanText s)) (annotated v (i .calls)) (stream s m) ≡ boardAt s at₀ .calls
       note-next = let z = calls-by in rw (ne-eqb k 1 (λ q. omega arith), eq-eqb k 2 e) at z
 
-      noted : (rows′ : List ℕ) → length (callWords (annotated v (i .calls))) ≡ length (callWords (i .calls)) → rows′ ≡ overlay rows₀ 0 (callWords (annotated v (i .calls))) → Into s at₀ rows₀ cards₀ rows′ cards h n m
-      noted rows′ l q =
+      -- before the first call it is passed over
+      over-last : noted rows (h .calls) v ≡ overlay rows₀ 0 (callWords (annotated v (i .calls)))
+      over-last =
+          picked (λ (x : List ℕ). x ≡ overlay rows₀ 0 (callWords (annotated v (i .calls)))) (eqb (h .calls) 0)
+          (λ q. let z = eqb-true (h .calls) 0 q in i .rows-are ∙ ap (overlay rows₀ 0) (bare v (i .calls) (let w = words in omega arith)))
+          (λ q. let z = eqb-false (h .calls) 0 q in let l : 0 < h .calls = split 0 (h .calls) (λ y. y) (λ y. absurd (z (omega arith))) in rw (i .rows-are) (over-note rows₀ v (i .calls) (h .calls * 6) words (omega arith)))
+
+      pub into-note : (rows′ : List ℕ) → rows′ ≡ noted rows (h .calls) v → Into s at₀ rows₀ cards₀ rows′ cards h m
+      into-note rows′ p =
           record {
             reads = turn s at₀ h at (i .reads) k v m t h (stepped-note s h k v e);
             calls = annotated v (i .calls);
             play = i .play;
             calls-left = note-next;
             play-left = let z = play-by in rw (ne-eqb k 0 (λ q. omega arith)) at z;
-            words = i .words ∙ sym l;
+            called = i .called ∙ sym (annotated-length v (i .calls));
             count = i .count;
-            rows-are = q;
+            rows-are = p ∙ over-last;
             cards-are = i .cards-are;
           }
-
-      same-words : length (callWords (annotated v (i .calls))) ≡ length (callWords (i .calls))
-      same-words = words-length (annotated v (i .calls)) ∙ ap (λ (x : ℕ). x * 6) (annotated-length v (i .calls)) ∙ sym (words-length (i .calls))
-
-      -- before the first call it is passed over
-      pub into-bare : n ≤ 0 → Into s at₀ rows₀ cards₀ rows cards h n m
-      into-bare q = noted rows same-words (i .rows-are ∙ ap (overlay rows₀ 0) (bare v (i .calls) (omega (arith, i .words, q))))
-
-      pub note-room : 0 < n → Room rows (n - 3) (noteWords v)
-      unfolding noteWords
-      note-room q =
-          record {
-            room =
-                let a = words-length (i .calls) in
-                let b = words-length (boardAt s at₀ .calls) in
-                let c = calls-most in
-                let d = f .calls in
-                let l = rows-long in
-                let x = i .words in
-                omega arith;
-          }
-
-      pub into-note : 0 < n → (rows′ : List ℕ) (y : ℕ) → Put rows (n - 3) (noteWords v) rows′ y → Into s at₀ rows₀ cards₀ rows′ cards h n m
-      into-note q rows′ y p = noted rows′ same-words (p .text ∙ rw (i .rows-are) (over-note rows₀ v (i .calls) n (i .words) q))

@@ -15,7 +15,6 @@ use commands::is_page;
 use commands::next_known;
 use commands::plain_card;
 use document::Cursor;
-use fields::on_count;
 use lin_spec::Call;
 use lin_spec::MaybeSpan;
 use lin_spec::Span;
@@ -23,9 +22,13 @@ use output::put_byte;
 use output::put_word;
 ghost use mathlib.Core.Path.{_≡_};
 ghost use Rattle.output.specs.Put.{Room, Put};
+ghost use Prim.Native.Nat.{_+_, _*_, _≤_};
+ghost use lib.ListN.{length};
+ghost use Rattle.lin_spec.specs.Records.{endOf};
+ghost use Rattle.lin_spec.specs.Output.{overlay};
 ghost use Rattle.board_steps.specs.Calls.{rowWords};
 ghost use Rattle.board_steps.specs.Play.{cardOf};
-ghost use Rattle.board_steps.specs.Storing.{noteWords, Fits, Stored};
+ghost use Rattle.board_steps.specs.Storing.{bidWords, noteWords, noted, Fits, Stored};
 
 // Stores a call in a row of six words.
 fn put_call(rows: &mut [u32], at: usize, c: Call) -> usize
@@ -42,6 +45,16 @@ fn put_call(rows: &mut [u32], at: usize, c: Call) -> usize
     put_word(rows, f, annotation.len)
 }
 
+// Stores the call of an mb value in the row i, and gives the number of the next row.
+pub fn put_bid(rows: &mut [u32], i: usize, text: &[u8], v: Span) -> usize
+    requires { ⌜ (endOf v ≤ length (now text)) × Room (now rows) (i * 6) (bidWords (now text) v) ⌝ }
+    ensures { λ r. ⌜ (r ≡ i + 1) × (now (rows .exit) ≡ overlay (now (rows .entry)) (i * 6) (bidWords (now (text .entry)) v)) ⌝ }
+{
+    let call = call_of(text, v, MaybeSpan::Absent);
+    put_call(rows, i * 6, call);
+    i + 1
+}
+
 // Stores an annotation in the last three words of a row.
 fn put_note(rows: &mut [u32], at: usize, v: Span) -> usize
     requires { ⌜ Room (now rows) at (noteWords v) ⌝ }
@@ -52,8 +65,18 @@ fn put_note(rows: &mut [u32], at: usize, v: Span) -> usize
     put_word(rows, b, v.len)
 }
 
+// Stores an annotation in the last of i rows, if there is one.
+pub fn put_last(rows: &mut [u32], i: usize, v: Span)
+    requires { ⌜ i * 6 ≤ length (now rows) ⌝ }
+    ensures { λ _. ⌜ now (rows .exit) ≡ noted (now (rows .entry)) i v ⌝ }
+{
+    if 0 < i {
+        put_note(rows, i * 6 - 3, v);
+    }
+}
+
 // Stores the card of a pc, if its value is one.
-fn put_card(cards: &mut [u8], at: usize, text: &[u8], v: Span) -> usize
+pub fn put_card(cards: &mut [u8], at: usize, text: &[u8], v: Span) -> usize
     requires { ⌜ Room (now cards) at (cardOf (now text) v) ⌝ }
     ensures { λ r. ⌜ Put (now (cards .entry)) at (cardOf (now (text .entry)) v) (now (cards .exit)) r ⌝ }
 {
@@ -69,7 +92,6 @@ pub fn read_into(text: &[u8], at: usize, rows: &mut [u32], cards: &mut [u8]) -> 
     ensures { λ r. ⌜ Stored (now (text .entry)) at (now (rows .entry)) (now (cards .entry)) r (now (rows .exit)) (now (cards .exit)) ⌝ }
 {
     let mut h = fresh_head();
-    let mut n = 0;
     let mut c = at;
     loop {
         let a = after_line(text, c);
@@ -89,13 +111,9 @@ pub fn read_into(text: &[u8], at: usize, rows: &mut [u32], cards: &mut [u8]) -> 
             } else if MC < k {
                 // None of the commands that a board knows.
             } else if k == MB {
-                let call = call_of(text, v, MaybeSpan::Absent);
-                n = put_call(rows, n, call);
-                h.calls = on_count(true, h.calls);
+                h.calls = put_bid(rows, h.calls, text, v);
             } else if k == AN {
-                if 0 < n {
-                    put_note(rows, n - 3, v);
-                }
+                put_last(rows, h.calls, v);
             } else {
                 h = step(text, h, k, v);
             }

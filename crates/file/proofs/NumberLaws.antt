@@ -1,10 +1,10 @@
 -- Laws of boards by number: what a cursor has passed and what remains, and what the entries give. (01: File)
 -- Assumes nothing.
-use Prim.Native.Nat.{ℕ, zero, suc, _+_, _-_, _^_, _≤_, _<_}
+use Prim.Native.Nat.{ℕ, suc, _+_, _-_, _^_, _≤_, _<_}
 use native.Mathlib.Omega.{arith}
 use mathlib.Core.Path.{_≡_, refl, ap, sym, subst, _∙_}
 use mathlib.Core.Bool.{Bool, true, false, _&&_}
-use mathlib.Core.List.{List, [], _∷_, map}
+use mathlib.Core.List.{List, [], _∷_}
 use mathlib.Core.Option.{Option}
 use lib.ListN.{length, getD, take, length-map, length-take}
 use lib.Dec.{eqb}
@@ -26,6 +26,7 @@ use Rattle.lin_spec.proofs.Base.{and-left, and-right, split}
 use Rattle.lin_spec.proofs.Checks.{unless-same, unless-refused, unless-passed}
 use Rattle.lin_spec.proofs.Document.{opened}
 use Rattle.lin_spec.proofs.File.{remaining, Found, Visited, visits, all-remain}
+use Rattle.lin_spec.proofs.FileMeaning.{getD-map}
 use Rattle.board_steps.specs.Head.{boardAt}
 use Rattle.sections.specs.Sections.{sectionOf, standingOf, openedOf, visitOf}
 use Rattle.file.specs.Numbers.{first, Ready, Counts, Holds, Board, Numbers}
@@ -155,11 +156,6 @@ seeks-missing s m c k e = (way-end s c (k .way) e, k .most)
 spans-count : (s : List ℕ) → length (fileSpans s) ≡ length (boardsOf (sections s))
 unfolding fileSpans
 spans-count s = length-map (boardsOf (sections s)) (boardIn s)
-
-getD-map : {A B : Type 0} (f : A → B) (l : List A) (n : ℕ) (d : A) → getD (map f l) n (f d) ≡ f (getD l n d)
-getD-map f [] n d = refl
-getD-map f (a ∷ l) zero d = refl
-getD-map f (a ∷ l) (suc n) d = getD-map f l n d
 
 pub numbered-is : (s : List ℕ) (n : ℕ) (p : Section) → Board s n p → numbered s n ≡ boardAt (take (p .stop) s) (p .start)
 unfolding fileSpans boardIn

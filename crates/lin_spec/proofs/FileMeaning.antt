@@ -1,22 +1,26 @@
 -- What the boards of a file mean: each is `parse_lin` over its part of the text, and its spans are that board's, moved by the part's start; and the
 -- parts are 01's, token by token. (01: File)
 -- Assumes nothing.
-use Prim.Native.Nat.{ℕ, _+_, _-_, _<_}
+use Prim.Native.Nat.{ℕ, zero, suc, _+_, _-_, _<_}
 use native.Mathlib.Omega.{arith}
 use mathlib.Core.Path.{_≡_, refl, ap, sym, _∙_}
+use mathlib.Core.Bool.{Bool, true, false}
 use mathlib.Core.List.{List, [], _∷_, map}
-use lib.ListN.{length, take, drop, length-take}
+use mathlib.Core.Option.{none}
+use lib.ListN.{length, take, drop, getD, length-take, length-map}
 use lib.Seq.{take-take, drop-drop}
 use lib.Dec.{eqb}
-use borrow.Author.Tests.{ne-eqb}
+use borrow.Author.Tests.{ne-eqb, lt-leb}
 use Rattle.lin_spec.specs.Base.{pick, All}
 use Rattle.lin_spec.specs.Records.{span, part, bytesAt}
 use Rattle.lin_spec.specs.Tokens.{Pieces, cut, pipe, TokenOf, tokens}
 use Rattle.lin_spec.specs.Tokens.Pieces.{end, piece}
 use Rattle.lin_spec.specs.Tokens.TokenOf.{token}
-use Rattle.lin_spec.specs.Board.{boardFrom, mapBoard}
-use Rattle.lin_spec.specs.Reading.{bytesText, spanText, placed, stream, parseLin, parseSpans}
-use Rattle.lin_spec.specs.File.{Section, boardIn, sections, boardsOf, parseLinFile, fileSpans}
+use Rattle.lin_spec.specs.Board.{BoardOf, boardFrom, mapBoard}
+use Rattle.lin_spec.specs.Reading.{bytesText, spanText, placed, stream, parseLin, parseSpans, fewRows, Reading, stored}
+use Rattle.lin_spec.specs.Refusals.{Answer, unless, tooLong, notUtf8}
+use Rattle.lin_spec.specs.File.{Section, section, boardIn, sections, boardsOf, Standing, Visit, visit, readStep, parseLinFile, fileSpans, noBoard, numbered, fileBoard}
+use Rattle.lin_spec.specs.File.Visit.{found}
 use Rattle.lin_spec.specs.declared.Span.{Span}
 use Rattle.lin_spec.proofs.Tokens.{joined-cut}
 use Rattle.lin_spec.proofs.Reading.{mapToken, ValueOf, part-part, part-most, placed-from, board-map, Within, stream-within}
@@ -68,7 +72,7 @@ section-moved s p = board-moved (take (p .stop) s) (p .start) ∙ ap (λ (t : Li
 -- The boards of the answers, with each span replaced by its bytes, are those that the file means.
 
 -- the bytes of a span within the first e bytes
-front-bytes : (s : List ℕ) (e : ℕ) (v : Span) → Within (take e s) v → bytesAt s v ≡ bytesAt (take e s) v
+pub front-bytes : (s : List ℕ) (e : ℕ) (v : Span) → Within (take e s) v → bytesAt s v ≡ bytesAt (take e s) v
 unfolding part
 front-bytes s e v w =
     let l = length-take e s in
@@ -102,3 +106,18 @@ file-out s = go (boardsOf (sections s))
     go : (ps : List Section) → map (mapBoard (bytesAt s)) (map (boardIn s) ps) ≡ map (λ p. parseLin (part s (p .start) (p .stop - p .start))) ps
     go [] = refl
     go (p ∷ ps) = simp (section-out s p, go ps)
+
+-- A step that reads gives of the file's board number m what reading by that number gives, in a text that is UTF-8.
+
+pub getD-map : {A B : Type 0} (f : A → B) (l : List A) (n : ℕ) (d : A) → getD (map f l) n (f d) ≡ f (getD l n d)
+getD-map f [] n d = refl
+getD-map f (a ∷ l) zero d = refl
+getD-map f (a ∷ l) (suc n) d = getD-map f l n d
+
+pub step-reads : (s : List ℕ) (c : Standing) (n : ℕ) (p : Section) (d : Standing) → visit s c ≡ found n p d → notUtf8 s ≡ none
+    → (m : ℕ) → m < length (boardsOf (sections s)) → getD (boardsOf (sections s)) m (section 0 0 false) ≡ p → (rows cards : List ℕ) → readStep s c rows cards .reading ≡ fileBoard s m rows cards
+unfolding readStep fileBoard fileSpans unless
+step-reads s c n p d v u m l e rows cards =
+    let b : numbered s m ≡ boardIn s p = getD-map (boardIn s) (boardsOf (sections s)) m (section 0 0 false) ∙ ap (boardIn s) e in
+    let k : noBoard m (length (fileSpans s)) ≡ none = simp (lt-leb (length (fileSpans s)) m (let z = length-map (boardsOf (sections s)) (boardIn s) in omega arith)) in
+    rw (v, b, u, k) refl

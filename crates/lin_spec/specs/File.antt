@@ -99,6 +99,21 @@ visit s c =
     let next = firstOf (partsFrom s a a a (stream s a)) in
     pick (c .lines) (pick (ltb (length s) a) (ended c) (after c line (line .stop + 1))) (pick (null (stream s a)) (ended c) (after c next (next .stop)))
 
+-- a step that reads as well: the step, and what the tokens of its section give, board or none. Opening gave refusal 2, so that 1 and 3 are left.
+pub record ReadStep : Type 0 where
+  pub step : Visit
+  pub reading : Reading
+
+-- the section of a step; without one, none of the text
+abbrev pub seen : Visit → Section
+seen (found n p d) = p
+seen (ended d) = section 0 0 false
+
+unfoldable pub readStep : (s : List ℕ) → Standing → (rows cards : List ℕ) → ReadStep
+readStep s c rows cards =
+    let b = boardIn s (seen (visit s c)) in
+    record { step = visit s c; reading = stored (unless (tooLong s ∷ fewRows b rows cards) b) rows cards }
+
 -- opening one gives refusals 1 and 2; it then stands at the first byte
 unfoldable pub openBoards : List ℕ → Answer Standing
 openBoards s = unless (tooLong s ∷ notUtf8 s ∷ []) (record { at = 0; number = 0; lines = not (holds (ascii "qx") (stream s 0)) })

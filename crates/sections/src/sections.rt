@@ -74,7 +74,7 @@ pub fn holds_qx(text: &[u8]) -> bool
 }
 
 // The place to which a qx is moved back: over mn and pn it stays, else it is the place after the token.
-fn moved_back(k: u8, back: usize, next: usize) -> usize
+pub fn moved_back(k: u8, back: usize, next: usize) -> usize
     ensures { λ r. ⌜ r ≡ pick (eqb k 6 || eqb k 4) back next ⌝ }
 {
     if (k == MN) | (k == PN) {
@@ -149,7 +149,7 @@ fn next_number(number: usize, board: bool) -> usize
 }
 
 // A section, with the cursor after it.
-fn passed(c: BoardCursor, p: Section, at: usize) -> BoardStep
+pub fn passed(c: BoardCursor, p: Section, at: usize) -> BoardStep
     ensures { λ r. ⌜ visitOf r ≡ after (standingOf c) (sectionOf p) at ⌝ }
 {
     let cursor = BoardCursor {

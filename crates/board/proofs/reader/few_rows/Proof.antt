@@ -1,7 +1,8 @@
 -- `board::few_rows` meets its contract: each answer by the tests that led there.
 -- Assumes nothing.
 use denote.Ref.{now}
-use Rattle.board.proofs.ReaderLaws.{few-calls, few-cards, enough}
+use Rattle.board.proofs.ReaderLaws.{ample, few-calls, few-cards, enough}
+use native.Mathlib.Omega.{arith}
 use borrow.Author.Needs.{needs}
 use Rattle.board.proofs.reader.few_rows.Statement.{statement}
 use Rattle.board.proofs.reader.few_rows.Tie as tie
@@ -12,7 +13,7 @@ roomy-requires c κs = search needs
 
 -- src/reader.rt:112:9
 returns : tie.Need-returns
-returns c = c .before .roomy .ensures (c .if1 .taken)
+returns c = ample _ _ _ _ _ (omega arith) (c .before .roomy .ensures (c .if1 .taken))
 
 -- src/reader.rt:114:9
 read-head-requires : tie.Need-read-head-requires

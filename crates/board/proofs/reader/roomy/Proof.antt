@@ -1,6 +1,6 @@
 -- `board::roomy` meets its contract.
 -- Assumes nothing.
-use Rattle.board.proofs.ReaderLaws.{ample}
+use Rattle.board.proofs.ReaderLaws.{places}
 use borrow.Author.Needs.{needs}
 use Rattle.board.proofs.reader.roomy.Statement.{statement}
 use Rattle.board.proofs.reader.roomy.Tie as tie
@@ -11,7 +11,7 @@ sub-most c = search needs
 
 -- src/reader.rt:98:1
 returns : tie.Need-returns
-returns c = ample _ _ _ _
+returns c = places _ _ _
 
 pub roomy-spec : {M : Type 1} → statement M
 roomy-spec = tie.close (tie.spec sub-most returns)
