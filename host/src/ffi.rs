@@ -107,6 +107,14 @@ pub struct LinSection {
     pub next_number: u64,
 }
 
+/// A step of the board cursor, and the heading of its section.
+#[repr(C)]
+#[derive(Debug, Clone, Copy, PartialEq, Eq)]
+pub struct LinRead {
+    pub section: LinSection,
+    pub heading: LinHeading,
+}
+
 /// What becomes of a raw annotation.
 #[repr(C)]
 #[derive(Debug, Clone, Copy, PartialEq, Eq)]
@@ -204,6 +212,17 @@ extern "C" {
         number: u64,
         lines: u32,
     ) -> LinSection;
+    pub fn lin_read_board(
+        text: *const u8,
+        text_len: usize,
+        at: u64,
+        number: u64,
+        lines: u32,
+        rows: *mut u32,
+        rows_len: usize,
+        cards: *mut u8,
+        cards_len: usize,
+    ) -> LinRead;
     pub fn lin_append(
         text: *const u8,
         text_len: usize,

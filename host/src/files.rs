@@ -25,7 +25,7 @@ use crate::{
     Refusal,
 };
 
-pub use ffi::{LinBoards, LinSection};
+pub use ffi::{LinBoards, LinRead, LinSection};
 
 /// How many boards a file has; refusals 1 and 2.
 pub fn count_boards(text: &[u8]) -> Result<u64, Refusal> {
@@ -123,6 +123,26 @@ impl BoardCursor {
     pub fn step(self, text: &[u8]) -> LinSection {
         // SAFETY: pointer and length are those of one slice.
         unsafe { ffi::lin_next_board(text.as_ptr(), text.len(), self.at, self.number, self.lines) }
+    }
+
+    /// The step as the export gives it, with its part or line read as a board;
+    /// rows and cards are filled as by `boards::parse_lin_numbers`.
+    pub fn read(self, text: &[u8], rows: &mut [u32], cards: &mut [u8]) -> LinRead {
+        // SAFETY: each pointer and length are those of one slice, and rows and
+        // cards, being borrowed alone, overlap no other.
+        unsafe {
+            ffi::lin_read_board(
+                text.as_ptr(),
+                text.len(),
+                self.at,
+                self.number,
+                self.lines,
+                rows.as_mut_ptr(),
+                rows.len(),
+                cards.as_mut_ptr(),
+                cards.len(),
+            )
+        }
     }
 
     /// The cursor after a step.

@@ -1,8 +1,9 @@
 // The calls of a run of tokens, one at a time. (01: Board, mb and an)
 use commands::AN;
-use commands::Known;
+use commands::Commanded;
 use commands::MB;
-use commands::next_known;
+use commands::next_command;
+use commands::span_of;
 use document::Cursor;
 use fields::on_present;
 use lin_spec::Call;
@@ -91,14 +92,15 @@ fn next_bid(text: &[u8], cursor: Cursor) -> Bid
 {
     let mut c = cursor;
     loop {
-        match next_known(text, c) {
-            Known::Token(k, v, next) => {
+        match next_command(text, c) {
+            Commanded::Token(k, value, next) => {
                 if k == MB {
+                    let v = span_of(value);
                     return Bid::Made(v, next);
                 }
                 c = next;
             }
-            Known::Ended => {
+            Commanded::Ended => {
                 return Bid::Ended;
             }
         }
@@ -113,18 +115,18 @@ fn next_note(text: &[u8], cursor: Cursor) -> Note
     let mut annotation = MaybeSpan::Absent;
     let mut c = cursor;
     loop {
-        match next_known(text, c) {
-            Known::Token(k, v, next) => {
+        match next_command(text, c) {
+            Commanded::Token(k, value, next) => {
                 if k == MB {
                     return Note {
                         annotation,
                         cursor: c,
                     };
                 }
-                annotation = on_present(k == AN, v, annotation);
+                annotation = on_present(k == AN, span_of(value), annotation);
                 c = next;
             }
-            Known::Ended => {
+            Commanded::Ended => {
                 return Note {
                     annotation,
                     cursor: c,

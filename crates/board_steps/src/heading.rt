@@ -1,6 +1,6 @@
 // The heading of a board from a run of tokens, in one pass that keeps spans and small numbers only. (01: Board, `from_tokens`)
 use commands::AH;
-use commands::Known;
+use commands::Commanded;
 use commands::MB;
 use commands::MC;
 use commands::MD;
@@ -11,8 +11,9 @@ use commands::QX;
 use commands::SV;
 use commands::after_line;
 use commands::is_page;
-use commands::next_known;
+use commands::next_command;
 use commands::plain_card;
+use commands::span_of;
 use document::Cursor;
 use fields::on_card;
 use fields::on_claim;
@@ -114,9 +115,10 @@ pub fn read_head(text: &[u8], at: usize) -> Head
         } else if is_page(text, a) {
             c = a + 4;
         } else {
-            let Known::Token(k, v, next) = next_known(text, Cursor { at: c }) else {
+            let Commanded::Token(k, value, next) = next_command(text, Cursor { at: c }) else {
                 return h;
             };
+            let v = span_of(value);
             c = next.at;
             if k == PC {
                 h.cards = on_card(text, true, v, h.cards);

@@ -1,9 +1,10 @@
 // The cards of a run of tokens, one at a time. (01: Board, pc)
 use cards::MaybeCard;
 use cards::read_card;
-use commands::Known;
+use commands::Commanded;
 use commands::PC;
-use commands::next_known;
+use commands::next_command;
+use commands::span_of;
 use document::Cursor;
 use lin_spec::Span;
 use text::shown;
@@ -43,8 +44,8 @@ pub fn next_card(text: &[u8], cursor: Cursor) -> NextCard
 {
     let mut c = cursor;
     loop {
-        match next_known(text, c) {
-            Known::Token(k, v, next) => match card_at(text, k, v) {
+        match next_command(text, c) {
+            Commanded::Token(k, value, next) => match card_at(text, k, span_of(value)) {
                 MaybeCard::Card(card) => {
                     return NextCard::Found(card, next);
                 }
@@ -52,7 +53,7 @@ pub fn next_card(text: &[u8], cursor: Cursor) -> NextCard
                     c = next;
                 }
             },
-            Known::Ended => {
+            Commanded::Ended => {
                 return NextCard::Ended;
             }
         }

@@ -6,14 +6,15 @@ use crate::heading::step;
 use crate::play::card_at;
 use cards::MaybeCard;
 use commands::AN;
-use commands::Known;
+use commands::Commanded;
 use commands::MB;
 use commands::MC;
 use commands::PC;
 use commands::after_line;
 use commands::is_page;
-use commands::next_known;
+use commands::next_command;
 use commands::plain_card;
+use commands::span_of;
 use document::Cursor;
 use lin_spec::Call;
 use lin_spec::MaybeSpan;
@@ -102,9 +103,10 @@ pub fn read_into(text: &[u8], at: usize, rows: &mut [u32], cards: &mut [u8]) -> 
         } else if is_page(text, a) {
             c = a + 4;
         } else {
-            let Known::Token(k, v, next) = next_known(text, Cursor { at: c }) else {
+            let Commanded::Token(k, value, next) = next_command(text, Cursor { at: c }) else {
                 return h;
             };
+            let v = span_of(value);
             c = next.at;
             if k == PC {
                 h.cards = put_card(cards, h.cards, text, v);

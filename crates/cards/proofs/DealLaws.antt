@@ -1,6 +1,6 @@
 -- Deals as the code makes them: the fields between commas, East's hand, a hand stored in its place, four of them. (01: Board, md)
 -- Assumes nothing.
-use Prim.Native.Nat.{ℕ, zero, suc, _+_, _*_, _≤_, _<_, _^_}
+use Prim.Native.Nat.{ℕ, zero, suc, _+_, _-_, _*_, _≤_, _<_}
 use native.Mathlib.Nat.{sub-zero}
 use native.Mathlib.Numerals.{add-one}
 use native.Mathlib.Omega.{arith}
@@ -18,31 +18,21 @@ use Rattle.lin_spec.specs.Cursor.{findFrom}
 use Rattle.lin_spec.specs.Base.{pick}
 use Rattle.lin_spec.specs.Cards.{noCards, readHand, field, remainder, thirteens, dealOf, eastOf}
 use Rattle.lin_spec.proofs.Base.{split}
-use Rattle.lin_spec.proofs.Records.{part-rest, part-length}
-use Rattle.lin_spec.proofs.Cursor.{cut-at, cut-end}
-use Rattle.lin_spec.proofs.Cards.{field-length, hand-length}
-use Rattle.cards.specs.Deals.{others, placed, handOf}
-use Rattle.cards.proofs.HandLaws.{part-long, count-at, Three, all, rest-at}
+use Rattle.lin_spec.proofs.Records.{part-length}
+use Rattle.lin_spec.proofs.Cursor.{find-after}
+use Rattle.lin_spec.proofs.Cards.{hand-length}
+use Rattle.cards.specs.Deals.{others, fieldAt, placed, handOf}
+use Rattle.cards.proofs.HandLaws.{part-long, count-at, field-is, Three, all, rest-at}
 
 -- Fields
 
-module _ (c : ℕ) (s : List ℕ) (p : ℕ) (e : p ≡ findFrom c s 0) where
-  -- the text before the first c is the first field
-  pub first-is : (r : List ℕ) → r ≡ part s 0 p → r ≡ field 0 (cut c s)
-  unfolding field
-  first-is r h =
-      split p (length s)
-      (λ l. h ∙ (let k = cut-at c s 0 (rw e at l) in rw (k, sub-zero, e)))
-      (λ l. h ∙ part-rest s 0 p (omega arith) ∙ (let k = cut-end c s 0 (rw e at l) in rw k))
+-- the text up to the next comma
+module _ (s : List ℕ) (at p : ℕ) (e : p ≡ findFrom 0x2C s at) where
+  pub find-from : at ≤ length s → at ≤ p
+  find-from h = split p (length s) (λ l. rw e (find-after 0x2C s at (rw e at l))) (λ l. omega arith)
 
-  -- what follows it has the other fields
-  pub others-are : (r : List ℕ) → r ≡ part s (p + 1) (length s) → cut c r ≡ others (cut c s)
-  unfolding cut
-  others-are r h =
-      let d : r ≡ drop (p + 1) s = h ∙ part-rest s (p + 1) (length s) (omega arith) in
-      split p (length s)
-      (λ l. ap (cut c) d ∙ (let k = cut-at c s 0 (rw e at l) in rw (k, e)))
-      (λ l. ap (cut c) (d ∙ drop-of-length-le s {i = p + 1} (omega arith)) ∙ (let k = cut-end c s 0 (rw e at l) in rw k))
+  pub field-found : (r : List ℕ) → r ≡ part s at (p - at) → r ≡ fieldAt s at
+  field-found r h = h ∙ ap (λ (n : ℕ). part s at (n - at)) e ∙ field-is s at
 
 field-others : (k : ℕ) (f : Pieces) → field k (others f) ≡ field (suc k) f
 unfolding field
@@ -53,10 +43,6 @@ field-others k (piece x r) = refl
 -- a field of the others is the next one of all
 next-field : (k : ℕ) (f g : Pieces) → g ≡ others f → field k g ≡ field (suc k) f
 next-field k f g e = ap (field k) e ∙ field-others k f
-
--- a field is short where the text is
-pub field-short : (c k : ℕ) (s x : List ℕ) → x ≡ field k (cut c s) → length s < 2 ^ 32 → length x < 2 ^ 32
-field-short c k s x e h = rw e (omega (arith, field-length c k s))
 
 -- the first fields of texts each of which is what follows the first comma of the one before
 pub record Fields (f g h i : Pieces) : Type 0 where

@@ -15,11 +15,16 @@ use lib.Dec.{eqb, leb, ltb}
 use borrow.Author.Tests.{lt-ltb, le-ltb, le-leb, ltb-true}
 use Rattle.lin_spec.specs.Base.{pick}
 use Rattle.lin_spec.specs.Records.{part}
-use Rattle.lin_spec.specs.Cards.{suitOf, rankOf, cardOf, noCards, withCard, sum, handFrom, readHand, remainder}
-use Rattle.lin_spec.proofs.Base.{and-left, and-right}
+use Rattle.lin_spec.specs.White.{lower}
+use Rattle.lin_spec.specs.Tokens.{cut}
+use Rattle.lin_spec.specs.Cursor.{findFrom}
+use Rattle.lin_spec.specs.Cards.{indexOf, field, suitOf, rankOf, cardOf, noCards, withCard, sum, handFrom, readHand, remainder}
+use Rattle.lin_spec.proofs.Base.{and-left, and-right, split}
+use Rattle.lin_spec.proofs.Records.{part-rest, part-length}
+use Rattle.lin_spec.proofs.Cursor.{find-here, find-next, find-after, find-within, find-end, cut-at, cut-end}
 use Rattle.lin_spec.proofs.Cards.{count-sum, set-sum, remainder-at, remainder-length}
 use Rattle.cards.specs.Letters.{suitIn, rankIn}
-use Rattle.cards.specs.Deals.{placed, handOf}
+use Rattle.cards.specs.Deals.{others, fieldAt, placed, handOf, Counted}
 
 -- The loop over a text: the rest of it makes of the hand so far what the whole text makes of none
 
@@ -175,6 +180,124 @@ module _ (s d counts : List ℕ) (seat suit i : ℕ) (v : Held s d counts seat s
           inv = hand-card turn-in h f;
         }
 
+-- a seat's hand within the deal: its counts
+pub count-at : (d : List ℕ) (a m i : ℕ) → i < m → getD d (a + i) 0 ≡ getD (part d a m) i 0
+unfolding part
+count-at d a m i h = sym (getD-take m (drop a d) i 0 h ∙ getD-drop a d i 0)
+
+-- The same from a place of md's value on, up to the comma: p is the place of the comma, or the end
+
+-- the field at a place, by the comma after it
+pub field-is : (s : List ℕ) (at : ℕ) → part s at (findFrom 0x2C s at - at) ≡ fieldAt s at
+unfolding field
+field-is s at =
+    split (findFrom 0x2C s at) (length s)
+    (λ l. rw (cut-at 0x2C s at l) refl)
+    (λ l. part-rest s at (findFrom 0x2C s at - at) (omega arith) ∙ rw (cut-end 0x2C s at l) refl)
+
+-- the fields after it
+rest-at-comma : (s : List ℕ) (at i : ℕ) → findFrom 0x2C s at ≡ i → i < length s → cut 0x2C (drop (i + 1) s) ≡ others (cut 0x2C (drop at s))
+rest-at-comma s at i e h = rw (← e) (sym (rw (cut-at 0x2C s at (rw (← e) at h)) refl))
+
+rest-at-end : (s : List ℕ) (at i : ℕ) → length s ≤ findFrom 0x2C s at → length s ≤ i → cut 0x2C (drop i s) ≡ others (cut 0x2C (drop at s))
+unfolding cut
+rest-at-end s at i h l = rw (drop-of-length-le s {i = i} l, cut-end 0x2C s at h) refl
+
+pub record Fielded (s : List ℕ) (at : ℕ) (d counts : List ℕ) (seat suit i : ℕ) : Type 0 where
+  pub from : at ≤ i
+  pub within : i ≤ length s
+  pub find : findFrom 0x2C s i ≡ findFrom 0x2C s at
+  pub held : Held (fieldAt s at) d counts seat suit (i - at)
+
+pub fielded-start : (s : List ℕ) (at : ℕ) (d : List ℕ) (seat : ℕ) → part d (seat * 52) 52 ≡ noCards → at ≤ length s → Fielded s at d d seat 4 at
+fielded-start s at d seat e l =
+    let z : at - at ≡ 0 = omega arith in
+    record { from = omega arith; within = l; find = refl; held = rw z (held-start (fieldAt s at) d seat e) }
+
+module _ (s : List ℕ) (at : ℕ) (d counts : List ℕ) (seat suit i : ℕ) (v : Fielded s at d counts seat suit i) (l : part d (seat * 52) 52 ≡ noCards) where
+  pub fielded-few : (c : ℕ) → c < 52 → getD counts (seat * 52 + c) 0 ≤ i
+  fielded-few c h = omega (arith, held-few (fieldAt s at) d counts seat suit (i - at) (v .held) l c h)
+
+  long-field : findFrom 0x2C s at ≤ length s → at ≤ findFrom 0x2C s at → length (fieldAt s at) ≡ findFrom 0x2C s at - at
+  long-field h k = ap length (sym (field-is s at)) ∙ part-length s at (findFrom 0x2C s at - at) (omega arith)
+
+  -- at the comma, and at the end
+  counted : (r : ℕ) → findFrom 0x2C s at ≡ i → cut 0x2C (drop r s) ≡ others (cut 0x2C (drop at s)) → r ≤ length s → Counted s at d seat counts r
+  counted r e k h =
+      let a = v .from in
+      let b = v .within in
+      let n = long-field (omega arith) (omega arith) in
+      record { hand = held-end (fieldAt s at) d counts seat suit (i - at) (v .held) l (omega arith); rest = k; within = h }
+
+  pub fielded-comma : i < length s → getD s i 0 ≡ 0x2C → Counted s at d seat counts (i + 1)
+  fielded-comma h e = let f = sym (v .find) ∙ find-here 0x2C s i h e in counted (i + 1) f (rest-at-comma s at i f h) (omega arith)
+
+  pub fielded-end : length s ≤ i → Counted s at d seat counts i
+  fielded-end h =
+      let b = v .within in
+      let e : i ≡ length s = omega arith in
+      let f : findFrom 0x2C s at ≡ length s = sym (v .find) ∙ find-end 0x2C s i h in
+      counted i (f ∙ sym e) (rest-at-end s at i (omega arith) h) b
+
+  -- a turn at another byte, with the number of its letter
+  module _ (n : ℕ) (m : i < length s) (e : (suitOf (getD s i 0) ≡ suitIn n) × (rankOf (getD s i 0) ≡ rankIn n)) (o : getD s i 0 ≡ 0x2C → ⊥) where
+    next : findFrom 0x2C s (i + 1) ≡ findFrom 0x2C s at
+    next = find-next 0x2C s i m o ∙ v .find
+
+    before : i < findFrom 0x2C s at
+    before =
+        split (findFrom 0x2C s (i + 1)) (length s)
+        (λ k. let a = find-after 0x2C s (i + 1) k in let b = next in omega arith)
+        (λ k. let b = next in omega arith)
+
+    inside : i - at < length (fieldAt s at)
+    inside = let a = v .from in let b = before in let c = find-within 0x2C s at in let n = long-field (omega arith) (omega arith) in omega arith
+
+    byte-is : getD s i 0 ≡ getD (fieldAt s at) (i - at) 0
+    byte-is =
+        let a = v .from in
+        let b = before in
+        let z : at + (i - at) ≡ i = omega arith in
+        ap (λ (j : ℕ). getD s j 0) (sym z) ∙ count-at s at (findFrom 0x2C s at - at) (i - at) (omega arith) ∙ ap (λ (x : List ℕ). getD x (i - at) 0) (field-is s at)
+
+    letter-is : (suitOf (getD (fieldAt s at) (i - at) 0) ≡ suitIn n) × (rankOf (getD (fieldAt s at) (i - at) 0) ≡ rankIn n)
+    letter-is = rw (← byte-is) e
+
+    on : (counts′ : List ℕ) (u : ℕ) → Held (fieldAt s at) d counts′ seat u (i - at + 1) → Fielded s at d counts′ seat u (i + 1)
+    on counts′ u h =
+        let a = v .from in
+        let z : i + 1 - at ≡ i - at + 1 = omega arith in
+        record { from = omega arith; within = omega arith; find = next; held = rw z h }
+
+    pub fielded-suit : n < 4 → Fielded s at d counts seat n (i + 1)
+    fielded-suit h = on counts n (held-suit (fieldAt s at) d counts seat suit (i - at) (v .held) l n inside letter-is h)
+
+    pub fielded-skip : 4 ≤ n → (ltb suit 4 && ltb n 17) ≡ false → Fielded s at d counts seat suit (i + 1)
+    fielded-skip h f = on counts suit (held-skip (fieldAt s at) d counts seat suit (i - at) (v .held) l n inside letter-is h f)
+
+    pub fielded-card : 4 ≤ n → (ltb suit 4 && ltb n 17) ≡ true
+        → Fielded s at d (set counts (seat * 52 + (suit * 13 + (n - 4))) (getD counts (seat * 52 + (suit * 13 + (n - 4))) 0 + 1)) seat suit (i + 1)
+    fielded-card h f = on _ suit (held-card (fieldAt s at) d counts seat suit (i - at) (v .held) l n inside letter-is h f)
+
+-- a comma is no letter
+abbrev given : Option ℕ → Bool
+given none = false
+given (some n) = true
+
+pub comma-suit : (b n : ℕ) → suitOf b ≡ suitIn n → n < 4 → b ≡ 0x2C → ⊥
+unfolding suitOf indexOf lower
+comma-suit b n e h f =
+    let a : suitIn n ≡ some n = simp (lt-ltb n 4 h) in
+    let z : none ≡ some n = (let y : suitOf 0x2C ≡ none = refl in sym y) ∙ ap suitOf (sym f) ∙ e ∙ a in
+    false≢true (ap given z)
+
+pub comma-rank : (b n : ℕ) → rankOf b ≡ rankIn n → 4 ≤ n → n < 17 → b ≡ 0x2C → ⊥
+unfolding rankOf indexOf lower
+comma-rank b n e h k f =
+    let a : rankIn n ≡ some (n - 4) = simp (le-leb 4 n h, lt-ltb n 17 k) in
+    let z : none ≡ some (n - 4) = (let y : rankOf 0x2C ≡ none = refl in sym y) ∙ ap rankOf (sym f) ∙ e ∙ a in
+    false≢true (ap given z)
+
 -- The counts of a hand
 
 -- the list of a struct that the code holds has the length of its array
@@ -197,11 +320,7 @@ pub sum-end : (h : List ℕ) (i n : ℕ) → n + sum (drop i h) ≡ sum h → le
 unfolding sum
 sum-end h i n e l = let z : sum (drop i h) ≡ 0 = ap sum (drop-of-length-le h l) in omega arith
 
--- a seat's hand within the deal: its counts, of which there are at most so many
-pub count-at : (d : List ℕ) (a m i : ℕ) → i < m → getD d (a + i) 0 ≡ getD (part d a m) i 0
-unfolding part
-count-at d a m i h = sym (getD-take m (drop a d) i 0 h ∙ getD-drop a d i 0)
-
+-- there are at most so many
 pub counts-most : (d : List ℕ) (a m : ℕ) → length (part d a m) ≤ m
 unfolding part
 counts-most d a m = omega (arith, length-take m (drop a d))

@@ -4,36 +4,40 @@ use lin_spec::Deal;
 use lin_spec::Seat;
 ghost use mathlib.Core.Path.{_≡_};
 ghost use mathlib.Core.Bool.{_&&_};
-ghost use Prim.Native.Nat.{_<_, _*_, _^_};
+ghost use Prim.Native.Nat.{_≤_, _<_, _*_, _^_};
 ghost use lib.ListN.{length};
 ghost use lib.Dec.{eqb};
 ghost use Rattle.lin_spec.specs.Base.{pick};
 ghost use Rattle.lin_spec.specs.Records.{part};
-ghost use Rattle.lin_spec.specs.Cards.{noCards, sum, readHand, remainder};
+ghost use Rattle.lin_spec.specs.Cards.{noCards, sum, remainder};
 ghost use Rattle.lin_spec.specs.Letters.{handLength};
-ghost use Rattle.cards.specs.Deals.{placed, handOf};
+ghost use Rattle.cards.specs.Deals.{placed, handOf, Counted};
 
-// Counts the cards of a text at a seat's place in a deal, where none is counted yet. The suit is that of the last suit letter, 4 before the first.
-pub(crate) fn count_hand(counts: &mut [u32; 208], seat: usize, s: &[u8])
-    requires { ⌜ (seat < 4) × (part (now counts) (seat * 52) 52 ≡ noCards) × (length (now s) < 2 ^ 32) ⌝ }
-    ensures { λ r. ⌜ now (counts .exit) ≡ placed (now (counts .entry)) seat (readHand (now (s .entry))) ⌝ }
+// Counts the cards of a field, up to its comma or the end, at a seat's place in a deal, where none is counted yet, and gives the place of the next field.
+// The suit is that of the last suit letter, 4 before the first.
+pub(crate) fn count_field(counts: &mut [u32; 208], seat: usize, s: &[u8], at: usize) -> usize
+    requires { ⌜ (seat < 4) × (part (now counts) (seat * 52) 52 ≡ noCards) × (at ≤ length (now s)) × (length (now s) < 2 ^ 32) ⌝ }
+    ensures { λ r. ⌜ Counted (now (s .entry)) at (now (counts .entry)) seat (now (counts .exit)) r ⌝ }
 {
     let first = seat * Deal::CARDS;
     let mut suit: u8 = 4;
-    let mut i = 0;
+    let mut i = at;
     while i < s.len() {
         let n = letter(s[i]);
         if n < 4 {
             suit = n;
             i += 1;
         } else if (suit < 4) & (n < 17) {
-            let at = first + (suit * 13 + (n - 4)) as usize;
-            counts[at] = counts[at] + 1;
+            let card = first + (suit * 13 + (n - 4)) as usize;
+            counts[card] = counts[card] + 1;
             i += 1;
+        } else if s[i] == b',' {
+            return i + 1;
         } else {
             i += 1;
         }
     }
+    i
 }
 
 // A count as a number of 64 bits.

@@ -1,6 +1,6 @@
 -- Laws of one token with its command's number. (01: Tokens, Board)
 -- Assumes nothing.
-use Prim.Native.Nat.{ℕ, _+_, _-_, _≤_, _<_}
+use Prim.Native.Nat.{ℕ, _+_, _-_, _^_, _≤_, _<_}
 use native.Mathlib.Omega.{arith}
 use mathlib.Core.Path.{_≡_, ap, sym, subst, _∙_}
 use mathlib.Core.List.{List, []}
@@ -16,10 +16,10 @@ use Rattle.lin_spec.specs.declared.Span.{Span}
 use Rattle.lin_spec.proofs.Base.{split}
 use Rattle.lin_spec.proofs.Cursor.{means, find-end, find-after, step-none, step-one, step-two, step-after}
 use Rattle.lin_spec.proofs.Reading.{streams}
+use Rattle.document.specs.declared.tokens.Part.{Part}
 use Rattle.commands.specs.Commands.{words, commandOf}
-use Rattle.commands.specs.Steps.{TokenAt, Commands, Knows}
+use Rattle.commands.specs.Steps.{TokenAt, Commands}
 use Rattle.commands.specs.declared.steps.Commanded.{Commanded}
-use Rattle.commands.specs.declared.steps.Known.{Known}
 use Rattle.commands.proofs.CommandLaws.{code-is}
 
 -- the cursor's step gives it
@@ -59,8 +59,13 @@ module _ (s : List ℕ) (at p q : ℕ) (ep : p ≡ findFrom pipe s at) (eq : q �
 pub commanded : (s : List ℕ) (at : ℕ) (r v : Commanded) → Commands s at r → r ≡ v → Commands s at v
 commanded s at r v h e = subst (Commands s at) e h
 
-pub known : (s : List ℕ) (at : ℕ) (r v : Known) → Knows s at r → r ≡ v → Knows s at v
-known s at r v h e = subst (Knows s at) e h
+-- its value as a span
+pub spanned : (s : List ℕ) (at k : ℕ) (p : Part) (n : ℕ) (v : Span) → v ≡ span (p .start) (p .len) → TokenAt s at k (span (p .start) (p .len)) n → TokenAt s at k v n
+spanned s at k p n v e = subst (λ (x : Span). TokenAt s at k x n) (sym e)
+
+-- which has 32-bit places, where the text has
+pub value-short : (s : List ℕ) (at k : ℕ) (p : Part) (n : ℕ) → TokenAt s at k (span (p .start) (p .len)) n → length s < 2 ^ 32 → p .start + p .len < 2 ^ 32
+value-short s at k p n t h = let v = t .value in omega arith
 
 -- the number says which command it is
 pub command-is : (s : List ℕ) (at k : ℕ) (v : Span) (n : ℕ) (t : TokenAt s at k v n) (i : ℕ) → i < 10 → isCommand (t .command) (getD words i []) ≡ eqb k i

@@ -9,9 +9,7 @@ use Rattle.lin_spec.specs.Reading.{stream}
 use Rattle.lin_spec.specs.declared.Span.{Span}
 use Rattle.commands.specs.Commands.{commandOf}
 use Rattle.commands.specs.declared.steps.Commanded.{Commanded}
-use Rattle.commands.specs.declared.steps.Commanded.the-variants.{Token as Spoken, Ended as Silent}
-use Rattle.commands.specs.declared.steps.Known.{Known}
-use Rattle.commands.specs.declared.steps.Known.the-variants.{Token, Ended}
+use Rattle.commands.specs.declared.steps.Commanded.the-variants.{Token, Ended}
 
 -- at the place `at` stands a token with a command of the number k and the value v, and the next at n
 pub record TokenAt (s : List ℕ) (at k : ℕ) (v : Span) (n : ℕ) : Type 0 where
@@ -24,9 +22,5 @@ pub record TokenAt (s : List ℕ) (at k : ℕ) (v : Span) (n : ℕ) : Type 0 whe
   pub within : n ≤ length s
 
 abbrev pub Commands : (s : List ℕ) (at : ℕ) → Commanded → Type 0
-Commands s at (Spoken k p c) = TokenAt s at k (span (p .start) (p .len)) (c .at)
-Commands s at Silent = stream s at ≡ []
-
-abbrev pub Knows : (s : List ℕ) (at : ℕ) → Known → Type 0
-Knows s at (Token k v c) = TokenAt s at k v (c .at)
-Knows s at Ended = stream s at ≡ []
+Commands s at (Token k p c) = TokenAt s at k (span (p .start) (p .len)) (c .at)
+Commands s at Ended = stream s at ≡ []

@@ -20,6 +20,5 @@ pub use plain::is_page;
 pub use plain::passed_end;
 pub use plain::plain_card;
 pub use steps::Commanded;
-pub use steps::Known;
 pub use steps::next_command;
-pub use steps::next_known;
+pub use steps::span_of;

@@ -7,9 +7,10 @@ use document::Cursor;
 use document::Part;
 use document::next_pipe;
 use lin_spec::Span;
-ghost use Prim.Native.Nat.{_<_, _^_};
-ghost use lib.ListN.{length};
-ghost use Rattle.commands.specs.Steps.{Commands, Knows};
+ghost use mathlib.Core.Path.{_≡_};
+ghost use Prim.Native.Nat.{_+_, _<_, _^_};
+ghost use Rattle.lin_spec.specs.Records.{span};
+ghost use Rattle.commands.specs.Steps.{Commands};
 
 // A token's command by number and its value, with the cursor after it; or no token.
 pub enum Commanded {
@@ -17,14 +18,8 @@ pub enum Commanded {
     Ended,
 }
 
-// The same with the value as a span.
-pub enum Known {
-    Token(u8, Span, Cursor),
-    Ended,
-}
-
 // The token at the cursor.
-pub fn next_command(text: &[u8], cursor: Cursor) -> Commanded
+fn far_command(text: &[u8], cursor: Cursor) -> Commanded
     ensures { λ r. ⌜ Commands (now (text .entry)) (cursor .at) r ⌝ }
 {
     let at = cursor.at;
@@ -45,41 +40,34 @@ pub fn next_command(text: &[u8], cursor: Cursor) -> Commanded
     Commanded::Token(k, value, Cursor { at: q + 1 })
 }
 
-// The same in a text whose places are numbers of 32 bits.
-fn far_known(text: &[u8], cursor: Cursor) -> Known
-    requires { ⌜ length (now text) < 2 ^ 32 ⌝ }
-    ensures { λ r. ⌜ Knows (now (text .entry)) (cursor .at) r ⌝ }
-{
-    match next_command(text, cursor) {
-        Commanded::Token(k, value, c) => {
-            let v = Span {
-                start: value.start as u32,
-                len: value.len as u32,
-            };
-            Known::Token(k, v, c)
-        }
-        Commanded::Ended => Known::Ended,
-    }
-}
-
 // The same, for a command of two bytes at once.
-pub fn next_known(text: &[u8], cursor: Cursor) -> Known
-    requires { ⌜ length (now text) < 2 ^ 32 ⌝ }
-    ensures { λ r. ⌜ Knows (now (text .entry)) (cursor .at) r ⌝ }
+pub fn next_command(text: &[u8], cursor: Cursor) -> Commanded
+    ensures { λ r. ⌜ Commands (now (text .entry)) (cursor .at) r ⌝ }
 {
     let a = after_line(text, cursor.at);
     if !is_pair(text, a) {
-        return far_known(text, cursor);
+        return far_command(text, cursor);
     }
     let v = a + 3;
     let q = next_pipe(text, v);
     if text.len() <= q {
-        return Known::Ended;
+        return Commanded::Ended;
     }
     let k = pair_of(text[a], text[a + 1]);
-    let value = Span {
-        start: v as u32,
-        len: (q - v) as u32,
+    let value = Part {
+        start: v,
+        len: q - v,
     };
-    Known::Token(k, value, Cursor { at: q + 1 })
+    Commanded::Token(k, value, Cursor { at: q + 1 })
+}
+
+// A value as a span, in a text whose places are numbers of 32 bits.
+pub fn span_of(value: Part) -> Span
+    requires { ⌜ value .start + value .len < 2 ^ 32 ⌝ }
+    ensures { λ r. ⌜ r ≡ span (value .start) (value .len) ⌝ }
+{
+    Span {
+        start: value.start as u32,
+        len: value.len as u32,
+    }
 }

@@ -6,7 +6,7 @@ use board_steps::put_card;
 use board_steps::put_last;
 use board_steps::step;
 use commands::AN;
-use commands::Known;
+use commands::Commanded;
 use commands::MB;
 use commands::MC;
 use commands::MD;
@@ -16,8 +16,9 @@ use commands::PN;
 use commands::QX;
 use commands::after_line;
 use commands::is_page;
-use commands::next_known;
+use commands::next_command;
 use commands::plain_card;
+use commands::span_of;
 use document::Cursor;
 use output::put_byte;
 use sections::Section;
@@ -70,9 +71,10 @@ pub fn read_part(text: &[u8], at: usize, rows: &mut [u32], cards: &mut [u8]) -> 
             c = a + 4;
             back = c;
         } else {
-            let Known::Token(k, v, next) = next_known(text, Cursor { at: c }) else {
+            let Commanded::Token(k, value, next) = next_command(text, Cursor { at: c }) else {
                 return part_of(at, c, board, h);
             };
+            let v = span_of(value);
             if (k == QX) & (at < back) {
                 return part_of(at, back, board, before(back < c, kept, h));
             }

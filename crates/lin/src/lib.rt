@@ -37,6 +37,8 @@ pub use file::Counted;
 pub use file::count_boards;
 pub use file::file_board;
 pub use file::file_heading;
+pub use file_reader::BoardRead;
+pub use file_reader::read_board;
 pub use finder::find_name;
 pub use sections::BoardCursor;
 pub use sections::BoardStep;

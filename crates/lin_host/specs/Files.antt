@@ -1,14 +1,17 @@
 -- The board cursor and its step as numbers. (01: File)
 use Prim.Native.Nat.{ℕ}
 use mathlib.Core.Bool.{not}
+use mathlib.Core.List.{List}
 use lib.Dec.{eqb}
 use Rattle.lin_spec.specs.Refusals.{Answer}
 use Rattle.lin_spec.specs.Refusals.Answer.{refused, accepted}
 use Rattle.lin_spec.specs.Reading.{flag}
-use Rattle.lin_spec.specs.File.{Standing, Visit}
+use Rattle.lin_spec.specs.File.{Standing, Visit, ReadStep}
 use Rattle.lin_spec.specs.File.Visit.{found, ended}
 use Rattle.host_numbers.specs.Answers.{numbersOf}
+use Rattle.host_numbers.specs.Boards.{headingNumbers}
 use Rattle.lin_host.specs.declared.files.LinBoards.{LinBoards}
+use Rattle.lin_host.specs.declared.files.LinRead.{LinRead}
 use Rattle.lin_host.specs.declared.files.LinSection.{LinSection}
 
 -- a cursor of any numbers: `lines` other than 0 counts as 1
@@ -41,4 +44,18 @@ visitNumbers (ended c) =
       board = 0;
       «next_at» = c .at;
       «next_number» = c .number;
+    }
+
+-- a step that reads, and the rows and cards afterwards
+pub record StepRead : Type 0 where
+  pub read : LinRead
+  pub rows : List ℕ
+  pub cards : List ℕ
+
+abbrev pub readNumbers : ReadStep → StepRead
+readNumbers r =
+    record {
+      read = record { section = visitNumbers (r .step); heading = headingNumbers (r .reading .heading) };
+      rows = r .reading .rows;
+      cards = r .reading .cards;
     }

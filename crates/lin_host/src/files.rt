@@ -3,6 +3,7 @@ use file::Counted;
 use file::count_boards;
 use file::file_board;
 use file::file_heading;
+use file_reader::read_board;
 use finder::find_name;
 use host_numbers::LinAnswer;
 use host_numbers::LinHeading;
@@ -14,12 +15,12 @@ use sections::OpenedBoards;
 use sections::open_boards;
 ghost use mathlib.Core.Path.{_≡_};
 ghost use Rattle.lin_spec.specs.Reading.{flag};
-ghost use Rattle.lin_spec.specs.File.{countBoards, fileHeading, fileBoard, findName, openBoards, visit};
+ghost use Rattle.lin_spec.specs.File.{countBoards, fileHeading, fileBoard, findName, openBoards, visit, readStep};
 ghost use Rattle.file.specs.Numbers.{countedOf};
 ghost use Rattle.sections.specs.Sections.{openedOf, visitOf};
 ghost use Rattle.host_numbers.specs.Answers.{numbersOf};
 ghost use Rattle.host_numbers.specs.Boards.{headingNumbers, Reading, readingNumbers};
-ghost use Rattle.lin_host.specs.Files.{standing, openedNumbers, visitNumbers};
+ghost use Rattle.lin_host.specs.Files.{standing, openedNumbers, visitNumbers, StepRead, readNumbers};
 
 // The verdict and the cursor: the place of the next part or line, the number of the next board, lines 0 or 1. An accepted call has the value 0; a refusal
 // has the cursor 0, 0, 0.
@@ -42,6 +43,13 @@ pub struct LinSection {
     pub board: u32,
     pub next_at: u64,
     pub next_number: u64,
+}
+
+// A step of the board cursor, and the heading of its section; without a section, that of none of the text.
+#[repr(C)]
+pub struct LinRead {
+    pub section: LinSection,
+    pub heading: LinHeading,
 }
 
 // The answers as numbers.
@@ -170,4 +178,30 @@ pub extern "C" fn lin_next_board(text: &[u8], at: u64, number: u64, lines: u32) 
         lines: lines != 0,
     };
     section_numbers(cursor.next(text))
+}
+
+// The same, and its part or line read as a board. Rows and cards are as for lin_parse_lin.
+#[no_mangle]
+pub extern "C" fn lin_read_board(
+    text: &[u8],
+    at: u64,
+    number: u64,
+    lines: u32,
+    rows: &mut [u32],
+    cards: &mut [u8],
+) -> LinRead
+    ensures { λ r. ⌜ _≡_ {A = StepRead} (record { read = r; rows = now (rows .exit); cards = now (cards .exit) }) (readNumbers (readStep (now (text .entry)) (standing at number lines) (now (rows .entry)) (now (cards .entry)))) ⌝ }
+{
+    let cursor = BoardCursor {
+        at: at as usize,
+        number: number as usize,
+        lines: lines != 0,
+    };
+    let read = read_board(text, cursor, rows, cards);
+    let step = read.step;
+    let heading = read.heading;
+    LinRead {
+        section: section_numbers(step),
+        heading: heading_numbers(heading),
+    }
 }

@@ -4,7 +4,7 @@
 use crate::clock::milliseconds;
 use lin_host_rust::{
     boards::{self, LinHeading, ROW},
-    files::{self, Boards},
+    files::{self, BoardCursor, Boards},
     pbn,
     tokens::{self, Cursor, Span, Token},
     upstream,
@@ -78,6 +78,10 @@ pub const ALL: &[Work] = &[
     Work {
         name: "parse_lin_file | boards, parse_lin",
         time: reading,
+    },
+    Work {
+        name: "parse_lin_file | boards, read_board",
+        time: stepping,
     },
     Work {
         name: "parse_lin_file | boards, heading",
@@ -219,6 +223,33 @@ fn reading(text: &str, runs: usize) -> Times {
     boards_by(text, runs, |part| {
         boards::parse_lin_numbers(part, &mut rows, &mut cards)
     })
+}
+
+/// The same, each found and read by one step of the cursor.
+fn stepping(text: &str, runs: usize) -> Times {
+    let (mut rows, mut cards) = (vec![0; ROW * LIMIT / 4], vec![0; LIMIT / 4]);
+    let bytes = text.as_bytes();
+    let read_all = || {
+        let mut seen = (0, (0, 0));
+        let mut cursor = BoardCursor::open(black_box(bytes)).expect("a text within the limit");
+        loop {
+            let read = cursor.read(bytes, &mut rows, &mut cards);
+            if black_box(&read).section.found == 0 {
+                return seen;
+            }
+            cursor = cursor.after(read.section);
+            if read.section.board == 1 {
+                seen.0 += 1;
+                seen.1 .0 += read.heading.calls as usize;
+                seen.1 .1 += read.heading.cards as usize;
+            }
+        }
+    };
+    let parse = || parse_lin_file(black_box(text)).expect("no error");
+    in_turn(text.len(), runs, parse, read_all, |all, seen| {
+        (all.len(), rows_of(all)) == *seen
+    })
+    .checking([text.as_bytes()].into_iter(), runs)
 }
 
 /// The headings of all boards.

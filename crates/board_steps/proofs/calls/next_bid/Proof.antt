@@ -3,7 +3,7 @@
 use Rattle.board_steps.proofs.CallLaws.{from-end, from-mb, from-other}
 use Rattle.board_steps.specs.Calls.{callsFrom}
 use Rattle.lin_spec.specs.Reading.{stream}
-use Rattle.commands.proofs.StepLaws.{known}
+use Rattle.commands.proofs.StepLaws.{commanded, spanned, value-short}
 use lib.ListN.{length}
 use mathlib.Core.Path.{_≡_, refl, _∙_, sym}
 use borrow.Author.Needs.{needs}
@@ -18,37 +18,32 @@ Inv-loop text c₀ c = callsFrom text (stream text (c .at)) ≡ callsFrom text (
 abbrev μ-loop : tie.MeasureT-loop
 μ-loop text c₀ c = length text - c .at
 
--- src/calls.rt:93:5
 loop-holds : tie.Need-loop-holds Inv-loop μ-loop
 loop-holds c = refl
 
--- src/calls.rt:94:15
-next-known-requires : tie.Need-next-known-requires Inv-loop μ-loop
-next-known-requires c κs = c .before .before .pre
+next-command-requires : tie.Need-next-command-requires Inv-loop μ-loop
+next-command-requires c κs = tt
 
--- src/calls.rt:95:26
 enum-known-k : tie.Need-enum-known-k Inv-loop μ-loop
 enum-known-k c = search needs
 
--- src/calls.rt:97:21
+span-of-requires : tie.Need-span-of-requires Inv-loop μ-loop
+span-of-requires c κs = value-short _ _ _ _ _ (commanded _ _ _ _ ((c .before .before .before .before .next-command) .ensures) ((c .before .before .k) .given .1)) (c .before .before .before .before .before .before .before .pre)
+
 returns : tie.Need-returns Inv-loop μ-loop
-returns c = let t = known _ _ _ _ (c .before .before .before .before .next-known .ensures) (c .before .before .k .given .1) in (sym (c .before .before .before .before .before .loop .inv) ∙ from-mb _ _ _ _ _ t (c .if1 .taken), t .value)
+returns c = let t = (spanned _ _ _ _ _ _ ((c .span-of) .ensures) (commanded _ _ _ _ ((c .before .before .before .before .before .next-command) .ensures) ((c .before .before .before .k) .given .1))) in (sym ((c .before .before .before .before .before .before .loop) .inv) ∙ from-mb _ _ _ _ _ t ((c .before .if1) .taken), t .value)
 
--- src/calls.rt:93:5
 loop-less : tie.Need-loop-less Inv-loop μ-loop
-loop-less c = let t = known _ _ _ _ (c .before .before .before .before .next-known .ensures) (c .before .before .k .given .1) in omega (arith, t .later, t .within)
+loop-less c = let t = (commanded _ _ _ _ ((c .before .before .before .before .next-command) .ensures) ((c .before .before .k) .given .1)) in omega (arith, t .later, t .within)
 
--- src/calls.rt:93:5
 loop-again : tie.Need-loop-again Inv-loop μ-loop
-loop-again c = from-other _ _ _ _ _ (known _ _ _ _ (c .before .before .before .before .next-known .ensures) (c .before .before .k .given .1)) (c .if1 .left) ∙ c .before .before .before .before .before .loop .inv
+loop-again c = from-other _ _ _ _ _ (commanded _ _ _ _ ((c .before .before .before .before .next-command) .ensures) ((c .before .before .k) .given .1)) ((c .if1) .left) ∙ (c .before .before .before .before .before .loop) .inv
 
--- src/calls.rt:102:17
 enum-told : tie.Need-enum-told Inv-loop μ-loop
 enum-told c = search needs
 
--- src/calls.rt:102:17
 returns-2 : tie.Need-returns-2 Inv-loop μ-loop
-returns-2 c = sym (c .before .before .before .loop .inv) ∙ from-end _ _ (known _ _ _ _ (c .before .before .next-known .ensures) (c .enum-told .given .1))
+returns-2 c = sym ((c .before .before .before .loop) .inv) ∙ from-end _ _ (commanded _ _ _ _ ((c .before .before .next-command) .ensures) ((c .enum-told) .given .1))
 
 pub next-bid-spec : {M : Type 1} → statement M
 next-bid-spec =
@@ -57,8 +52,9 @@ next-bid-spec =
     Inv-loop
     μ-loop
     loop-holds
-    next-known-requires
+    next-command-requires
     enum-known-k
+    span-of-requires
     returns
     loop-less
     loop-again

@@ -7,7 +7,7 @@ use Rattle.lin_spec.specs.declared.Span.{Span}
 use Rattle.lin_spec.specs.Board.{CallOf}
 use Rattle.lin_spec.specs.Records.{optionOf}
 use mathlib.Core.Option.{none}
-use Rattle.commands.proofs.StepLaws.{known}
+use Rattle.commands.proofs.StepLaws.{commanded, spanned, value-short}
 use lib.ListN.{length}
 use mathlib.Core.Path.{_≡_, refl, _∙_, sym}
 use borrow.Author.Needs.{needs}
@@ -22,41 +22,35 @@ Inv-loop text annotation₀ c₀ annotation c = (x : CallOf Span) → callsAfter
 abbrev μ-loop : tie.MeasureT-loop
 μ-loop text annotation₀ c₀ annotation c = length text - c .at
 
--- src/calls.rt:115:5
 loop-holds : tie.Need-loop-holds Inv-loop μ-loop
 loop-holds c = λ x. refl
 
--- src/calls.rt:116:15
-next-known-requires : tie.Need-next-known-requires Inv-loop μ-loop
-next-known-requires c κs = c .before .before .pre
+next-command-requires : tie.Need-next-command-requires Inv-loop μ-loop
+next-command-requires c κs = tt
 
--- src/calls.rt:117:26
 enum-known-k : tie.Need-enum-known-k Inv-loop μ-loop
 enum-known-k c = search needs
 
--- src/calls.rt:119:21
 returns : tie.Need-returns Inv-loop μ-loop
-returns c = λ x. sym (c .before .before .before .before .before .loop .inv x) ∙ after-mb _ _ _ _ _ (known _ _ _ _ (c .before .before .before .before .next-known .ensures) (c .before .before .k .given .1)) (c .if1 .taken) x _
+returns c = λ x. sym ((c .before .before .before .before .before .loop) .inv x) ∙ after-mb _ _ _ _ _ (commanded _ _ _ _ ((c .before .before .before .before .next-command) .ensures) ((c .before .before .k) .given .1)) ((c .if1) .taken) x _
 
--- src/calls.rt:124:17
+span-of-requires : tie.Need-span-of-requires Inv-loop μ-loop
+span-of-requires c κs = value-short _ _ _ _ _ (commanded _ _ _ _ ((c .before .before .before .before .next-command) .ensures) ((c .before .before .k) .given .1)) (c .before .before .before .before .before .before .before .pre)
+
 on-present-requires : tie.Need-on-present-requires Inv-loop μ-loop
 on-present-requires c κs = tt
 
--- src/calls.rt:115:5
 loop-less : tie.Need-loop-less Inv-loop μ-loop
-loop-less c = let t = known _ _ _ _ (c .before .before .before .before .before .next-known .ensures) (c .before .before .before .k .given .1) in omega (arith, t .later, t .within)
+loop-less c = let t = (commanded _ _ _ _ ((c .before .before .before .before .before .before .next-command) .ensures) ((c .before .before .before .before .k) .given .1)) in omega (arith, t .later, t .within)
 
--- src/calls.rt:115:5
 loop-again : tie.Need-loop-again Inv-loop μ-loop
-loop-again c = λ x. after-other _ _ _ _ _ (known _ _ _ _ (c .before .before .before .before .before .next-known .ensures) (c .before .before .before .k .given .1)) (c .before .if1 .left) x _ _ (c .on-present .ensures) ∙ c .before .before .before .before .before .before .loop .inv x
+loop-again c = λ x. after-other _ _ _ _ _ (spanned _ _ _ _ _ _ ((c .before .span-of) .ensures) (commanded _ _ _ _ ((c .before .before .before .before .before .before .next-command) .ensures) ((c .before .before .before .before .k) .given .1))) ((c .before .before .if1) .left) x _ _ ((c .on-present) .ensures) ∙ (c .before .before .before .before .before .before .before .loop) .inv x
 
--- src/calls.rt:128:17
 enum-told : tie.Need-enum-told Inv-loop μ-loop
 enum-told c = search needs
 
--- src/calls.rt:128:17
 returns-2 : tie.Need-returns-2 Inv-loop μ-loop
-returns-2 c = λ x. sym (c .before .before .before .loop .inv x) ∙ after-end _ _ x _ (known _ _ _ _ (c .before .before .next-known .ensures) (c .enum-told .given .1))
+returns-2 c = λ x. sym ((c .before .before .before .loop) .inv x) ∙ after-end _ _ x _ (commanded _ _ _ _ ((c .before .before .next-command) .ensures) ((c .enum-told) .given .1))
 
 pub next-note-spec : {M : Type 1} → statement M
 next-note-spec =
@@ -65,9 +59,10 @@ next-note-spec =
     Inv-loop
     μ-loop
     loop-holds
-    next-known-requires
+    next-command-requires
     enum-known-k
     returns
+    span-of-requires
     on-present-requires
     loop-less
     loop-again

@@ -2,7 +2,7 @@
 -- Assumes nothing.
 use Rattle.board_steps.proofs.HeadLaws.{stepped-none}
 use Rattle.board_steps.proofs.StoringLaws.{Into, into-begin, into-end, rows-long, cards-long, one-room, one-put, card-room, into-card, into-step, call-room, into-call, rows-most, into-note}
-use Rattle.commands.proofs.StepLaws.{known}
+use Rattle.commands.proofs.StepLaws.{commanded, spanned, value-short}
 use Rattle.commands.proofs.PlainLaws.{card-token, card-value, page-token}
 use lib.ListN.{length}
 use mathlib.Core.Path.{refl}
@@ -54,8 +54,8 @@ loop-less-2 c = let t = (page-token _ _ _ ((c .before .before .before .before .a
 loop-again-2 : tie.Need-loop-again-2 Inv-loop μ-loop
 loop-again-2 c = into-step _ _ _ _ (c .before .before .before .before .before .before .before .before .before .before .pre) _ _ _ _ ((c .before .before .before .before .before .loop) .inv) _ _ _ (page-token _ _ _ ((c .before .before .before .before .after-line) .ensures) ((c .before .is-page) .ensures ((c .if2) .taken))) (λ e. omega (arith, e)) (λ e. omega (arith, e)) (λ e. omega (arith, e)) _ (stepped-none _ _ _ _ (omega arith))
 
-next-known-requires : tie.Need-next-known-requires Inv-loop μ-loop
-next-known-requires c κs = (c .before .before .before .before .before .before .before .before .before .before .pre) .short
+next-command-requires : tie.Need-next-command-requires Inv-loop μ-loop
+next-command-requires c κs = tt
 
 enum-known-k : tie.Need-enum-known-k Inv-loop μ-loop
 enum-known-k c = search needs
@@ -70,49 +70,52 @@ same-length-2 : tie.Need-same-length-2 Inv-loop μ-loop
 same-length-2 c = cards-long _ _ _ _ (c .before .before .before .before .before .before .before .before .before .before .before .before .before .pre) _ _ _ _ ((c .before .before .before .before .before .before .before .before .loop) .inv)
 
 returns : tie.Need-returns Inv-loop μ-loop
-returns c = into-end _ _ _ _ (c .before .before .before .before .before .before .before .before .before .before .before .before .before .pre) _ _ _ _ ((c .before .before .before .before .before .before .before .before .loop) .inv) (known _ _ _ _ ((c .before .before .next-known) .ensures) ((c .enum-told) .given .1))
+returns c = into-end _ _ _ _ (c .before .before .before .before .before .before .before .before .before .before .before .before .before .pre) _ _ _ _ ((c .before .before .before .before .before .before .before .before .loop) .inv) (commanded _ _ _ _ ((c .before .before .next-command) .ensures) ((c .enum-told) .given .1))
+
+span-of-requires : tie.Need-span-of-requires Inv-loop μ-loop
+span-of-requires c κs = value-short _ _ _ _ _ (commanded _ _ _ _ ((c .before .before .before .next-command) .ensures) ((c .before .k) .given .1)) ((c .before .before .before .before .before .before .before .before .before .before .before .before .before .before .pre) .short)
 
 put-card-requires : tie.Need-put-card-requires Inv-loop μ-loop
-put-card-requires c κs = card-room _ _ _ _ (c .before .before .before .before .before .before .before .before .before .before .before .before .before .before .before .before .pre) _ _ _ _ ((c .before .before .before .before .before .before .before .before .before .before .before .loop) .inv) _ _ _ (known _ _ _ _ ((c .before .before .before .before .before .next-known) .ensures) ((c .before .before .before .k) .given .1)) ((c .before .if3) .taken)
+put-card-requires c κs = card-room _ _ _ _ (c .before .before .before .before .before .before .before .before .before .before .before .before .before .before .before .before .before .pre) _ _ _ _ ((c .before .before .before .before .before .before .before .before .before .before .before .before .loop) .inv) _ _ _ (spanned _ _ _ _ _ _ ((c .before .before .span-of) .ensures) (commanded _ _ _ _ ((c .before .before .before .before .before .before .next-command) .ensures) ((c .before .before .before .before .k) .given .1))) ((c .before .if3) .taken)
 
 loop-less-3 : tie.Need-loop-less-3 Inv-loop μ-loop
-loop-less-3 c = let t = (known _ _ _ _ ((c .before .before .before .before .before .before .before .before .next-known) .ensures) ((c .before .before .before .before .before .before .k) .given .1)) in omega (arith, t .later, t .within)
+loop-less-3 c = let t = (commanded _ _ _ _ ((c .before .before .before .before .before .before .before .before .before .next-command) .ensures) ((c .before .before .before .before .before .before .before .k) .given .1)) in omega (arith, t .later, t .within)
 
 loop-again-3 : tie.Need-loop-again-3 Inv-loop μ-loop
-loop-again-3 c = into-card _ _ _ _ (c .before .before .before .before .before .before .before .before .before .before .before .before .before .before .before .before .before .before .before .pre) _ _ _ _ ((c .before .before .before .before .before .before .before .before .before .before .before .before .before .before .loop) .inv) _ _ _ (known _ _ _ _ ((c .before .before .before .before .before .before .before .before .next-known) .ensures) ((c .before .before .before .before .before .before .k) .given .1)) ((c .before .before .before .before .if3) .taken) _ _ ((c .before .before .put-card) .ensures)
+loop-again-3 c = into-card _ _ _ _ (c .before .before .before .before .before .before .before .before .before .before .before .before .before .before .before .before .before .before .before .before .pre) _ _ _ _ ((c .before .before .before .before .before .before .before .before .before .before .before .before .before .before .before .loop) .inv) _ _ _ (spanned _ _ _ _ _ _ ((c .before .before .before .before .before .span-of) .ensures) (commanded _ _ _ _ ((c .before .before .before .before .before .before .before .before .before .next-command) .ensures) ((c .before .before .before .before .before .before .before .k) .given .1))) ((c .before .before .before .before .if3) .taken) _ _ ((c .before .before .put-card) .ensures)
 
 loop-less-4 : tie.Need-loop-less-4 Inv-loop μ-loop
-loop-less-4 c = let t = (known _ _ _ _ ((c .before .before .before .before .before .next-known) .ensures) ((c .before .before .before .k) .given .1)) in omega (arith, t .later, t .within)
+loop-less-4 c = let t = (commanded _ _ _ _ ((c .before .before .before .before .before .before .next-command) .ensures) ((c .before .before .before .before .k) .given .1)) in omega (arith, t .later, t .within)
 
 loop-again-4 : tie.Need-loop-again-4 Inv-loop μ-loop
-loop-again-4 c = into-step _ _ _ _ (c .before .before .before .before .before .before .before .before .before .before .before .before .before .before .before .before .pre) _ _ _ _ ((c .before .before .before .before .before .before .before .before .before .before .before .loop) .inv) _ _ _ (known _ _ _ _ ((c .before .before .before .before .before .next-known) .ensures) ((c .before .before .before .k) .given .1)) ((c .before .if3) .left) (λ e. omega (arith, ((c .if4) .taken))) (λ e. omega (arith, ((c .if4) .taken))) _ (stepped-none _ _ _ _ ((c .if4) .taken))
+loop-again-4 c = into-step _ _ _ _ (c .before .before .before .before .before .before .before .before .before .before .before .before .before .before .before .before .before .pre) _ _ _ _ ((c .before .before .before .before .before .before .before .before .before .before .before .before .loop) .inv) _ _ _ (spanned _ _ _ _ _ _ ((c .before .before .span-of) .ensures) (commanded _ _ _ _ ((c .before .before .before .before .before .before .next-command) .ensures) ((c .before .before .before .before .k) .given .1))) ((c .before .if3) .left) (λ e. omega (arith, ((c .if4) .taken))) (λ e. omega (arith, ((c .if4) .taken))) _ (stepped-none _ _ _ _ ((c .if4) .taken))
 
 put-bid-requires : tie.Need-put-bid-requires Inv-loop μ-loop
-put-bid-requires c κs = let t = known _ _ _ _ ((c .before .before .before .before .before .before .before .next-known) .ensures) ((c .before .before .before .before .before .k) .given .1) in (t .value, call-room _ _ _ _ (c .before .before .before .before .before .before .before .before .before .before .before .before .before .before .before .before .before .before .pre) _ _ _ _ ((c .before .before .before .before .before .before .before .before .before .before .before .before .before .loop) .inv) _ _ _ t ((c .before .if5) .taken))
+put-bid-requires c κs = let t = (spanned _ _ _ _ _ _ ((c .before .before .before .before .span-of) .ensures) (commanded _ _ _ _ ((c .before .before .before .before .before .before .before .before .next-command) .ensures) ((c .before .before .before .before .before .before .k) .given .1))) in (t .value, call-room _ _ _ _ (c .before .before .before .before .before .before .before .before .before .before .before .before .before .before .before .before .before .before .before .pre) _ _ _ _ ((c .before .before .before .before .before .before .before .before .before .before .before .before .before .before .loop) .inv) _ _ _ t ((c .before .if5) .taken))
 
 loop-less-5 : tie.Need-loop-less-5 Inv-loop μ-loop
-loop-less-5 c = let t = (known _ _ _ _ ((c .before .before .before .before .before .before .before .before .before .before .next-known) .ensures) ((c .before .before .before .before .before .before .before .before .k) .given .1)) in omega (arith, t .later, t .within)
+loop-less-5 c = let t = (commanded _ _ _ _ ((c .before .before .before .before .before .before .before .before .before .before .before .next-command) .ensures) ((c .before .before .before .before .before .before .before .before .before .k) .given .1)) in omega (arith, t .later, t .within)
 
 loop-again-5 : tie.Need-loop-again-5 Inv-loop μ-loop
-loop-again-5 c = into-call _ _ _ _ (c .before .before .before .before .before .before .before .before .before .before .before .before .before .before .before .before .before .before .before .before .before .pre) _ _ _ _ ((c .before .before .before .before .before .before .before .before .before .before .before .before .before .before .before .before .loop) .inv) _ _ _ (known _ _ _ _ ((c .before .before .before .before .before .before .before .before .before .before .next-known) .ensures) ((c .before .before .before .before .before .before .before .before .k) .given .1)) ((c .before .before .before .before .if5) .taken) _ ((c .before .before .put-bid) .ensures .1) _ ((c .before .before .put-bid) .ensures .0)
+loop-again-5 c = into-call _ _ _ _ (c .before .before .before .before .before .before .before .before .before .before .before .before .before .before .before .before .before .before .before .before .before .before .pre) _ _ _ _ ((c .before .before .before .before .before .before .before .before .before .before .before .before .before .before .before .before .before .loop) .inv) _ _ _ (spanned _ _ _ _ _ _ ((c .before .before .before .before .before .before .before .span-of) .ensures) (commanded _ _ _ _ ((c .before .before .before .before .before .before .before .before .before .before .before .next-command) .ensures) ((c .before .before .before .before .before .before .before .before .before .k) .given .1))) ((c .before .before .before .before .if5) .taken) _ ((c .before .before .put-bid) .ensures .1) _ ((c .before .before .put-bid) .ensures .0)
 
 put-last-requires : tie.Need-put-last-requires Inv-loop μ-loop
-put-last-requires c κs = rows-most _ _ _ _ (c .before .before .before .before .before .before .before .before .before .before .before .before .before .before .before .before .before .before .before .pre) _ _ _ _ ((c .before .before .before .before .before .before .before .before .before .before .before .before .before .before .loop) .inv)
+put-last-requires c κs = rows-most _ _ _ _ (c .before .before .before .before .before .before .before .before .before .before .before .before .before .before .before .before .before .before .before .before .pre) _ _ _ _ ((c .before .before .before .before .before .before .before .before .before .before .before .before .before .before .before .loop) .inv)
 
 loop-less-6 : tie.Need-loop-less-6 Inv-loop μ-loop
-loop-less-6 c = let t = (known _ _ _ _ ((c .before .before .before .before .before .before .before .before .before .before .before .next-known) .ensures) ((c .before .before .before .before .before .before .before .before .before .k) .given .1)) in omega (arith, t .later, t .within)
+loop-less-6 c = let t = (commanded _ _ _ _ ((c .before .before .before .before .before .before .before .before .before .before .before .before .next-command) .ensures) ((c .before .before .before .before .before .before .before .before .before .before .k) .given .1)) in omega (arith, t .later, t .within)
 
 loop-again-6 : tie.Need-loop-again-6 Inv-loop μ-loop
-loop-again-6 c = into-note _ _ _ _ (c .before .before .before .before .before .before .before .before .before .before .before .before .before .before .before .before .before .before .before .before .before .before .pre) _ _ _ _ ((c .before .before .before .before .before .before .before .before .before .before .before .before .before .before .before .before .before .loop) .inv) _ _ _ (known _ _ _ _ ((c .before .before .before .before .before .before .before .before .before .before .before .next-known) .ensures) ((c .before .before .before .before .before .before .before .before .before .k) .given .1)) ((c .before .before .before .before .if6) .taken) _ ((c .before .before .put-last) .ensures)
+loop-again-6 c = into-note _ _ _ _ (c .before .before .before .before .before .before .before .before .before .before .before .before .before .before .before .before .before .before .before .before .before .before .before .pre) _ _ _ _ ((c .before .before .before .before .before .before .before .before .before .before .before .before .before .before .before .before .before .before .loop) .inv) _ _ _ (spanned _ _ _ _ _ _ ((c .before .before .before .before .before .before .before .before .span-of) .ensures) (commanded _ _ _ _ ((c .before .before .before .before .before .before .before .before .before .before .before .before .next-command) .ensures) ((c .before .before .before .before .before .before .before .before .before .before .k) .given .1))) ((c .before .before .before .before .if6) .taken) _ ((c .before .before .put-last) .ensures)
 
 step-requires : tie.Need-step-requires Inv-loop μ-loop
-step-requires c κs = let i = (c .before .before .before .before .before .before .before .before .before .before .before .before .before .loop) .inv .reads in ((known _ _ _ _ ((c .before .before .before .before .before .before .before .next-known) .ensures) ((c .before .before .before .before .before .k) .given .1)) .value, (c .before .before .before .before .before .before .before .before .before .before .before .before .before .before .before .before .before .before .pre) .short, omega (arith, i .calls, i .within, (c .before .before .before .before .before .before .before .before .before .before .before .before .before .before .before .before .before .before .pre) .short), omega (arith, i .cards, i .within, (c .before .before .before .before .before .before .before .before .before .before .before .before .before .before .before .before .before .before .pre) .short))
+step-requires c κs = let i = (c .before .before .before .before .before .before .before .before .before .before .before .before .before .before .loop) .inv .reads in ((spanned _ _ _ _ _ _ ((c .before .before .before .before .span-of) .ensures) (commanded _ _ _ _ ((c .before .before .before .before .before .before .before .before .next-command) .ensures) ((c .before .before .before .before .before .before .k) .given .1))) .value, (c .before .before .before .before .before .before .before .before .before .before .before .before .before .before .before .before .before .before .before .pre) .short, omega (arith, i .calls, i .within, (c .before .before .before .before .before .before .before .before .before .before .before .before .before .before .before .before .before .before .before .pre) .short), omega (arith, i .cards, i .within, (c .before .before .before .before .before .before .before .before .before .before .before .before .before .before .before .before .before .before .before .pre) .short))
 
 loop-less-7 : tie.Need-loop-less-7 Inv-loop μ-loop
-loop-less-7 c = let t = (known _ _ _ _ ((c .before .before .before .before .before .before .before .before .next-known) .ensures) ((c .before .before .before .before .before .before .k) .given .1)) in omega (arith, t .later, t .within)
+loop-less-7 c = let t = (commanded _ _ _ _ ((c .before .before .before .before .before .before .before .before .before .next-command) .ensures) ((c .before .before .before .before .before .before .before .k) .given .1)) in omega (arith, t .later, t .within)
 
 loop-again-7 : tie.Need-loop-again-7 Inv-loop μ-loop
-loop-again-7 c = into-step _ _ _ _ (c .before .before .before .before .before .before .before .before .before .before .before .before .before .before .before .before .before .before .before .pre) _ _ _ _ ((c .before .before .before .before .before .before .before .before .before .before .before .before .before .before .loop) .inv) _ _ _ (known _ _ _ _ ((c .before .before .before .before .before .before .before .before .next-known) .ensures) ((c .before .before .before .before .before .before .k) .given .1)) ((c .before .before .before .before .if3) .left) ((c .before .before .if5) .left) ((c .before .if6) .left) _ ((c .step) .ensures)
+loop-again-7 c = into-step _ _ _ _ (c .before .before .before .before .before .before .before .before .before .before .before .before .before .before .before .before .before .before .before .before .pre) _ _ _ _ ((c .before .before .before .before .before .before .before .before .before .before .before .before .before .before .before .loop) .inv) _ _ _ (spanned _ _ _ _ _ _ ((c .before .before .before .before .before .span-of) .ensures) (commanded _ _ _ _ ((c .before .before .before .before .before .before .before .before .before .next-command) .ensures) ((c .before .before .before .before .before .before .before .k) .given .1))) ((c .before .before .before .before .if3) .left) ((c .before .before .if5) .left) ((c .before .if6) .left) _ ((c .step) .ensures)
 
 pub read-into-spec : {M : Type 1} → statement M
 read-into-spec =
@@ -132,12 +135,13 @@ read-into-spec =
     add-c-2
     loop-less-2
     loop-again-2
-    next-known-requires
+    next-command-requires
     enum-known-k
     enum-told
     same-length
     same-length-2
     returns
+    span-of-requires
     put-card-requires
     loop-less-3
     loop-again-3
