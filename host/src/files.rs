@@ -19,7 +19,7 @@
 //! ```
 
 use crate::{
-    boards::{self as board, flag, Board, Heading, LinHeading},
+    boards::{self as board, flag, Board, Card, Heading, LinHeading, ROW},
     ffi,
     tokens::Part,
     Refusal,
@@ -219,4 +219,94 @@ impl std::iter::FusedIterator for Boards<'_> {}
 /// The boards of a file, one after another; refusals 1 and 2.
 pub fn boards(text: &[u8]) -> Result<Boards<'_>, Refusal> {
     Boards::open(text)
+}
+
+/// The boards of a file read one after another, each found and read in one pass.
+/// The reader owns rows and places enough for any board of the text.
+///
+/// ```
+/// use lin_host_rust::{files, Refusal};
+///
+/// let text = b"pn|Ann|qx|o1|md|1|mb|p|qx|o2|md|2|pc|SA|";
+/// let mut reader = files::read_boards(text)?;
+/// let (number, board) = reader.next().unwrap();
+/// assert_eq!((number, board.calls[0].bid), (0, &b"p"[..]));
+/// assert_eq!(reader.map(|(_, b)| b.play.len()).sum::<usize>(), 1);
+/// # Ok::<(), Refusal>(())
+/// ```
+#[derive(Debug, Clone)]
+pub struct BoardReader<'a> {
+    text: &'a [u8],
+    cursor: BoardCursor,
+    rows: Vec<u32>,
+    cards: Vec<u8>,
+}
+
+/// A board as the reader's rows and places hold it.
+#[derive(Debug, Clone, PartialEq, Eq)]
+pub struct BoardRead<'a, 'r> {
+    pub number: u64,
+    pub heading: Heading<'a>,
+    /// Six words for each call, as `boards::calls` takes them.
+    pub rows: &'r [u32],
+    /// A number for each card of the play.
+    pub cards: &'r [u8],
+}
+
+impl<'a> BoardReader<'a> {
+    /// Refusals 1 and 2.
+    pub fn open(text: &'a [u8]) -> Result<BoardReader<'a>, Refusal> {
+        let cursor = BoardCursor::open(text)?;
+        // A call or a card takes four bytes at least.
+        let most = text.len() / 4;
+        Ok(BoardReader {
+            text,
+            cursor,
+            rows: vec![0; ROW * most],
+            cards: vec![0; most],
+        })
+    }
+
+    /// The next board, with nothing copied.
+    ///
+    /// # Panics
+    ///
+    /// If a number of the answer has no meaning.
+    pub fn read(&mut self) -> Option<BoardRead<'a, '_>> {
+        loop {
+            let read = self.cursor.read(self.text, &mut self.rows, &mut self.cards);
+            if !flag(read.section.found) {
+                return None;
+            }
+            self.cursor = self.cursor.after(read.section);
+            if flag(read.section.board) {
+                let heading = read.heading.read(self.text).expect("rows for any board");
+                return Some(BoardRead {
+                    number: read.section.number,
+                    heading,
+                    rows: &self.rows[..ROW * heading.calls],
+                    cards: &self.cards[..heading.cards],
+                });
+            }
+        }
+    }
+}
+
+impl<'a> Iterator for BoardReader<'a> {
+    type Item = (u64, Board<'a>);
+
+    fn next(&mut self) -> Option<(u64, Board<'a>)> {
+        let text = self.text;
+        let read = self.read()?;
+        let calls = board::calls(text, read.rows);
+        let play = read.cards.iter().map(|c| Card(*c)).collect();
+        Some((read.number, Board::new(read.heading, calls, play)))
+    }
+}
+
+impl std::iter::FusedIterator for BoardReader<'_> {}
+
+/// The boards of a file read one after another; refusals 1 and 2.
+pub fn read_boards(text: &[u8]) -> Result<BoardReader<'_>, Refusal> {
+    BoardReader::open(text)
 }

@@ -34,6 +34,8 @@ pub enum Call {
     AnnotationText,
     FromBoard,
     SameBoard,
+    ReadBoard,
+    ReadStep,
 }
 
 #[derive(Default)]

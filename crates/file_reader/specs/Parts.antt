@@ -1,14 +1,30 @@
 -- A part of a file that is stored while its end is found. (01: File)
 use Prim.Native.Nat.{ℕ, _≤_, _<_, _^_}
 use mathlib.Core.Path.{_≡_}
-use mathlib.Core.List.{List}
+use mathlib.Core.Bool.{Bool, false, _&&_, _||_}
+use mathlib.Core.List.{List, [], _∷_}
 use lib.ListN.{length, take}
+use lib.Dec.{eqb}
+use Rattle.lin_spec.specs.Base.{ascii}
+use Rattle.lin_spec.specs.White.{isCommand}
+use Rattle.lin_spec.specs.Tokens.{TokenOf}
+use Rattle.lin_spec.specs.Tokens.TokenOf.{token}
 use Rattle.lin_spec.specs.Reading.{stream}
-use Rattle.lin_spec.specs.File.{partAt}
+use Rattle.lin_spec.specs.File.{leads, partAt}
+use Rattle.lin_spec.specs.declared.Span.{Span}
 use Rattle.lin_spec.proofs.File.{partEnd}
 use Rattle.board_steps.specs.Storing.{Fits, Stored}
 use Rattle.sections.specs.Sections.{sectionOf}
 use Rattle.file_reader.specs.declared.parts.PartRead.{PartRead}
+
+-- the next token but mn and pn is a qx
+unfoldable pub leadsToQx : List (TokenOf Span) → Bool
+leadsToQx [] = false
+leadsToQx (token c v ∷ ts) = isCommand c (ascii "qx") || (leads c && leadsToQx ts)
+
+-- the same of a token whose command has the number k, and the tokens after it
+abbrev pub qxNext : (k : ℕ) → List (TokenOf Span) → Bool
+qxNext k ts = eqb k 5 || ((eqb k 6 || eqb k 4) && leadsToQx ts)
 
 -- where the part that begins at a place ends, and the text up to there
 abbrev pub endAt : (s : List ℕ) (at : ℕ) → ℕ

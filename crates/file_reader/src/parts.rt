@@ -24,8 +24,9 @@ use output::put_byte;
 use sections::Section;
 use sections::moved_back;
 ghost use mathlib.Core.Path.{_≡_};
-ghost use Rattle.lin_spec.specs.Base.{pick};
-ghost use Rattle.file_reader.specs.Parts.{PartFits, PartStored};
+ghost use mathlib.Core.Bool.{_&&_};
+ghost use Rattle.lin_spec.specs.Reading.{stream};
+ghost use Rattle.file_reader.specs.Parts.{leadsToQx, qxNext, PartFits, PartStored};
 
 // A part, and the heading that its tokens give.
 pub struct PartRead {
@@ -40,14 +41,44 @@ fn part_of(start: usize, stop: usize, board: bool, head: Head) -> PartRead
     PartRead { section, head }
 }
 
-// The heading before the mn and pn tokens that were passed last, if there are any.
-fn before(any: bool, kept: Head, h: Head) -> Head
-    ensures { λ r. ⌜ r ≡ pick any kept h ⌝ }
+// Whether the next token but mn and pn is a qx.
+fn leads_to_qx(text: &[u8], cursor: Cursor) -> bool
+    ensures { λ r. ⌜ r ≡ leadsToQx (stream (now (text .entry)) (cursor .at)) ⌝ }
 {
-    if any {
-        return kept;
+    let mut c = cursor;
+    loop {
+        match next_command(text, c) {
+            Commanded::Token(k, _, next) => {
+                if k == QX {
+                    return true;
+                }
+                if (k != MN) & (k != PN) {
+                    return false;
+                }
+                c = next;
+            }
+            Commanded::Ended => {
+                return false;
+            }
+        }
     }
-    h
+}
+
+// Whether the part ends before a token, of the command k and with the cursor after it. `may` says that it can: no mn or pn stands right before it, and it
+// is not the part's first.
+fn ends_before(text: &[u8], may: bool, k: u8, next: Cursor) -> bool
+    ensures { λ r. ⌜ r ≡ (may && qxNext k (stream (now (text .entry)) (next .at))) ⌝ }
+{
+    if !may {
+        return false;
+    }
+    if k == QX {
+        return true;
+    }
+    if (k != MN) & (k != PN) {
+        return false;
+    }
+    leads_to_qx(text, next)
 }
 
 // The part that begins at a place, with every call and card stored.
@@ -56,7 +87,6 @@ pub fn read_part(text: &[u8], at: usize, rows: &mut [u32], cards: &mut [u8]) -> 
     ensures { λ r. ⌜ PartStored (now (text .entry)) at (now (rows .entry)) (now (cards .entry)) r (now (rows .exit)) (now (cards .exit)) ⌝ }
 {
     let mut h = fresh_head();
-    let mut kept = h;
     let mut board = false;
     let mut back = at;
     let mut c = at;
@@ -74,11 +104,10 @@ pub fn read_part(text: &[u8], at: usize, rows: &mut [u32], cards: &mut [u8]) -> 
             let Commanded::Token(k, value, next) = next_command(text, Cursor { at: c }) else {
                 return part_of(at, c, board, h);
             };
-            let v = span_of(value);
-            if (k == QX) & (at < back) {
-                return part_of(at, back, board, before(back < c, kept, h));
+            if ends_before(text, (at < back) & (back == c), k, next) {
+                return part_of(at, c, board, h);
             }
-            let led = back < c;
+            let v = span_of(value);
             c = next.at;
             back = moved_back(k, back, c);
             board = board | (k == MD);
@@ -88,9 +117,6 @@ pub fn read_part(text: &[u8], at: usize, rows: &mut [u32], cards: &mut [u8]) -> 
                 put_last(rows, h.calls, v);
             } else if k == PC {
                 h.cards = put_card(cards, h.cards, text, v);
-            } else if (k == MN) | (k == PN) {
-                kept = before(led, kept, h);
-                h = step(text, h, k, v);
             } else if k <= MC {
                 h = step(text, h, k, v);
             }

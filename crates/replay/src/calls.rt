@@ -22,6 +22,7 @@ use lin_host::lin_open_boards;
 use lin_host::lin_parse_heading;
 use lin_host::lin_parse_lin;
 use lin_host::lin_play_text;
+use lin_host::lin_read_board;
 use lin_host::lin_same_board;
 use lin_host::lin_trailing;
 use lin_host::lin_write_document;
@@ -119,6 +120,35 @@ fn file_board(m: &mut [u32; WORDS], text: &[u8]) {
     let h = lin_file_board(text, n, front_words(&mut rows, w), front(&mut cards, p));
     lay_heading(m, h, 0);
     lay_lent(m, &rows, &cards);
+}
+
+// The same of the section at a cursor.
+fn read_board(m: &mut [u32; WORDS], text: &[u8]) {
+    let mut rows = [WORD; CALLS];
+    let mut cards = [MARK; PLACES];
+    let w = place(m, LENT_WORDS);
+    let p = place(m, LENT_CARDS);
+    let n = long(m, NUMBER);
+    let second = long(m, SECOND);
+    let lines = get(m, LINES);
+    let rows_lent = front_words(&mut rows, w);
+    let cards_lent = front(&mut cards, p);
+    let r = lin_read_board(text, n, second, lines, rows_lent, cards_lent);
+    let heading = r.heading;
+    lay_heading(m, heading, 0);
+    lay_lent(m, &rows, &cards);
+}
+
+// The step that it was read by.
+fn read_step(m: &mut [u32; WORDS], text: &[u8]) {
+    let mut rows = [WORD; CALLS];
+    let mut cards = [MARK; PLACES];
+    let n = long(m, NUMBER);
+    let second = long(m, SECOND);
+    let lines = get(m, LINES);
+    let r = lin_read_board(text, n, second, lines, &mut rows, &mut cards);
+    let section = r.section;
+    lay_section(m, section);
 }
 
 fn document(m: &mut [u32; WORDS], text: &[u8], out: &mut [u8]) {
@@ -235,6 +265,8 @@ pub fn called(call: usize, m: &mut [u32; WORDS], bytes: &[u8; BYTES], out: &mut 
         8 => parse(m, text),
         9 => file_board(m, text),
         17 => same_board(m, text, cards, text2, cards2),
+        18 => read_board(m, text),
+        19 => read_step(m, text),
         _ => writing(call, m, text, cards, out),
     }
 }

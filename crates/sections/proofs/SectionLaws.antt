@@ -41,13 +41,13 @@ use Rattle.document.specs.Steps.{openedOf as openedAt}
 
 -- qx in the tokens from a place on
 module _ (s : List ℕ) (at k : ℕ) (v : Span) (n : ℕ) (t : TokenAt s at k v n) where
-  qx-is : isCommand (t .command) (ascii "qx") ≡ eqb k 5
+  pub qx-is : isCommand (t .command) (ascii "qx") ≡ eqb k 5
   qx-is = command-is s at k v n t 5 (omega arith)
 
   md-is : isCommand (t .command) (ascii "md") ≡ eqb k 3
   md-is = command-is s at k v n t 3 (omega arith)
 
-  leads-is : leads (t .command) ≡ (eqb k 6 || eqb k 4)
+  pub leads-is : leads (t .command) ≡ (eqb k 6 || eqb k 4)
   leads-is = simp (command-is s at k v n t 6 (omega arith), command-is s at k v n t 4 (omega arith))
 
   pub qx-here : k ≡ 5 → true ≡ holds (ascii "qx") (stream s at)
@@ -77,7 +77,7 @@ unfolding any
 walks-begin s begin = record { ends = refl; here = simp (none-yet s begin begin (omega arith)); ahead = λ e h. refl }
 
 -- its bounds, when it ends
-part-is : (s : List ℕ) (begin e : ℕ) (board : Bool) → e ≡ partEnd begin begin begin (stream s begin) → board ≡ mdUpTo s begin e
+pub part-is : (s : List ℕ) (begin e : ℕ) (board : Bool) → e ≡ partEnd begin begin begin (stream s begin) → board ≡ mdUpTo s begin e
     → section begin e board ≡ partAt s begin (partEnd begin begin begin (stream s begin))
 part-is s begin e board h b = rw (← h) (rw (b ∙ ap (holds (ascii "md")) (sym (stream-take s begin e))) refl)
 

@@ -6,8 +6,11 @@ use super::{
     same, Same,
 };
 use crate::{
-    files::{self, BoardCursor, Boards, LinBoards},
-    model, Refusal, LIMIT,
+    boards::{self, Board, Card, ROW},
+    files::{self, BoardCursor, Boards, LinBoards, LinSection},
+    model,
+    tokens::Part,
+    Refusal, LIMIT,
 };
 use oracle::lin::{parse_lin_file, LinData};
 
@@ -28,6 +31,7 @@ pub fn file(bytes: &[u8]) -> Same {
         missing(bytes, number, Refusal::NoBoard(count))?;
     }
     through_cursor(bytes, &want)?;
+    through_reader(bytes, &want)?;
     names(bytes, &want)
 }
 
@@ -67,6 +71,22 @@ fn through_cursor(bytes: &[u8], want: &[LinData]) -> Same {
     }
     same("a board after the last", boards.next(), None)?;
     same("a board after the end", boards.next(), None)
+}
+
+/// The boards read by the cursor's step, in the reader's rows and places.
+fn through_reader(bytes: &[u8], want: &[LinData]) -> Same {
+    let mut boards = files::read_boards(bytes).map_err(|r| format!("refused: {r:?}"))?;
+    for (number, want) in (0..).zip(want) {
+        let at = |d: String| format!("read by the cursor, board {number}: {d}");
+        let Some((next, got)) = boards.next() else {
+            return Err(at("none".to_string()));
+        };
+        same("number", next, number).map_err(at)?;
+        as_upstream(&got, want).map_err(at)?;
+    }
+    let number = |board: (u64, _)| board.0;
+    same("a board after the last", boards.next().map(number), None)?;
+    same("a board after the end", boards.next().map(number), None)
 }
 
 /// The finder for the first names of the file, for names beside them and for
@@ -124,13 +144,43 @@ pub fn name(bytes: &[u8], name: &[u8]) -> Same {
 pub fn visit(bytes: &[u8], at: u64, number: u64) -> Same {
     for lines in [0, 1, 2, u32::MAX] {
         let cursor = BoardCursor { at, number, lines };
-        same(
-            &format!("step of {cursor:?}"),
-            cursor.step(bytes),
-            model::visit(bytes, at, number, lines),
-        )?;
+        let want = model::visit(bytes, at, number, lines);
+        same(&format!("step of {cursor:?}"), cursor.step(bytes), want)?;
+        reads(bytes, cursor, want).map_err(|d| format!("read by {cursor:?}: {d}"))?;
     }
     Ok(())
+}
+
+/// The step that reads, with places for any board and with as many as the board
+/// needs and fewer: the same step, and the board that upstream reads of the
+/// section. A section that is no text has no such board, and only the step and
+/// what is lent are held to.
+fn reads(bytes: &[u8], cursor: BoardCursor, step: LinSection) -> Same {
+    let most = bytes.len() / 4;
+    let (mut rows, mut cards) = (vec![0; ROW * most], vec![0; most]);
+    let read = cursor.read(bytes, &mut rows, &mut cards);
+    same("its step", read.section, step)?;
+    let part = Part {
+        start: step.start,
+        len: step.stop - step.start,
+    };
+    let Ok(text) = std::str::from_utf8(part.of(bytes)) else {
+        return Ok(());
+    };
+    let heading = read
+        .heading
+        .read(bytes)
+        .map_err(|r| format!("refused: {r:?}"))?;
+    let calls = boards::calls(bytes, &rows[..ROW * heading.calls]);
+    let play = cards[..heading.cards].iter().map(|c| Card(*c)).collect();
+    let got = Board::new(heading, calls, play);
+    let Ok(want) = oracle::lin::parse_lin(text);
+    as_upstream(&got, &want)?;
+    lent(
+        bytes,
+        &|rows, cards| cursor.read(bytes, rows, cards).heading,
+        &got,
+    )
 }
 
 /// Steps from every place of these bytes, and from places beyond them.

@@ -14,6 +14,7 @@ const BEGINS: usize = OWN_NUMBER + 6;
 const WHOLE: usize = OWN_NUMBER + 7;
 const AGREED: usize = OWN_NUMBER + 9;
 const EXPECTED: usize = OWN_NUMBER + 10;
+const SECTION: usize = OWN_NUMBER + 11;
 
 /// Opens the cursor, steps it to the next board, and beyond the last.
 pub const OPENED: usize = OWN_BLOCK + 1;
@@ -51,6 +52,25 @@ fn seek(b: &mut Steps) {
     b.jump_if(SEEK, FOUND, 1);
 }
 
+/// The same part and its board by the step that reads, with places to spare and
+/// with exactly enough. The answer of the step before is there again.
+fn read(b: &mut Steps) {
+    b.copy(SECTION, ANSWER, 8, 1);
+    b.call(Call::ReadBoard);
+    b.go(HEADED);
+    b.go(ROWED);
+    b.copy(LENT_WORDS, WORDS_OF, 1, 1);
+    b.copy(LENT_CARDS, CARDS_OF, 1, 1);
+    b.call(Call::ReadBoard);
+    b.go(HEADED);
+    b.go(ROWED);
+    b.set(LENT_WORDS, &[3_077, 512]);
+    b.call(Call::ReadStep);
+    b.agree(ANSWER, SECTION, FOUR, 1, ZERO);
+    b.agree(ANSWER + 4, SECTION + 4, FOUR, 1, ZERO);
+    b.is(HIGH, &[0; 8]);
+}
+
 /// The board of the part, beside the same board by its number.
 fn step(b: &mut Steps) {
     b.set(LENT_WORDS, &[3_077, 512]);
@@ -59,6 +79,7 @@ fn step(b: &mut Steps) {
     b.copy(KEPT + 256, FILLED_ROWS, MOST_WORDS as usize, 1);
     b.go(SEEK);
     b.is(FOUND, &[2]);
+    read(b);
     b.copy(WHOLE, TEXT, 2, 1);
     b.copy(BEGINS, ANSWER + 2, 1, 1);
     b.copy(TEXT, ANSWER + 2, 2, 1);
