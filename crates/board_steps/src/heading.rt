@@ -1,4 +1,5 @@
 // The heading of a board from a run of tokens, in one pass that keeps spans and small numbers only. (01: Board, `from_tokens`)
+use cards::LETTERS;
 use commands::AH;
 use commands::Commanded;
 use commands::MB;
@@ -105,11 +106,12 @@ pub fn read_head(text: &[u8], at: usize) -> Head
     requires { ⌜ (at ≤ length (now text)) × (length (now text) < 2 ^ 32) ⌝ }
     ensures { λ r. ⌜ Leaves (now (text .entry)) (stream (now (text .entry)) at) r freshHead [] ⌝ }
 {
+    let letters = LETTERS;
     let mut h = fresh_head();
     let mut c = at;
     loop {
         let a = after_line(text, c);
-        if plain_card(text, a) < 52 {
+        if plain_card(&letters, text, a) < 52 {
             h.cards = on_count(true, h.cards);
             c = a + 6;
         } else if is_page(text, a) {

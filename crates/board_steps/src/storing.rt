@@ -4,6 +4,7 @@ use crate::heading::Head;
 use crate::heading::fresh_head;
 use crate::heading::step;
 use crate::play::card_at;
+use cards::LETTERS;
 use cards::MaybeCard;
 use commands::AN;
 use commands::Commanded;
@@ -92,11 +93,12 @@ pub fn read_into(text: &[u8], at: usize, rows: &mut [u32], cards: &mut [u8]) -> 
     requires { ⌜ Fits (now text) at (now rows) (now cards) ⌝ }
     ensures { λ r. ⌜ Stored (now (text .entry)) at (now (rows .entry)) (now (cards .entry)) r (now (rows .exit)) (now (cards .exit)) ⌝ }
 {
+    let letters = LETTERS;
     let mut h = fresh_head();
     let mut c = at;
     loop {
         let a = after_line(text, c);
-        let card = plain_card(text, a);
+        let card = plain_card(&letters, text, a);
         if card < 52 {
             h.cards = put_byte(cards, h.cards, card);
             c = a + 6;

@@ -8,43 +8,61 @@ use mathlib.Core.List.{List, [], _∷_}
 use mathlib.Core.Option.{Option, none, some}
 use lib.ListN.{length, getD}
 use lib.Dec.{eqb, leb, ltb}
-use borrow.Author.Tests.{leb-true}
-use Rattle.lin_spec.specs.Base.{ascii}
+use borrow.Author.Tests.{eqb-true, leb-true, lt-ltb, le-ltb}
+use Rattle.lin_spec.specs.Base.{pick}
 use Rattle.lin_spec.specs.White.{lower, trim}
 use Rattle.lin_spec.specs.Tokens.{pipe}
 use Rattle.lin_spec.specs.Cards.{indexOf, suitOf, rankOf, cardOf, readCard}
 use Rattle.lin_spec.proofs.Base.{and-left, and-right, allBelow, below}
 use Rattle.lin_spec.proofs.White.{Visible, trim-visible}
-use Rattle.cards.specs.Letters.{lookupOf, suitIn, rankIn, CardIs}
+use Rattle.cards.specs.Letters.{table, lookupOf, suitIn, rankIn, CardIs}
 use Rattle.cards.specs.declared.letters.Lookup.{Lookup}
 use Rattle.cards.specs.declared.letters.Lookup.the-variants.{Found, Nothing}
 
 -- The number of a letter
 
--- b is one of the bytes ks
-abbrev pub oneOf : (b : ℕ) → List ℕ → Bool
-oneOf b [] = false
-oneOf b (k ∷ ks) = eqb b k || oneOf b ks
+abbrev same : Option ℕ → Option ℕ → Bool
+same none none = true
+same none (some n) = false
+same (some m) none = false
+same (some m) (some n) = eqb m n
+
+same-is : (o p : Option ℕ) → same o p ≡ true → o ≡ p
+same-is none none h = refl
+same-is none (some n) h = absurd (false≢true h)
+same-is (some m) none h = absurd (false≢true h)
+same-is (some m) (some n) h = ap some (eqb-true m n h)
+
+-- a rule of numbers, by a test at each byte below n
+by-test : (number : ℕ → ℕ) (n : ℕ) → allBelow (λ (c : ℕ). same (suitOf c) (suitIn (number c)) && same (rankOf c) (rankIn (number c))) n ≡ true
+    → (b : ℕ) → b < n → (suitOf b ≡ suitIn (number b)) × (rankOf b ≡ rankIn (number b))
+by-test number n t b h =
+    let k = below (λ (c : ℕ). same (suitOf c) (suitIn (number c)) && same (rankOf c) (rankIn (number c))) n t b h in
+    (same-is _ _ (and-left (same (suitOf b) (suitIn (number b))) _ k), same-is _ _ (and-right (same (suitOf b) (suitIn (number b))) _ k))
+
+abbrev numberOf : ℕ → ℕ
+numberOf b = pick (ltb 0x7F b) 17 (getD table b 0 - 65)
+
+number-is : (b : ℕ) → b < 0x100 → (suitOf b ≡ suitIn (numberOf b)) × (rankOf b ≡ rankIn (numberOf b))
+unfolding allBelow suitOf rankOf indexOf lower table
+number-is b h = by-test numberOf 0x100 refl b h
+
+pub letter-far : (b : ℕ) → b < 0x100 → 0x7F < b → (suitOf b ≡ suitIn 17) × (rankOf b ≡ rankIn 17)
+letter-far b h l = let z = number-is b h in rw (lt-ltb 0x7F b l) at z
+
+-- by a copy of the table
+module _ (t : List ℕ) (e : t ≡ table) (b : ℕ) (l : b ≤ 0x7F) where
+  pub letter-in : (suitOf b ≡ suitIn (getD t b 0 - 65)) × (rankOf b ≡ rankIn (getD t b 0 - 65))
+  letter-in = let z = number-is b (omega arith) in rw e (rw (le-ltb 0x7F b l) at z)
+
+  -- none of its letters is below A
+  pub letter-least : 65 ≤ getD t b 0
+  unfolding allBelow table
+  letter-least = rw e (leb-true _ _ (below (λ (c : ℕ). leb 65 (getD table c 0)) 0x80 refl b (omega arith)))
 
 abbrev isNone : Option ℕ → Bool
 isNone none = true
 isNone (some n) = false
-
-none-is : (o : Option ℕ) → isNone o ≡ true → o ≡ none
-none-is none h = refl
-none-is (some n) h = absurd (false≢true h)
-
--- what is none of the letters has neither suit nor rank
-pub letter-none : (b : ℕ) → b < 0x100 → oneOf b (ascii "ShHdDcCs23456789TtJjQqKkAa") ≡ false → (suitOf b ≡ none) × (rankOf b ≡ none)
-unfolding allBelow suitOf rankOf indexOf lower
-letter-none b h e = go (oneOf b (ascii "ShHdDcCs23456789TtJjQqKkAa")) e (isNone (suitOf b)) refl (isNone (rankOf b)) refl
-    (below (λ (c : ℕ). oneOf c (ascii "ShHdDcCs23456789TtJjQqKkAa") || (isNone (suitOf c) && isNone (rankOf c))) 0x100 refl b h)
-  where
-    go : (t : Bool) → t ≡ false → (u : Bool) → isNone (suitOf b) ≡ u → (r : Bool) → isNone (rankOf b) ≡ r → (t || (u && r)) ≡ true → (suitOf b ≡ none) × (rankOf b ≡ none)
-    go true e u f r g k = absurd (false≢true (sym e))
-    go false e true f true g k = (none-is (suitOf b) f, none-is (rankOf b) g)
-    go false e true f false g k = absurd (false≢true k)
-    go false e false f r g k = absurd (false≢true k)
 
 -- What a lookup's answer says
 

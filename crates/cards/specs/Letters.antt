@@ -2,10 +2,10 @@
 use Prim.Native.Nat.{ℕ, _-_}
 use mathlib.Core.Bool.{_&&_}
 use mathlib.Core.Path.{_≡_}
-use mathlib.Core.List.{[], _∷_}
+use mathlib.Core.List.{List, [], _∷_}
 use mathlib.Core.Option.{Option, none, some}
 use lib.Dec.{leb, ltb}
-use Rattle.lin_spec.specs.Base.{pick}
+use Rattle.lin_spec.specs.Base.{pick, ascii}
 use Rattle.lin_spec.specs.White.{trim}
 use Rattle.lin_spec.specs.Tokens.{pipe}
 use Rattle.lin_spec.specs.Cards.{readCard}
@@ -13,6 +13,10 @@ use Rattle.cards.specs.declared.letters.Lookup.{Lookup}
 use Rattle.cards.specs.declared.letters.Lookup.the-variants.{Found, Nothing}
 use Rattle.cards.specs.declared.letters.MaybeCard.{MaybeCard}
 use Rattle.cards.specs.declared.letters.MaybeCard.the-variants.{Card, Nothing as NoCard}
+
+-- the table of letters: for each byte below 128 a letter, A for 0, up to R for 17, which is that of no suit and no rank
+unfoldable pub table : List ℕ
+table = ascii "RRRRRRRRRRRRRRRRRRRRRRRRRRRRRRRRRRRRRRRRRRRRRRRRRREFGHIJKLRRRRRRRQRDCRRRBRNPRRRRRORAMRRRRRRRRRRRRQRDCRRRBRNPRRRRRORAMRRRRRRRRRRR"
 
 -- the number found
 abbrev pub lookupOf : Lookup → Option ℕ

@@ -2,6 +2,7 @@
 use crate::hands::count_field;
 use crate::hands::count_rest;
 use crate::hands::seat_sum;
+use crate::letters::LETTERS;
 use lin_spec::Deal;
 use lin_spec::Seat;
 use text::find_byte;
@@ -12,6 +13,7 @@ ghost use Prim.Native.Nat.{_≤_, _<_, _^_};
 ghost use lib.ListN.{length};
 ghost use Rattle.lin_spec.specs.Tokens.{cut};
 ghost use Rattle.lin_spec.specs.Cards.{noCards, thirteens, eastOf, dealOf};
+ghost use Rattle.cards.specs.Letters.{table};
 ghost use Rattle.cards.specs.Deals.{fieldAt, placed, handOf};
 
 // The field that begins at a place: the text up to the next comma.
@@ -31,8 +33,8 @@ fn all_thirteen(counts: &[u32; 208]) -> bool
 }
 
 // Counts East's hand, by its field, which begins at a place, and the hands of the other seats.
-fn count_east(counts: &mut [u32; 208], s: &[u8], at: usize)
-    requires { ⌜ (handOf (now counts) 3 ≡ noCards) × (at ≤ length (now s)) × (length (now s) < 2 ^ 32) ⌝ }
+fn count_east(counts: &mut [u32; 208], letters: &[u8; 128], s: &[u8], at: usize)
+    requires { ⌜ (now letters ≡ table) × (handOf (now counts) 3 ≡ noCards) × (at ≤ length (now s)) × (length (now s) < 2 ^ 32) ⌝ }
     ensures { λ r. ⌜ now (counts .exit) ≡ placed (now (counts .entry)) 3 (eastOf (fieldAt (now (s .entry)) at) (handOf (now (counts .entry)) 0) (handOf (now (counts .entry)) 1) (handOf (now (counts .entry)) 2)) ⌝ }
 {
     let east = field_at(s, at);
@@ -40,7 +42,7 @@ fn count_east(counts: &mut [u32; 208], s: &[u8], at: usize)
         count_rest(counts);
         return;
     }
-    count_field(counts, 3, s, at);
+    count_field(counts, letters, 3, s, at);
 }
 
 // The deal of an md value, from what follows its dealer.
@@ -49,9 +51,10 @@ pub fn deal_of(s: &[u8]) -> Deal
     ensures { λ r. ⌜ r ≡ record { counts = dealOf (cut 0x2C (now (s .entry))) } ⌝ }
 {
     let mut counts = [0u32; 208];
-    let west = count_field(&mut counts, 0, s, 0);
-    let north = count_field(&mut counts, 1, s, west);
-    let east = count_field(&mut counts, 2, s, north);
-    count_east(&mut counts, s, east);
+    let letters = LETTERS;
+    let west = count_field(&mut counts, &letters, 0, s, 0);
+    let north = count_field(&mut counts, &letters, 1, s, west);
+    let east = count_field(&mut counts, &letters, 2, s, north);
+    count_east(&mut counts, &letters, s, east);
     Deal { counts }
 }

@@ -11,19 +11,26 @@ ghost use Rattle.lin_spec.specs.Base.{pick};
 ghost use Rattle.lin_spec.specs.Records.{part};
 ghost use Rattle.lin_spec.specs.Cards.{noCards, sum, remainder};
 ghost use Rattle.lin_spec.specs.Letters.{handLength};
+ghost use Rattle.cards.specs.Letters.{table};
 ghost use Rattle.cards.specs.Deals.{placed, handOf, Counted};
 
 // Counts the cards of a field, up to its comma or the end, at a seat's place in a deal, where none is counted yet, and gives the place of the next field.
 // The suit is that of the last suit letter, 4 before the first.
-pub(crate) fn count_field(counts: &mut [u32; 208], seat: usize, s: &[u8], at: usize) -> usize
-    requires { ⌜ (seat < 4) × (part (now counts) (seat * 52) 52 ≡ noCards) × (at ≤ length (now s)) × (length (now s) < 2 ^ 32) ⌝ }
+pub(crate) fn count_field(
+    counts: &mut [u32; 208],
+    letters: &[u8; 128],
+    seat: usize,
+    s: &[u8],
+    at: usize,
+) -> usize
+    requires { ⌜ (now letters ≡ table) × (seat < 4) × (part (now counts) (seat * 52) 52 ≡ noCards) × (at ≤ length (now s)) × (length (now s) < 2 ^ 32) ⌝ }
     ensures { λ r. ⌜ Counted (now (s .entry)) at (now (counts .entry)) seat (now (counts .exit)) r ⌝ }
 {
     let first = seat * Deal::CARDS;
     let mut suit: u8 = 4;
     let mut i = at;
     while i < s.len() {
-        let n = letter(s[i]);
+        let n = letter(letters, s[i]);
         if n < 4 {
             suit = n;
             i += 1;

@@ -2,7 +2,7 @@
 ghost use mathlib.Core.Path.{_≡_};
 ghost use Prim.Native.Nat.{_<_};
 ghost use Rattle.lin_spec.specs.Cards.{suitOf, rankOf, readCard};
-ghost use Rattle.cards.specs.Letters.{lookupOf, maybeOf, suitIn, rankIn, CardIs};
+ghost use Rattle.cards.specs.Letters.{table, lookupOf, maybeOf, suitIn, rankIn, CardIs};
 
 // The number of the suit or rank that a letter stands for, if it stands for one.
 pub enum Lookup {
@@ -10,39 +10,27 @@ pub enum Lookup {
     Nothing,
 }
 
-// The number of a letter, in either case: 0 to 3 for the suits S, H, D, C, 4 to 16 for the ranks 2 to 9, T, J, Q, K, A, and from 17 on for none. The
-// compiler makes one table of it, since the letters lie dense enough; B is there for that alone.
-pub(crate) fn letter(c: u8) -> u8
+// The numbers of the bytes below 128, one after the other: A for 0, up to R for 17. Whoever reads many letters copies it once and lends the copy.
+pub const LETTERS: [u8; 128] =
+    *b"RRRRRRRRRRRRRRRRRRRRRRRRRRRRRRRRRRRRRRRRRRRRRRRRRREFGHIJKLRRRRRRRQRDCRRRBRNPRRRRRORAMRRRRRRRRRRRRQRDCRRRBRNPRRRRRORAMRRRRRRRRRRR";
+
+// The number of a letter, in either case, by the table: 0 to 3 for the suits S, H, D, C, 4 to 16 for the ranks 2 to 9, T, J, Q, K, A, and 17 for none.
+pub(crate) fn letter(letters: &[u8; 128], c: u8) -> u8
+    requires { ⌜ now letters ≡ table ⌝ }
     ensures { λ r. ⌜ (suitOf c ≡ suitIn r) × (rankOf c ≡ rankIn r) ⌝ }
 {
-    match c {
-        b's' | b'S' => 0,
-        b'h' | b'H' => 1,
-        b'd' | b'D' => 2,
-        b'c' | b'C' => 3,
-        b'2' => 4,
-        b'3' => 5,
-        b'4' => 6,
-        b'5' => 7,
-        b'6' => 8,
-        b'7' => 9,
-        b'8' => 10,
-        b'9' => 11,
-        b't' | b'T' => 12,
-        b'j' | b'J' => 13,
-        b'q' | b'Q' => 14,
-        b'k' | b'K' => 15,
-        b'a' | b'A' => 16,
-        b'b' | b'B' => 18,
-        _ => 17,
+    if 0x7F < c {
+        return 17;
     }
+    letters[c as usize] - b'A'
 }
 
 // The suit that a letter stands for: S, H, D, C are 0 to 3.
 pub fn suit_of(c: u8) -> Lookup
     ensures { λ r. ⌜ lookupOf r ≡ suitOf c ⌝ }
 {
-    let n = letter(c);
+    let letters = LETTERS;
+    let n = letter(&letters, c);
     if n < 4 {
         return Lookup::Found(n);
     }
@@ -53,7 +41,8 @@ pub fn suit_of(c: u8) -> Lookup
 pub fn rank_of(c: u8) -> Lookup
     ensures { λ r. ⌜ lookupOf r ≡ rankOf c ⌝ }
 {
-    let n = letter(c);
+    let letters = LETTERS;
+    let n = letter(&letters, c);
     if n < 4 {
         return Lookup::Nothing;
     }
@@ -85,12 +74,13 @@ pub fn read_card(s: &[u8]) -> MaybeCard
     MaybeCard::Card(u * 13 + r)
 }
 
-// The card of two bytes, a suit and a rank; 52 where they are none. Promised is what its caller needs: an answer below 52 is their card.
-pub fn card_number(a: u8, b: u8) -> u8
+// The card of two bytes by the table of letters, a suit and a rank; 52 where they are none. Promised is what its caller needs: an answer below 52 is their card.
+pub fn card_number(letters: &[u8; 128], a: u8, b: u8) -> u8
+    requires { ⌜ now letters ≡ table ⌝ }
     ensures { λ r. ⌜ (r < 52 → CardIs a b r) ⌝ }
 {
-    let u = letter(a);
-    let r = letter(b);
+    let u = letter(letters, a);
+    let r = letter(letters, b);
     if (u < 4) & ((4 <= r) & (r < 17)) {
         return u * 13 + (r - 4);
     }

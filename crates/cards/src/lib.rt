@@ -6,6 +6,7 @@ mod letters;
 pub use deals::deal_of;
 pub use hands::seat_len;
 pub use hands::seat_sum;
+pub use letters::LETTERS;
 pub use letters::Lookup;
 pub use letters::MaybeCard;
 pub use letters::card_number;

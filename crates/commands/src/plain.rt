@@ -6,6 +6,7 @@ ghost use mathlib.Core.Bool.{true};
 ghost use Prim.Native.Nat.{_<_};
 ghost use Rattle.lin_spec.specs.Tokens.{pipe};
 ghost use Rattle.lin_spec.specs.Cursor.{findFrom};
+ghost use Rattle.cards.specs.Letters.{table};
 ghost use Rattle.commands.specs.Plain.{Skips, PairAt, CardAt, PageAt, OtherLetter, UnmarkedAt, PassedAt};
 
 // The place after an LF, if one is there. Promised is what its callers need: the same token stands from it on.
@@ -45,9 +46,10 @@ pub fn command_end(text: &[u8], at: usize) -> usize
     next_pipe(text, at)
 }
 
-// The card of a pc that is six bytes: the command, a suit, a rank and the pipes; 52 for any other token. Promised is what its callers need: an answer
+// The card, by the table of letters, of a pc that is six bytes: the command, a suit, a rank and the pipes; 52 for any other token. Promised is what its callers need: an answer
 // below 52 is the card of such a token.
-pub fn plain_card(text: &[u8], at: usize) -> u8
+pub fn plain_card(letters: &[u8; 128], text: &[u8], at: usize) -> u8
+    requires { ⌜ now letters ≡ table ⌝ }
     ensures { λ r. ⌜ (r < 52 → CardAt (now (text .entry)) at r) ⌝ }
 {
     if text.len() < 6 {
@@ -59,7 +61,7 @@ pub fn plain_card(text: &[u8], at: usize) -> u8
     if (text[at] == b'p')
         & ((text[at + 1] == b'c') & ((text[at + 2] == b'|') & (text[at + 5] == b'|')))
     {
-        return card_number(text[at + 3], text[at + 4]);
+        return card_number(letters, text[at + 3], text[at + 4]);
     }
     52
 }

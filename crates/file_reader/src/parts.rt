@@ -5,6 +5,7 @@ use board_steps::put_bid;
 use board_steps::put_card;
 use board_steps::put_last;
 use board_steps::step;
+use cards::LETTERS;
 use commands::AN;
 use commands::Commanded;
 use commands::MB;
@@ -86,13 +87,14 @@ pub fn read_part(text: &[u8], at: usize, rows: &mut [u32], cards: &mut [u8]) -> 
     requires { ⌜ PartFits (now text) at (now rows) (now cards) ⌝ }
     ensures { λ r. ⌜ PartStored (now (text .entry)) at (now (rows .entry)) (now (cards .entry)) r (now (rows .exit)) (now (cards .exit)) ⌝ }
 {
+    let letters = LETTERS;
     let mut h = fresh_head();
     let mut board = false;
     let mut back = at;
     let mut c = at;
     loop {
         let a = after_line(text, c);
-        let card = plain_card(text, a);
+        let card = plain_card(&letters, text, a);
         if card < 52 {
             h.cards = put_byte(cards, h.cards, card);
             c = a + 6;

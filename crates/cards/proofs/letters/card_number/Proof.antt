@@ -19,10 +19,10 @@ small d =
     (ltb-true u 4 (and-left (ltb u 4) (leb 4 r && ltb r 17) (d .if1 .taken)), leb-true 4 r (and-left (leb 4 r) (ltb r 17) b), ltb-true r 17 (and-right (leb 4 r) (ltb r 17) b))
 
 letter-requires : tie.Need-letter-requires
-letter-requires c κs = tt
+letter-requires c κs = c .pre
 
 letter-requires-2 : tie.Need-letter-requires-2
-letter-requires-2 c κs = tt
+letter-requires-2 c κs = c .before .pre
 
 mul-result : tie.Need-mul-result
 mul-result c = omega (arith, small c .0)

@@ -1,14 +1,16 @@
 -- `cards::letters::rank_of` meets its contract: by the number, which says whether it stands for one. (01: Records)
 -- Assumes nothing.
-use mathlib.Core.Path.{sym, _∙_}
+use mathlib.Core.Path.{refl, sym, _∙_}
 use mathlib.Core.Bool.{and-false}
 use native.Mathlib.Omega.{arith}
 use borrow.Author.Tests.{lt-ltb, le-ltb, le-leb, lt-leb}
+use Rattle.cards.specs.Letters.{table}
 use Rattle.cards.proofs.letters.rank_of.Statement.{statement}
 use Rattle.cards.proofs.letters.rank_of.Tie as tie
 
 letter-requires : tie.Need-letter-requires
-letter-requires c κs = tt
+unfolding table
+letter-requires c κs = refl
 
 returns : tie.Need-returns
 returns c = sym (c .before .letter .ensures .1 ∙ simp (lt-leb _ _ (c .if1 .taken)))

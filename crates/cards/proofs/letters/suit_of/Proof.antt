@@ -1,12 +1,14 @@
 -- `cards::letters::suit_of` meets its contract: by the number, which says whether it stands for one. (01: Records)
 -- Assumes nothing.
-use mathlib.Core.Path.{sym, _∙_}
+use mathlib.Core.Path.{refl, sym, _∙_}
 use borrow.Author.Tests.{lt-ltb, le-ltb}
+use Rattle.cards.specs.Letters.{table}
 use Rattle.cards.proofs.letters.suit_of.Statement.{statement}
 use Rattle.cards.proofs.letters.suit_of.Tie as tie
 
 letter-requires : tie.Need-letter-requires
-letter-requires c κs = tt
+unfolding table
+letter-requires c κs = refl
 
 returns : tie.Need-returns
 returns c = sym (c .before .letter .ensures .0 ∙ simp (lt-ltb _ _ (c .if1 .taken)))

@@ -49,10 +49,10 @@ shared-slice-read-card-number-2 : tie.Need-shared-slice-read-card-number-2
 shared-slice-read-card-number-2 c = search needs
 
 card-number-requires : tie.Need-card-number-requires
-card-number-requires c κs = search needs
+card-number-requires c κs = (c .before .before .before .before .before .before .before .before .before .before .pre)
 
 returns-3 : tie.Need-returns-3
-returns-3 c = card-at _ _ (omega (arith, c .before .before .before .before .before .before .before .before .if2 .left, c .before .before .before .before .before .before .before .before .before .if1 .left)) (c .before .before .before .if3 .taken) _ (c .card-number .ensures)
+returns-3 c = card-at _ _ (omega (arith, (c .before .before .before .before .before .before .before .before .if2) .left, (c .before .before .before .before .before .before .before .before .before .if1) .left)) ((c .before .before .before .if3) .taken) _ ((c .card-number) .ensures)
 
 returns-4 : tie.Need-returns-4
 returns-4 c = λ h. absurd (omega (arith, h))
