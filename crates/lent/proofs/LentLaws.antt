@@ -30,11 +30,11 @@ use Rattle.lin_spec.proofs.Checks.{unmet, unless-refused, unless-passed}
 use Rattle.text.proofs.ListLaws.{next-word}
 use Rattle.lent.specs.Calls.{rowAt, callAt, spansOf}
 use Rattle.lent.specs.declared.heads.Head.{Head}
-use Rattle.lent.specs.declared.checks.Faults.{Faults}
+use Rattle.lent.specs.declared.checks.Bounds.{Bounds}
 use Rattle.lent.specs.declared.checks.Look.{Look}
 use Rattle.lent.specs.declared.checks.Look.the-variants.{Past, Ill, Torn}
 use Rattle.lent.specs.Heads.{boardOf, headSpans}
-use Rattle.lent.specs.Checks.{verdictOf, checked, amiss, lookOf, WholeIfTorn, NotPast, RowsFound, Found}
+use Rattle.lent.specs.Checks.{verdictOf, checked, amiss, lookOf, WholeIfTorn, NotPast, RowsBounded, Bounded}
 
 pub no-rows : {A : Type 0} (cs : List A) → length cs ≡ 0 → cs ≡ []
 no-rows [] h = refl
@@ -203,33 +203,27 @@ pub number-is : (s : List ℕ) (b : Board) (ws cs : List ℕ) → badNumber (len
 unfolding badNumber
 number-is s b ws cs = refl
 
--- what is wrong with the rows, the cards and the heading, taken together, by either look for 6
-pub found-all : (l : Look) → NotPast l → (s : List ℕ) (h : Head) (ds ws cs : List ℕ) (r : Faults) → RowsFound l s ws r
-    → (t : Bool) → t ≡ badCards cs → (u : Bool) → u ≡ any (passesEnd s) (headSpans h) → (w : Bool) → w ≡ any (lookOf l s) (headSpans h)
-    → Found (lent s (boardOf h ds) ws cs) (record { number = t || r .number; past = u || r .past; ill = w || r .ill })
-unfolding badNumber
-found-all Past n s h ds ws cs r f t et u eu w ew = absurd n
-found-all Ill n s h ds ws cs r f t et u eu w ew =
-    record {
-      numbers = rw (et, f .flags) refl;
-      ends = rw (eu, f .ends) (sym (spans-any (passesEnd s) s h ds ws cs));
-      texts = rw (ew, f .texts) (sym (spans-any (amiss s) s h ds ws cs));
-    }
-found-all Torn n s h ds ws cs r f t et u eu w ew =
-    record {
-      numbers = rw (et, f .flags) refl;
-      ends = rw (eu, f .ends) (sym (spans-any (passesEnd s) s h ds ws cs));
-      texts = rw (ew, f .texts) (sym (spans-any (amiss s) s h ds ws cs));
-    }
+-- what is wrong with the rows, the cards and the heading, taken together: their numbers, and their texts by either look for 6
+module _ (s : List ℕ) (h : Head) (ds ws cs : List ℕ) where
+  pub bounds-all : (r : Bounds) → RowsBounded s ws r → (t : Bool) → t ≡ badCards cs → (u : Bool) → u ≡ any (passesEnd s) (headSpans h)
+      → Bounded (lent s (boardOf h ds) ws cs) (record { number = t || r .number; past = u || r .past })
+  unfolding badNumber
+  bounds-all r f t et u eu = record { numbers = rw (et, f .flags) refl; ends = rw (eu, f .ends) (sym (spans-any (passesEnd s) s h ds ws cs)) }
+
+  pub texts-all : (l : Look) → NotPast l → (t u : Bool) → t ≡ any (lookOf l s) (headSpans h) → u ≡ any (λ c. any (lookOf l s) (spansOf c)) (callRows ws)
+      → (t || u) ≡ any (amiss s) (lentSpans (lent s (boardOf h ds) ws cs))
+  texts-all Past n t u et eu = absurd n
+  texts-all Ill n t u et eu = rw (et, eu) (sym (spans-any (amiss s) s h ds ws cs))
+  texts-all Torn n t u et eu = rw (et, eu) (sym (spans-any (amiss s) s h ds ws cs))
 
 -- where nothing passes the end, what is amiss is not UTF-8
-amiss-ill : (s : List ℕ) (xs : List Span) → any (passesEnd s) xs ≡ false → any (amiss s) xs ≡ any (illSpan s) xs
+pub amiss-ill : (s : List ℕ) (xs : List Span) → any (passesEnd s) xs ≡ false → any (amiss s) xs ≡ any (illSpan s) xs
 unfolding any
 amiss-ill s [] h = refl
 amiss-ill s (x ∷ xs) h = let n = or-none (passesEnd s x) (any (passesEnd s) xs) h in rw (n .0) (ap (λ (t : Bool). illSpan s x || t) (amiss-ill s xs (n .1)))
 
-pub found-ill : (x : Lent) (r : Faults) → Found x r → r .past ≡ false → any (illSpan (x .text)) (lentSpans x) ≡ r .ill
-found-ill x r f h = sym (f .texts ∙ amiss-ill (x .text) (lentSpans x) (sym (f .ends) ∙ h))
+pub texts-ill : (x : Lent) (r : Bounds) → Bounded x r → r .past ≡ false → (t : Bool) → t ≡ any (amiss (x .text)) (lentSpans x) → any (illSpan (x .text)) (lentSpans x) ≡ t
+texts-ill x r f h t e = sym (e ∙ amiss-ill (x .text) (lentSpans x) (sym (f .ends) ∙ h))
 
 -- The verdict, by the tests that led there
 
@@ -243,7 +237,7 @@ module _ (other : Bool) (x : Lent) where
     unfolding unless lentChecks
     check-other o = simp (le-ltb limit (length (x .text)) h, o)
 
-    module _ (o : other ≡ false) (r : Faults) (f : Found x r) where
+    module _ (o : other ≡ false) (r : Bounds) (f : Bounded x r) where
       pub check-number : r .number ≡ true → refused OutOfRange ≡ checked other x
       unfolding unless lentChecks
       check-number k = simp (le-ltb limit (length (x .text)) h, o, ← f .numbers, k)
@@ -253,14 +247,14 @@ module _ (other : Bool) (x : Lent) where
         unfolding unless lentChecks
         check-past l = simp (le-ltb limit (length (x .text)) h, o, ← f .numbers, k, ← f .ends, l)
 
-        module _ (l : r .past ≡ false) where
-          pub check-ill : r .ill ≡ true → refused SpanNotUtf8 ≡ checked other x
+        module _ (l : r .past ≡ false) (t : Bool) (e : t ≡ any (amiss (x .text)) (lentSpans x)) where
+          pub check-ill : t ≡ true → refused SpanNotUtf8 ≡ checked other x
           unfolding unless lentChecks
-          check-ill m = simp (le-ltb limit (length (x .text)) h, o, ← f .numbers, k, ← f .ends, l, found-ill x r f l, m)
+          check-ill m = simp (le-ltb limit (length (x .text)) h, o, ← f .numbers, k, ← f .ends, l, texts-ill x r f l t e, m)
 
-          pub check-good : r .ill ≡ false → accepted tt ≡ checked other x
+          pub check-good : t ≡ false → accepted tt ≡ checked other x
           unfolding unless lentChecks
-          check-good m = simp (le-ltb limit (length (x .text)) h, o, ← f .numbers, k, ← f .ends, l, found-ill x r f l, m)
+          check-good m = simp (le-ltb limit (length (x .text)) h, o, ← f .numbers, k, ← f .ends, l, texts-ill x r f l t e, m)
 
 -- What a caller has of it
 

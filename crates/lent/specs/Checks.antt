@@ -11,7 +11,7 @@ use Rattle.lin_spec.specs.declared.Span.{Span}
 use Rattle.lin_spec.specs.Lent.{callRows, Lent, lentSpans, badFlag, badNumber, lentChecks}
 use Rattle.lin_spec.specs.declared.Verdict.{Verdict}
 use Rattle.lin_spec.specs.declared.Verdict.the-variants.{Accepted, Refused}
-use Rattle.lent.specs.declared.checks.Faults.{Faults}
+use Rattle.lent.specs.declared.checks.Bounds.{Bounds}
 use Rattle.lent.specs.declared.checks.Look.{Look}
 use Rattle.lent.specs.declared.checks.Look.the-variants.{Past, Ill, Torn}
 use Rattle.lent.specs.Calls.{spansOf}
@@ -47,14 +47,12 @@ NotPast Past = ⊥
 NotPast Ill = Unit
 NotPast Torn = Unit
 
--- what is wrong with the rows ws over the text s
-pub record RowsFound (l : Look) (s ws : List ℕ) (r : Faults) : Type 0 where
+-- what is wrong with the numbers of the rows ws over the text s
+pub record RowsBounded (s ws : List ℕ) (r : Bounds) : Type 0 where
   pub flags : r .number ≡ any badFlag (callRows ws)
   pub ends : r .past ≡ any (λ c. any (passesEnd s) (spansOf c)) (callRows ws)
-  pub texts : r .ill ≡ any (λ c. any (lookOf l s) (spansOf c)) (callRows ws)
 
--- and with all that is lent
-pub record Found (x : Lent) (r : Faults) : Type 0 where
+-- and of all that is lent
+pub record Bounded (x : Lent) (r : Bounds) : Type 0 where
   pub numbers : r .number ≡ badNumber x
   pub ends : r .past ≡ any (passesEnd (x .text)) (lentSpans x)
-  pub texts : r .ill ≡ any (amiss (x .text)) (lentSpans x)

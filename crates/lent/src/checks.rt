@@ -16,11 +16,11 @@ ghost use mathlib.Core.List.{List};
 ghost use Prim.Native.Nat.{ℕ};
 ghost use Rattle.lin_spec.specs.Base.{any};
 ghost use Rattle.lin_spec.specs.Records.{optionOf};
-ghost use Rattle.lin_spec.specs.Lent.{lent, spanIn, badFlag, badCards};
+ghost use Rattle.lin_spec.specs.Lent.{callRows, lent, lentSpans, spanIn, badFlag, badCards};
 ghost use Rattle.text.specs.Fault.{faultOf};
 ghost use Rattle.lent.specs.Calls.{spansOf};
 ghost use Rattle.lent.specs.Heads.{boardOf, headSpans};
-ghost use Rattle.lent.specs.Checks.{verdictOf, checked, lookOf, WholeIfTorn, NotPast, RowsFound, Found};
+ghost use Rattle.lent.specs.Checks.{verdictOf, checked, amiss, lookOf, WholeIfTorn, NotPast, RowsBounded, Bounded};
 
 // Whether a card is none of the 52.
 pub fn bad_cards(cards: &[u8]) -> bool
@@ -144,42 +144,59 @@ fn head_meets(text: &[u8], head: Head, look: Look) -> bool
     a | (b | (c | d))
 }
 
-// What is wrong with what is lent: whether 8 meets a card or a flag, 5 a span, and 5 or 6 a span.
-pub struct Faults {
+// What is wrong with the numbers of what is lent: whether 8 meets a card or a flag, and 5 a span.
+pub struct Bounds {
     pub number: bool,
     pub past: bool,
-    pub ill: bool,
 }
 
-// What is wrong with the rows. Each is looked at once.
-fn row_faults(text: &[u8], rows: &[u32], look: Look) -> Faults
-    requires { ⌜ WholeIfTorn look (now text) ⌝ }
-    ensures { λ r. ⌜ RowsFound look (now (text .entry)) (now (rows .entry)) r ⌝ }
+// What is wrong with the numbers of the rows. Each is looked at once.
+fn row_bounds(text: &[u8], rows: &[u32]) -> Bounds
+    ensures { λ r. ⌜ RowsBounded (now (text .entry)) (now (rows .entry)) r ⌝ }
 {
     let mut number = false;
     let mut past = false;
-    let mut ill = false;
     let mut i = 0;
     while 6 <= rows.len() - i {
         let c = call_at(rows, i);
         number = number | bad_flag(c);
         past = past | call_meets(text, c, Look::Past);
-        ill = ill | call_meets(text, c, look);
         i += 6;
     }
-    Faults { number, past, ill }
+    Bounds { number, past }
 }
 
-// What is wrong with a lent board, whatever its deal.
-pub fn faults_of(text: &[u8], head: Head, rows: &[u32], cards: &[u8]) -> Faults
-    ensures { λ r. ⌜ ((counts : List ℕ) → Found (lent (now (text .entry)) (boardOf head counts) (now (rows .entry)) (now (cards .entry))) r) ⌝ }
+// What is wrong with the numbers of a lent board, whatever its deal.
+pub fn bounds_of(text: &[u8], head: Head, rows: &[u32], cards: &[u8]) -> Bounds
+    ensures { λ r. ⌜ ((counts : List ℕ) → Bounded (lent (now (text .entry)) (boardOf head counts) (now (rows .entry)) (now (cards .entry))) r) ⌝ }
 {
-    let look = look_for(text, rows);
-    let row = row_faults(text, rows, look);
+    let row = row_bounds(text, rows);
     let number = bad_cards(cards) | row.number;
     let past = head_meets(text, head, Look::Past) | row.past;
-    let ill = head_meets(text, head, look) | row.ill;
-    Faults { number, past, ill }
+    Bounds { number, past }
+}
+
+// Whether a text of a row meets it.
+fn rows_meet(text: &[u8], rows: &[u32], look: Look) -> bool
+    requires { ⌜ WholeIfTorn look (now text) ⌝ }
+    ensures { λ r. ⌜ r ≡ any (λ c. any (lookOf look (now (text .entry))) (spansOf c)) (callRows (now (rows .entry))) ⌝ }
+{
+    let mut found = false;
+    let mut i = 0;
+    while 6 <= rows.len() - i {
+        found = found | call_meets(text, call_at(rows, i), look);
+        i += 6;
+    }
+    found
+}
+
+// Whether 5 or 6 meets a text of a lent board, whatever its deal and its cards.
+pub fn ill_texts(text: &[u8], head: Head, rows: &[u32]) -> bool
+    ensures { λ r. ⌜ ((counts cards : List ℕ) → r ≡ any (amiss (now (text .entry))) (lentSpans (lent (now (text .entry)) (boardOf head counts) (now (rows .entry)) cards))) ⌝ }
+{
+    let look = look_for(text, rows);
+    let row = rows_meet(text, rows, look);
+    head_meets(text, head, look) | row
 }
 
 // The first of the checks that meets the call, whatever the deal. `other` says whether another number of the call is outside its range.
@@ -192,14 +209,14 @@ pub fn check(other: bool, text: &[u8], head: Head, rows: &[u32], cards: &[u8]) -
     if other {
         return Verdict::Refused(Refusal::OutOfRange);
     }
-    let found = faults_of(text, head, rows, cards);
+    let found = bounds_of(text, head, rows, cards);
     if found.number {
         return Verdict::Refused(Refusal::OutOfRange);
     }
     if found.past {
         return Verdict::Refused(Refusal::SpanPastEnd);
     }
-    if found.ill {
+    if ill_texts(text, head, rows) {
         return Verdict::Refused(Refusal::SpanNotUtf8);
     }
     Verdict::Accepted
