@@ -35,7 +35,7 @@ use Rattle.lent.specs.declared.checks.Bounds.{Bounds}
 use Rattle.lent.specs.Heads.{boardOf}
 use Rattle.lent.specs.Checks.{verdictOf, amiss, Bounded}
 use Rattle.lent.proofs.LentLaws.{rows-cons, rows-count, no-rows, rows-end, spans-any, head-any, amiss-ill, texts-ill}
-use Rattle.equality.proofs.EqualityMeaning.{deal-self}
+use Rattle.equality.proofs.EqualityMeaning.{all-self, call-self, deal-self}
 use Rattle.equality.specs.Parts.{callBytes, callsBytes, sameDealt, sameText, sameTexts, samePlay, mostChecks, mostChecked, unlikeBut}
 
 -- One part, and those after it: a part that differs decides, one that is the same leaves it to the others
@@ -67,6 +67,15 @@ module _ (left whole t next : Bool) (v : left ≡ whole) (e : left ≡ (t && nex
   pub turn-on : not t ≡ false → next ≡ whole
   turn-on h = and-pass t next next t refl h refl ∙ sym e ∙ v
 
+-- Lists that are not as long differ
+
+all-length : {A : Type 0} (f : A → A → Bool) (x y : List A) → (length x ≡ length y → ⊥) → false ≡ eqAll f x y
+unfolding eqAll
+all-length f [] [] h = absurd (h refl)
+all-length f [] (b ∷ y) h = refl
+all-length f (a ∷ x) [] h = refl
+all-length f (a ∷ x) (b ∷ y) h = sym (ap (λ (t : Bool). f a b && t) (sym (all-length f x y (λ e. h (omega arith)))) ∙ and-false (f a b))
+
 -- Numbers, one by one, all being looked at: t says whether those before i are the same
 
 module _ (a b : List ℕ) (l : length a ≡ length b) (i : ℕ) (t : Bool) (v : (t && eqList (drop i a) (drop i b)) ≡ eqList a b) where
@@ -80,6 +89,9 @@ module _ (a b : List ℕ) (l : length a ≡ length b) (i : ℕ) (t : Bool) (v : 
       and-assoc t (eqb (getD a i 0) (getD b i 0)) (eqList (drop (i + 1) a) (drop (i + 1) b))
       ∙ (let z : (t && eqList (drop i a) (drop i b)) ≡ (t && (eqb (getD a i 0) (getD b i 0) && eqList (drop (i + 1) a) (drop (i + 1) b))) = rw (add-one, drop-cons a i 0 h, drop-cons b i 0 (let k : i < length b = omega arith in k)) refl in sym z)
       ∙ v
+
+pub words-differ : (a b : List ℕ) → (length a ≡ length b → ⊥) → false ≡ eqList a b
+words-differ a b h = all-length eqb a b h
 
 -- two deals with the same counts are the same
 pub same-counts : (d e : List ℕ) → true ≡ eqList d e → true ≡ sameDeal d e
@@ -174,13 +186,6 @@ module _ (s : List ℕ) (c : Call) (t : List ℕ) (d : Call) where
 
 -- Calls, row by row
 
-all-length : {A : Type 0} (f : A → A → Bool) (x y : List A) → (length x ≡ length y → ⊥) → false ≡ eqAll f x y
-unfolding eqAll
-all-length f [] [] h = absurd (h refl)
-all-length f [] (b ∷ y) h = refl
-all-length f (a ∷ x) [] h = refl
-all-length f (a ∷ x) (b ∷ y) h = sym (ap (λ (t : Bool). f a b && t) (sym (all-length f x y (λ e. h (omega arith)))) ∙ and-false (f a b))
-
 calls-length : (s ws : List ℕ) → length (callsBytes s ws) ≡ length (callRows ws)
 calls-length s ws = length-map (map callIn (callRows ws)) (mapCall (bytesAt s)) ∙ length-map (callRows ws) callIn
 
@@ -233,6 +238,18 @@ module _ (s ws t us : List ℕ) where
               many = omega (arith, v .many, ap length (rows-cons ws i h), ap length (rows-cons us i other-row));
               same = turn-on _ _ r (callsFrom s ws t us (i + 6)) (v .same) rows-both q;
             }
+
+-- those of the same rows over the same text are the same
+pub calls-copied : (s ws t us : List ℕ) (r : Bool) → (r ≡ true → (s ≡ t) × (ws ≡ us)) → r ≡ true → true ≡ eqAll eqCall (callsBytes s ws) (callsBytes t us)
+calls-copied s ws t us r h k =
+    sym (ap (λ (x : List ℕ). eqAll eqCall (callsBytes s ws) (callsBytes x us)) (sym (h k .0))
+    ∙ ap (λ (x : List ℕ). eqAll eqCall (callsBytes s ws) (callsBytes s x)) (sym (h k .1))
+    ∙ all-self eqCall call-self (callsBytes s ws))
+
+-- that they are the same, by the two tests
+pub copied-both : (s ws t us : List ℕ) (r : Bool) → r ≡ eqList ws us → not r ≡ false → (u : Bool) → u ≡ eqList s t → u ≡ true → (s ≡ t) × (ws ≡ us)
+copied-both s ws t us true e h u f k = (eq-list s t (sym f ∙ k), eq-list ws us (sym e))
+copied-both s ws t us false e h u f k = absurd (false≢true (sym h))
 
 -- The whole: its parts in order
 

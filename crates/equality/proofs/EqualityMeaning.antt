@@ -26,7 +26,7 @@ use Rattle.equality.specs.Parts.{mostChecks}
 
 -- A board equals itself
 
-all-self : {A : Type 0} (f : A → A → Bool) → ((a : A) → f a a ≡ true) → (x : List A) → eqAll f x x ≡ true
+pub all-self : {A : Type 0} (f : A → A → Bool) → ((a : A) → f a a ≡ true) → (x : List A) → eqAll f x x ≡ true
 unfolding eqAll
 all-self f h [] = refl
 all-self f h (a ∷ x) = simp (h a, all-self f h x)
@@ -42,7 +42,7 @@ flag-self false = refl
 number-self : (n : ℕ) → eqb n n ≡ true
 number-self n = eq-eqb n n refl
 
-call-self : (c : CallOf (List ℕ)) → eqCall c c ≡ true
+pub call-self : (c : CallOf (List ℕ)) → eqCall c c ≡ true
 unfolding eqCall
 call-self c = simp (list-eq (c .bid), flag-self (c .alerted), option-self eqList list-eq (c .annotation))
 

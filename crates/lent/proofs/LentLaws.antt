@@ -4,13 +4,14 @@ use Prim.Native.Nat.{ℕ, _+_, _-_, _/_, _≤_, _<_}
 use native.Mathlib.Numerals.{add-one}
 use native.Mathlib.Omega.{arith}
 use mathlib.Core.Path.{_≡_, refl, ap, sym, _∙_, subst}
-use mathlib.Core.Bool.{Bool, true, false, _||_, or-assoc, or-false}
+use mathlib.Core.Bool.{Bool, true, false, _&&_, _||_, not, or-assoc, or-false}
 use mathlib.Core.List.{List, [], _∷_, _++_, map}
-use mathlib.Core.Option.{Option}
+use mathlib.Core.Option.{Option, none, some}
 use lib.ListN.{length, getD, drop, drop-of-length-le, length-drop}
 use lib.Seq.{drop-cons}
+use lib.Dec.{eqb}
 use borrow.Author.Tests.{eq-eqb, ne-eqb, lt-ltb, le-ltb, ltb-false}
-use Rattle.lin_spec.specs.Base.{any}
+use Rattle.lin_spec.specs.Base.{pick, any}
 use Rattle.lin_spec.specs.Records.{limit, endOf, optionOf}
 use Rattle.lin_spec.specs.Refusals.{unless, passesEnd, illSpan}
 use Rattle.lin_spec.specs.Refusals.Answer.{refused, accepted}
@@ -175,6 +176,15 @@ module _ (f : Span → Bool) (c : Call) where
     pub call-annotated : (c .annotated ≡ 0 → ⊥) → f (c .annotation) ≡ any f (spansOf c)
     unfolding any
     call-annotated e = simp (h, ne-eqb _ _ e, or-false)
+
+  -- both by one test
+  pub call-either : (t u : Bool) → t ≡ f (c .bid) → u ≡ f (c .annotation) → (t || (not (eqb (c .annotated) 0) && u)) ≡ any f (spansOf c)
+  unfolding any
+  call-either t u et eu = rw (et, eu) (ap (λ (w : Bool). f (c .bid) || w) (go (eqb (c .annotated) 0)))
+    where
+      go : (b : Bool) → (not b && f (c .annotation)) ≡ any f (spanIn (pick b none (some (c .annotation))))
+      go true = refl
+      go false = sym (or-false (f (c .annotation)))
 
 -- All spans: the names, the texts that may be absent, and those of the calls
 

@@ -16,6 +16,7 @@ ghost use mathlib.Core.List.{List};
 ghost use Prim.Native.Nat.{ℕ};
 ghost use Rattle.lin_spec.specs.Base.{any};
 ghost use Rattle.lin_spec.specs.Records.{optionOf};
+ghost use Rattle.lin_spec.specs.Refusals.{passesEnd};
 ghost use Rattle.lin_spec.specs.Lent.{callRows, lent, lentSpans, spanIn, badFlag, badCards};
 ghost use Rattle.text.specs.Fault.{faultOf};
 ghost use Rattle.lent.specs.Calls.{spansOf};
@@ -150,6 +151,15 @@ pub struct Bounds {
     pub past: bool,
 }
 
+// Whether a text of a call passes the end, by one test for both texts.
+fn call_past(text: &[u8], c: Call) -> bool
+    ensures { λ r. ⌜ r ≡ any (passesEnd (now (text .entry))) (spansOf c) ⌝ }
+{
+    let bid = faulty(text, c.bid, Fault::PastEnd);
+    let annotation = faulty(text, c.annotation, Fault::PastEnd);
+    bid | ((c.annotated != 0) & annotation)
+}
+
 // What is wrong with the numbers of the rows. Each is looked at once.
 fn row_bounds(text: &[u8], rows: &[u32]) -> Bounds
     ensures { λ r. ⌜ RowsBounded (now (text .entry)) (now (rows .entry)) r ⌝ }
@@ -160,7 +170,7 @@ fn row_bounds(text: &[u8], rows: &[u32]) -> Bounds
     while 6 <= rows.len() - i {
         let c = call_at(rows, i);
         number = number | bad_flag(c);
-        past = past | call_meets(text, c, Look::Past);
+        past = past | call_past(text, c);
         i += 6;
     }
     Bounds { number, past }

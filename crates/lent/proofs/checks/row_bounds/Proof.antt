@@ -33,8 +33,8 @@ call-at-requires c κs = omega arith
 bad-flag-requires : tie.Need-bad-flag-requires Inv-loop μ-loop
 bad-flag-requires c κs = tt
 
-call-meets-requires : tie.Need-call-meets-requires Inv-loop μ-loop
-call-meets-requires c κs = tt
+call-past-requires : tie.Need-call-past-requires Inv-loop μ-loop
+call-past-requires c κs = tt
 
 add-i : tie.Need-add-i Inv-loop μ-loop
 add-i c = omega arith
@@ -50,7 +50,7 @@ loop-again c =
     let e = c .before .before .call-at .ensures in (
       omega arith,
       or-row callRow badFlag _ _ (l .number) (v .1) h _ e _ (c .before .bad-flag .ensures),
-      or-row callRow _ _ _ (l .past) (v .2) h _ e _ (c .call-meets .ensures),
+      or-row callRow _ _ _ (l .past) (v .2) h _ e _ (c .call-past .ensures),
     )
 
 returns : tie.Need-returns Inv-loop μ-loop
@@ -69,7 +69,7 @@ row-bounds-spec =
     sub-loop
     call-at-requires
     bad-flag-requires
-    call-meets-requires
+    call-past-requires
     add-i
     loop-less
     loop-again
