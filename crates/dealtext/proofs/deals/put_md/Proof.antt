@@ -1,9 +1,8 @@
 -- `dealtext::put_md` meets its contract: a run of puts, each of which takes one piece off what is left to write.
 -- Assumes nothing.
 use Prim.Native.Nat.{ℕ}
-use mathlib.Core.Path.{_≡_}
 use mathlib.Core.List.{List, [], _∷_}
-use lib.ListN.{length, drop}
+use lib.ListN.{drop}
 use denote.Ref.{now}
 use borrow.Author.Needs.{needs}
 use Rattle.lin_spec.specs.Writer.{dealerDigit, mdText}
@@ -42,10 +41,6 @@ after-6 c = step (after-5 (c .before .before .before .before)) (c .put-hand3 .en
 after-7 : (c : tie.After-put-east) → After 7 (c .before .before .before .before .before .before .before .before .before .before .before .before .before .before .before .before .before .before .before .before .before .before .before .before .before .before .before .before) (c .put-east .last .0) (c .put-east .result)
 after-7 c = step (after-6 (c .before .before .before .before)) (c .put-east .ensures)
 
--- the counts of the deal
-deal-long : (s : tie.Start) → length (now (s .args .counts)) ≡ 208
-deal-long s = s .pre .1
-
 dealer-digit-requires : tie.Need-dealer-digit-requires
 dealer-digit-requires c κs = search needs
 
@@ -53,22 +48,22 @@ put-byte-requires : tie.Need-put-byte-requires
 put-byte-requires c κs = rw (c .dealer-digit .ensures) (roomy (dealerDigit (c .before .before .before .args .dealer) ∷ []) _ (after-0 (c .before .before .before)))
 
 put-hand-requires : tie.Need-put-hand-requires
-put-hand-requires c κs = roomy _ _ (after-1 (c .before .before .before))
+put-hand-requires c κs = (roomy _ _ (after-1 (c .before .before .before)), c .before .before .before .before .before .before .before .pre .1 .south)
 
 put-byte-requires-2 : tie.Need-put-byte-requires-2
 put-byte-requires-2 c κs = roomy _ _ (after-2 (c .before .before .before))
 
 put-hand-requires-2 : tie.Need-put-hand-requires-2
-put-hand-requires-2 c κs = roomy _ _ (after-3 (c .before .before .before))
+put-hand-requires-2 c κs = (roomy _ _ (after-3 (c .before .before .before)), c .before .before .before .before .before .before .before .before .before .before .before .before .before .before .before .pre .1 .west)
 
 put-byte-requires-3 : tie.Need-put-byte-requires-3
 put-byte-requires-3 c κs = roomy _ _ (after-4 (c .before .before .before))
 
 put-hand-requires-3 : tie.Need-put-hand-requires-3
-put-hand-requires-3 c κs = roomy _ _ (after-5 (c .before .before .before))
+put-hand-requires-3 c κs = (roomy _ _ (after-5 (c .before .before .before)), c .before .before .before .before .before .before .before .before .before .before .before .before .before .before .before .before .before .before .before .before .before .before .before .pre .1 .north)
 
 put-east-requires : tie.Need-put-east-requires
-put-east-requires c κs = (roomy _ _ (after-6 (c .before .before .before)), deal-long (c .before .before .before .before .before .before .before .before .before .before .before .before .before .before .before .before .before .before .before .before .before .before .before .before .before .before .before))
+put-east-requires c κs = (roomy _ _ (after-6 (c .before .before .before)), c .before .before .before .before .before .before .before .before .before .before .before .before .before .before .before .before .before .before .before .before .before .before .before .before .before .before .before .pre .1)
 
 same-length : tie.Need-same-length
 same-length c = after-7 (c .before .before) .long
