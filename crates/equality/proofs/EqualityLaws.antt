@@ -10,7 +10,7 @@ use mathlib.Core.Option.{Option, none, some}
 use lib.ListN.{length, getD, drop, drop-of-length-le, length-map}
 use lib.Seq.{drop-cons, drop-nil}
 use lib.Dec.{eqb, ltb}
-use borrow.Author.Tests.{eq-eqb, ne-eqb, lt-ltb, le-ltb}
+use borrow.Author.Tests.{eq-eqb, ne-eqb, eqb-true, lt-ltb, le-ltb}
 use Rattle.lin_spec.specs.Base.{pick, any, eqAll, eqList}
 use Rattle.lin_spec.specs.Records.{span, limit, bytesAt, optionOf}
 use Rattle.lin_spec.specs.Refusals.{Answer, refuseIf, unless, passesEnd, illSpan, spanNotUtf8}
@@ -27,7 +27,7 @@ use Rattle.lin_spec.specs.declared.Verdict.{Verdict}
 use Rattle.lin_spec.specs.declared.Verdict.the-variants.{Accepted, Refused}
 use Rattle.lin_spec.specs.declared.Refusal.{Refusal}
 use Rattle.lin_spec.specs.declared.Refusal.the-variants.{TextTooLong, OutOfRange, SpanPastEnd, SpanNotUtf8}
-use Rattle.lin_spec.proofs.Base.{split, eq-list, and-left, and-right}
+use Rattle.lin_spec.proofs.Base.{split, list-eq, eq-list, and-left, and-right}
 use Rattle.lin_spec.proofs.Checks.{unmet, unless-refused, unless-passed}
 use Rattle.lent.specs.Calls.{callAt, spansOf}
 use Rattle.lent.specs.declared.heads.Head.{Head}
@@ -36,7 +36,7 @@ use Rattle.lent.specs.Heads.{boardOf}
 use Rattle.lent.specs.Checks.{verdictOf, amiss, Bounded}
 use Rattle.lent.proofs.LentLaws.{rows-cons, rows-count, no-rows, rows-end, spans-any, head-any, amiss-ill, texts-ill}
 use Rattle.equality.proofs.EqualityMeaning.{all-self, call-self, deal-self}
-use Rattle.equality.specs.Parts.{callBytes, callsBytes, sameDealt, sameText, sameTexts, samePlay, mostChecks, mostChecked, unlikeBut}
+use Rattle.equality.specs.Parts.{Twin, callBytes, callsBytes, sameDealt, sameText, sameTexts, samePlay, mostChecks, mostChecked, unlikeBut}
 
 -- One part, and those after it: a part that differs decides, one that is the same leaves it to the others
 
@@ -127,6 +127,17 @@ module _ (x y : List ℕ) (i : ℕ) (v : heldIn (drop i x) (drop i y) ≡ heldIn
 
     pub held-on : (not (eqb m 0) && eqb n 0) ≡ false → heldIn (drop (i + 1) x) (drop (i + 1) y) ≡ heldIn x y
     held-on h = turn-on _ _ (eqb m 0 || not (eqb n 0)) (heldIn (drop (i + 1) x) (drop (i + 1) y)) v held-cons (held-test (eqb m 0) (eqb n 0) false h)
+
+-- One place in two texts that are the same
+
+pub twin-span : (s : List ℕ) (x : Span) (t : List ℕ) (y : Span) (b : Bool) → Twin b s t → (b && (eqb (x .start) (y .start) && eqb (x .len) (y .len))) ≡ true
+    → true ≡ eqList (bytesAt s x) (bytesAt t y)
+twin-span s x t y b h e =
+    let p = h (and-left b (eqb (x .start) (y .start) && eqb (x .len) (y .len)) e) in
+    let q = and-right b (eqb (x .start) (y .start) && eqb (x .len) (y .len)) e in
+    let m = eqb-true (x .start) (y .start) (and-left (eqb (x .start) (y .start)) (eqb (x .len) (y .len)) q) in
+    let n = eqb-true (x .len) (y .len) (and-right (eqb (x .start) (y .start)) (eqb (x .len) (y .len)) q) in
+    rw (p, m, n) (sym (list-eq (bytesAt t y)))
 
 -- Names, seat by seat
 
@@ -240,16 +251,11 @@ module _ (s ws t us : List ℕ) where
             }
 
 -- those of the same rows over the same text are the same
-pub calls-copied : (s ws t us : List ℕ) (r : Bool) → (r ≡ true → (s ≡ t) × (ws ≡ us)) → r ≡ true → true ≡ eqAll eqCall (callsBytes s ws) (callsBytes t us)
-calls-copied s ws t us r h k =
-    sym (ap (λ (x : List ℕ). eqAll eqCall (callsBytes s ws) (callsBytes x us)) (sym (h k .0))
-    ∙ ap (λ (x : List ℕ). eqAll eqCall (callsBytes s ws) (callsBytes s x)) (sym (h k .1))
+pub calls-copied : (s ws t us : List ℕ) (b : Bool) → Twin b s t → (u : Bool) → u ≡ eqList ws us → (b && u) ≡ true → true ≡ eqAll eqCall (callsBytes s ws) (callsBytes t us)
+calls-copied s ws t us b h u e k =
+    sym (ap (λ (x : List ℕ). eqAll eqCall (callsBytes s ws) (callsBytes x us)) (sym (h (and-left b u k)))
+    ∙ ap (λ (x : List ℕ). eqAll eqCall (callsBytes s ws) (callsBytes s x)) (sym (eq-list ws us (sym e ∙ and-right b u k)))
     ∙ all-self eqCall call-self (callsBytes s ws))
-
--- that they are the same, by the two tests
-pub copied-both : (s ws t us : List ℕ) (r : Bool) → r ≡ eqList ws us → not r ≡ false → (u : Bool) → u ≡ eqList s t → u ≡ true → (s ≡ t) × (ws ≡ us)
-copied-both s ws t us true e h u f k = (eq-list s t (sym f ∙ k), eq-list ws us (sym e))
-copied-both s ws t us false e h u f k = absurd (false≢true (sym h))
 
 -- The whole: its parts in order
 

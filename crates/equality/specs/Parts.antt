@@ -1,6 +1,7 @@
 -- The comparison of two lent boards in parts, and the checks of both. (01: equality; Eight refusals)
 use Prim.Native.Nat.{ℕ}
-use mathlib.Core.Bool.{Bool, false, _&&_, _||_}
+use mathlib.Core.Path.{_≡_}
+use mathlib.Core.Bool.{Bool, true, false, _&&_, _||_}
 use mathlib.Core.List.{List, [], _∷_, map}
 use mathlib.Core.Option.{Option}
 use lib.Dec.{eqb}
@@ -18,6 +19,10 @@ use Rattle.lin_spec.specs.declared.Board.{Board}
 use Rattle.lin_spec.specs.declared.Refusal.{Refusal}
 use Rattle.lin_spec.specs.declared.Refusal.the-variants.{OutOfRange, SpanNotUtf8}
 use Rattle.lent.specs.Checks.{amiss}
+
+-- t is true only of texts that are the same
+abbrev pub Twin : (t : Bool) (s s2 : List ℕ) → Type 0
+Twin t s s2 = t ≡ true → s ≡ s2
 
 -- a call with its texts as bytes, and the calls of the rows
 abbrev pub callBytes : (s : List ℕ) → Call → CallOf (List ℕ)
