@@ -11,13 +11,17 @@ use borrow.Author.Tests.{eqb-true}
 use Rattle.lin_spec.specs.Base.{any}
 use Rattle.lin_spec.specs.Records.{part}
 use Rattle.lin_spec.specs.Cards.{sum}
-use Rattle.lin_spec.specs.Letters.{seatNumber, handLength}
+use Rattle.lin_spec.specs.Letters.{seatNumber, handAt, handLength}
+use Rattle.lin_spec.specs.Writer.{handText, mdText}
 use Rattle.lin_spec.specs.declared.Seat.{Seat}
 use Rattle.lin_spec.specs.declared.Seat.the-variants.{South, West, North, East}
 use Rattle.lin_spec.proofs.Base.{or-none}
 use Rattle.dealtext.specs.declared.sizes.Sizes.{Sizes}
+use Rattle.dealtext.specs.Hands.{bareText}
 use Rattle.dealtext.specs.Sizes.{counted, Sized, Small}
 use Rattle.dealtext.proofs.EastLaws.{three-sums, implied-few}
+use Rattle.dealtext.proofs.DealLaws.{east-in, md-is}
+use Rattle.dealtext.proofs.HandLaws.{hand-none}
 
 -- where no number of a list passes a test, none of a part of it does
 module _ (f : ℕ → Bool) where
@@ -45,6 +49,10 @@ unfolding any sum
 none-sum [] h = refl
 none-sum (n ∷ x) h = let k = or-none (counted n) (any counted x) h in let a = not-counted n (k .0) in let b = none-sum x (k .1) in omega arith
 
+pub has-held : (d : List ℕ) (t : Bool) → t ≡ any counted d → not t ≡ false → true ≡ any counted d
+has-held d true e h = e
+has-held d false e h = absurd (false≢true (sym h))
+
 module _ (d : List ℕ) (t : Bool) (e : t ≡ any counted d) (h : not t ≡ true) where
   no-card : any counted d ≡ false
   no-card = sym e ∙ go t h
@@ -58,9 +66,10 @@ module _ (d : List ℕ) (t : Bool) (e : t ≡ any counted d) (h : not t ≡ true
   none-held x = sym (none-sum _ (none-take counted _ 52 (none-drop counted d (seatNumber x * 52) no-card)))
 
   -- no hand has a card, and East is not implied
-  pub sized-none : Sized d (record { south = 0; west = 0; north = 0; east = 0; implied = false })
+  pub sized-none : Sized d (record { held = false; south = 0; west = 0; north = 0; east = 0; implied = false })
   sized-none =
       record {
+        held = sym no-card;
         south = none-held South;
         west = none-held West;
         north = none-held North;
@@ -68,5 +77,12 @@ module _ (d : List ℕ) (t : Bool) (e : t ≡ any counted d) (h : not t ≡ true
         implied = implied-few d false (three-sums d 0 0 0 (none-held South) (none-held West) (none-held North)) refl;
       }
 
-pub small-none : Small (record { south = 0; west = 0; north = 0; east = 0; implied = false })
+pub small-none : Small (record { held = false; south = 0; west = 0; north = 0; east = 0; implied = false })
 small-none = record { south = omega arith; west = omega arith; north = omega arith; east = omega arith }
+
+-- the value of md then has commas alone after its digit
+pub md-bare : (x : Seat) (d : List ℕ) (z : Sizes) → Sized d z → not (z .held) ≡ true → mdText (record { dealer = x; deal = d }) ≡ bareText x
+md-bare x d z s h =
+    let e = sized-none d (z .held) (s .held) h in
+    let empty : (y : Seat) → handText (handAt d y) ≡ [] = λ y. hand-none (handAt d y) 0 (none-held d (z .held) (s .held) h y) refl in
+    md-is x d ∙ simp (empty South, empty West, empty North, east-in d false (e .implied) refl, empty East)

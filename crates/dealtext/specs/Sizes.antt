@@ -4,6 +4,7 @@ use mathlib.Core.Path.{_≡_}
 use mathlib.Core.Bool.{Bool, not}
 use mathlib.Core.List.{List}
 use lib.Dec.{eqb}
+use Rattle.lin_spec.specs.Base.{any}
 use Rattle.lin_spec.specs.Letters.{handLength}
 use Rattle.lin_spec.specs.Writer.{impliedEast}
 use Rattle.lin_spec.specs.declared.Seat.the-variants.{South, West, North, East}
@@ -15,6 +16,7 @@ counted n = not (eqb n 0)
 
 -- z is what the deal d has
 pub record Sized (d : List ℕ) (z : Sizes) : Type 0 where
+  pub held : z .held ≡ any counted d
   pub south : z .south ≡ handLength d South
   pub west : z .west ≡ handLength d West
   pub north : z .north ≡ handLength d North

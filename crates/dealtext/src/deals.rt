@@ -4,6 +4,7 @@ use crate::hands::put_hand;
 use crate::sizes::Sizes;
 use lin_spec::Seat;
 use output::put_byte;
+use output::put_bytes;
 ghost use Prim.Native.Nat.{ℕ, _<_, _^_};
 ghost use mathlib.Core.Path.{_≡_};
 ghost use mathlib.Core.List.{List};
@@ -13,8 +14,10 @@ ghost use Rattle.lin_spec.specs.Writer.{impliedEast, dealerDigit, mdText};
 ghost use Rattle.lin_spec.specs.declared.Seat.{Seat};
 ghost use Rattle.lin_spec.specs.declared.Seat.the-variants.{East};
 ghost use Rattle.output.specs.Put.{Room, Put};
-ghost use Rattle.dealtext.specs.Hands.{eastText};
+ghost use Rattle.dealtext.specs.Hands.{bareText, eastText};
 ghost use Rattle.dealtext.specs.Sizes.{Sized, Small};
+
+const BARE: [u8; 3] = *b",,,";
 
 // The digit of the dealer.
 fn dealer_digit(dealer: Seat) -> u8
@@ -51,8 +54,8 @@ fn east_len(east: u64, implied: bool) -> u64
     hand_text_len(east) + 1
 }
 
-// Puts the value of md.
-pub fn put_md(out: &mut [u8], at: usize, dealer: Seat, counts: &[u32; 208], sizes: Sizes) -> usize
+// Puts the value of md, hand by hand.
+fn put_hands(out: &mut [u8], at: usize, dealer: Seat, counts: &[u32; 208], sizes: Sizes) -> usize
     requires { ⌜ Room (now out) at (mdText (record { dealer = dealer; deal = now counts })) × Sized (now counts) sizes ⌝ }
     ensures { λ r. ⌜ Put (now (out .entry)) at (mdText (record { dealer = dealer; deal = now (counts .entry) })) (now (out .exit)) r ⌝ }
 {
@@ -63,6 +66,26 @@ pub fn put_md(out: &mut [u8], at: usize, dealer: Seat, counts: &[u32; 208], size
     let e = put_byte(out, d, b',');
     let f = put_hand(out, e, counts, Seat::North, sizes.north);
     put_east(out, f, counts, sizes)
+}
+
+// Puts the value of md where no card is held.
+fn put_bare(out: &mut [u8], at: usize, dealer: Seat) -> usize
+    requires { ⌜ Room (now out) at (bareText dealer) ⌝ }
+    ensures { λ r. ⌜ Put (now (out .entry)) at (bareText dealer) (now (out .exit)) r ⌝ }
+{
+    let a = put_byte(out, at, dealer_digit(dealer));
+    put_bytes(out, a, &BARE)
+}
+
+// Puts the value of md.
+pub fn put_md(out: &mut [u8], at: usize, dealer: Seat, counts: &[u32; 208], sizes: Sizes) -> usize
+    requires { ⌜ Room (now out) at (mdText (record { dealer = dealer; deal = now counts })) × Sized (now counts) sizes ⌝ }
+    ensures { λ r. ⌜ Put (now (out .entry)) at (mdText (record { dealer = dealer; deal = now (counts .entry) })) (now (out .exit)) r ⌝ }
+{
+    if !sizes.held {
+        return put_bare(out, at, dealer);
+    }
+    put_hands(out, at, dealer, counts, sizes)
 }
 
 // How many bytes it has for a deal of these sizes, whoever deals.

@@ -17,8 +17,9 @@ ghost use Rattle.lin_spec.specs.declared.Seat.the-variants.{South, West, North,
 ghost use Rattle.dealtext.specs.Hands.{restOf};
 ghost use Rattle.dealtext.specs.Sizes.{counted, Sized, Small};
 
-// How many cards each hand has, and whether East is implied.
+// Whether a card is held, how many cards each hand has, and whether East is implied.
 pub struct Sizes {
+    pub held: bool,
     pub south: u64,
     pub west: u64,
     pub north: u64,
@@ -91,6 +92,7 @@ pub fn sizes_of(counts: &[u32; 208]) -> Sizes
 {
     if !has_cards(counts) {
         return Sizes {
+            held: false,
             south: 0,
             west: 0,
             north: 0,
@@ -104,6 +106,7 @@ pub fn sizes_of(counts: &[u32; 208]) -> Sizes
     let east = seat_sum(counts, Seat::East);
     let implied = is_implied(counts, south, west, north, east);
     Sizes {
+        held: true,
         south,
         west,
         north,

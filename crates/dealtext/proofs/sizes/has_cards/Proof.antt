@@ -6,7 +6,7 @@ use mathlib.Core.Path.{_≡_, refl}
 use mathlib.Core.Bool.{_||_}
 use lib.ListN.{length, drop}
 use Rattle.lin_spec.specs.Base.{any}
-use Rattle.lent.proofs.LentLaws.{all-cards, or-card}
+use Rattle.lent.proofs.LentLaws.{all-each, or-each}
 use Rattle.dealtext.specs.Sizes.{counted}
 use Rattle.dealtext.proofs.sizes.has_cards.Statement.{statement}
 use Rattle.dealtext.proofs.sizes.has_cards.Tie as tie
@@ -33,10 +33,10 @@ loop-less : tie.Need-loop-less Inv-loop μ-loop
 loop-less c = omega arith
 
 loop-again : tie.Need-loop-again Inv-loop μ-loop
-loop-again c = let l = c .before .before .loop in (or-card counted _ _ (l .found) (l .inv .0) (omega (arith, l .inv .1)), l .inv .1)
+loop-again c = let l = c .before .before .loop in (or-each counted 0 _ _ (l .found) (l .inv .0) (omega (arith, l .inv .1)) _ refl, l .inv .1)
 
 returns : tie.Need-returns Inv-loop μ-loop
-returns c = let l = c .before .loop in all-cards counted _ (l .c) _ (l .inv .0) (omega (arith, l .inv .1))
+returns c = let l = c .before .loop in all-each counted 0 _ (l .c) _ (l .inv .0) (omega (arith, l .inv .1))
 
 pub has-cards-spec : {M : Type 1} → statement M
 has-cards-spec =

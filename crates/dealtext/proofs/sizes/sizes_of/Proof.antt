@@ -1,7 +1,7 @@
 -- `dealtext::sizes::sizes_of` meets its contract: no card is held, or the hands were summed.
 -- Assumes nothing.
 use borrow.Author.Needs.{needs}
-use Rattle.dealtext.proofs.SizeLaws.{sized-none, small-none}
+use Rattle.dealtext.proofs.SizeLaws.{has-held, sized-none, small-none}
 use Rattle.dealtext.proofs.sizes.sizes_of.Statement.{statement}
 use Rattle.dealtext.proofs.sizes.sizes_of.Tie as tie
 
@@ -32,7 +32,7 @@ returns-2 c =
     let w = c .before .before .before .seat-sum2 .ensures in
     let n = c .before .before .seat-sum3 .ensures in
     let e = c .before .seat-sum4 .ensures in
-    (record { south = s .0; west = w .0; north = n .0; east = e .0; implied = c .is-implied .ensures }, record { south = s .1; west = w .1; north = n .1; east = e .1 })
+    (record { held = has-held _ _ (c .before .before .before .before .before .before .has-cards .ensures) (c .before .before .before .before .before .if1 .left); south = s .0; west = w .0; north = n .0; east = e .0; implied = c .is-implied .ensures }, record { south = s .1; west = w .1; north = n .1; east = e .1 })
 
 pub sizes-of-spec : {M : Type 1} → statement M
 sizes-of-spec =

@@ -12,11 +12,11 @@ row-bounds-requires c κs = search needs
 bad-cards-requires : tie.Need-bad-cards-requires
 bad-cards-requires c κs = search needs
 
-head-meets-requires : tie.Need-head-meets-requires
-head-meets-requires c κs = tt
+head-past-requires : tie.Need-head-past-requires
+head-past-requires c κs = search needs
 
 returns : tie.Need-returns
-returns c = let a = c .before .before .before .before .before .before .before .before .args in λ counts. bounds-all (now (a .text)) (a .head) counts _ _ _ (c .before .before .before .before .row-bounds .ensures) _ (c .before .before .before .bad-cards .ensures) _ (c .before .head-meets .ensures)
+returns c = let a = c .before .before .before .before .before .before .before .before .args in λ counts. bounds-all (now (a .text)) (a .head) counts _ _ _ (c .before .before .before .before .row-bounds .ensures) _ (c .before .before .before .bad-cards .ensures) _ (c .before .head-past .ensures)
 
 pub bounds-of-spec : {M : Type 1} → statement M
-bounds-of-spec = tie.close (tie.spec row-bounds-requires bad-cards-requires head-meets-requires returns)
+bounds-of-spec = tie.close (tie.spec row-bounds-requires bad-cards-requires head-past-requires returns)

@@ -8,7 +8,7 @@ use lib.ListN.{length, drop}
 use Rattle.lin_spec.specs.Base.{any}
 use Rattle.lin_spec.specs.Lent.{callRow, callRows}
 use Rattle.lent.specs.Calls.{spansOf}
-use Rattle.lent.specs.Checks.{lookOf}
+use Rattle.lent.specs.Checks.{amiss}
 use Rattle.lent.proofs.LentLaws.{all-rows, or-row}
 use Rattle.lent.proofs.checks.rows_meet.Statement.{statement}
 use Rattle.lent.proofs.checks.rows_meet.Tie as tie
@@ -16,7 +16,7 @@ use Rattle.lent.proofs.checks.rows_meet.Tie as tie
 abbrev Inv-loop : tie.InvT-loop
 Inv-loop text rows look found₀ i₀ found i =
     (i ≤ length rows)
-    × ((found || any (λ c. any (lookOf look text) (spansOf c)) (callRows (drop i rows))) ≡ any (λ c. any (lookOf look text) (spansOf c)) (callRows rows))
+    × ((found || any (λ c. any (amiss text) (spansOf c)) (callRows (drop i rows))) ≡ any (λ c. any (amiss text) (spansOf c)) (callRows rows))
 
 abbrev μ-loop : tie.MeasureT-loop
 μ-loop text rows look found₀ i₀ found i = length rows - i
