@@ -36,7 +36,7 @@ use Rattle.lent.specs.Heads.{boardOf}
 use Rattle.lent.specs.Checks.{verdictOf, amiss, Bounded}
 use Rattle.lent.proofs.LentLaws.{rows-cons, rows-count, no-rows, rows-end, spans-any, head-any, amiss-ill, texts-ill}
 use Rattle.equality.proofs.EqualityMeaning.{all-self, call-self, deal-self}
-use Rattle.equality.specs.Parts.{Twin, callBytes, callsBytes, sameDealt, sameText, sameTexts, samePlay, mostChecks, mostChecked, unlikeBut}
+use Rattle.equality.specs.Parts.{Alike, callBytes, callsBytes, sameDealt, sameText, sameTexts, samePlay, mostChecks, mostChecked, unlikeBut}
 
 -- One part, and those after it: a part that differs decides, one that is the same leaves it to the others
 
@@ -130,9 +130,9 @@ module _ (x y : List ℕ) (i : ℕ) (v : heldIn (drop i x) (drop i y) ≡ heldIn
 
 -- One place in two texts that are the same
 
-pub twin-span : (s : List ℕ) (x : Span) (t : List ℕ) (y : Span) (b : Bool) → Twin b s t → (b && (eqb (x .start) (y .start) && eqb (x .len) (y .len))) ≡ true
+pub alike-span : (s : List ℕ) (x : Span) (t : List ℕ) (y : Span) (b : Bool) → Alike b s t → (b && (eqb (x .start) (y .start) && eqb (x .len) (y .len))) ≡ true
     → true ≡ eqList (bytesAt s x) (bytesAt t y)
-twin-span s x t y b h e =
+alike-span s x t y b h e =
     let p = h (and-left b (eqb (x .start) (y .start) && eqb (x .len) (y .len)) e) in
     let q = and-right b (eqb (x .start) (y .start) && eqb (x .len) (y .len)) e in
     let m = eqb-true (x .start) (y .start) (and-left (eqb (x .start) (y .start)) (eqb (x .len) (y .len)) q) in
@@ -251,7 +251,7 @@ module _ (s ws t us : List ℕ) where
             }
 
 -- those of the same rows over the same text are the same
-pub calls-copied : (s ws t us : List ℕ) (b : Bool) → Twin b s t → (u : Bool) → u ≡ eqList ws us → (b && u) ≡ true → true ≡ eqAll eqCall (callsBytes s ws) (callsBytes t us)
+pub calls-copied : (s ws t us : List ℕ) (b : Bool) → Alike b s t → (u : Bool) → u ≡ eqList ws us → (b && u) ≡ true → true ≡ eqAll eqCall (callsBytes s ws) (callsBytes t us)
 calls-copied s ws t us b h u e k =
     sym (ap (λ (x : List ℕ). eqAll eqCall (callsBytes s ws) (callsBytes x us)) (sym (h (and-left b u k)))
     ∙ ap (λ (x : List ℕ). eqAll eqCall (callsBytes s ws) (callsBytes s x)) (sym (eq-list ws us (sym e ∙ and-right b u k)))

@@ -21,8 +21,8 @@ use Rattle.lin_spec.specs.declared.Refusal.the-variants.{OutOfRange, SpanNotUtf
 use Rattle.lent.specs.Checks.{amiss}
 
 -- t is true only of texts that are the same
-abbrev pub Twin : (t : Bool) (s s2 : List ℕ) → Type 0
-Twin t s s2 = t ≡ true → s ≡ s2
+abbrev pub Alike : (t : Bool) (s s2 : List ℕ) → Type 0
+Alike t s s2 = t ≡ true → s ≡ s2
 
 -- a call with its texts as bytes, and the calls of the rows
 abbrev pub callBytes : (s : List ℕ) → Call → CallOf (List ℕ)

@@ -3,7 +3,7 @@ use crate::hands::same_deal;
 use crate::texts::same_calls;
 use crate::texts::same_names;
 use crate::texts::same_text;
-use crate::texts::twins;
+use crate::texts::texts_alike;
 use compare::same_bytes;
 use lent::Head;
 use lent::bounds_of;
@@ -24,7 +24,7 @@ ghost use Rattle.lin_spec.specs.Lent.{lent, claimOf, meaning};
 ghost use Rattle.lin_spec.specs.Equality.{equalityOf, eqOption, equal as equalTo, sameBoards, sameBoard};
 ghost use Rattle.lent.specs.Heads.{boardOf};
 ghost use Rattle.lent.specs.Checks.{verdictOf};
-ghost use Rattle.equality.specs.Parts.{Twin, mostChecked, unlikeBut, sameDealt, sameTexts, samePlay};
+ghost use Rattle.equality.specs.Parts.{Alike, mostChecked, unlikeBut, sameDealt, sameTexts, samePlay};
 
 // Whether the claims are the same, or both are absent.
 fn same_claim(a: MaybeClaim, b: MaybeClaim) -> bool
@@ -44,7 +44,6 @@ fn same_claim(a: MaybeClaim, b: MaybeClaim) -> bool
 
 // Whether dealer, deal and vulnerability are the same.
 fn same_dealt(head: Head, counts: &[u32; 208], head2: Head, counts2: &[u32; 208]) -> bool
-    requires { ⌜ (length (now counts) ≡ 208) × (length (now counts2) ≡ 208) ⌝ }
     ensures { λ r. ⌜ r ≡ sameDealt (boardOf head (now (counts .entry))) (boardOf head2 (now (counts2 .entry))) ⌝ }
 {
     let dealer = head.dealer;
@@ -61,23 +60,23 @@ fn same_dealt(head: Head, counts: &[u32; 208], head2: Head, counts2: &[u32; 208]
 }
 
 // Whether title, room and header are the same.
-fn same_texts(twin: bool, text: &[u8], head: Head, text2: &[u8], head2: Head) -> bool
-    requires { ⌜ Twin twin (now text) (now text2) ⌝ }
+fn same_texts(alike: bool, text: &[u8], head: Head, text2: &[u8], head2: Head) -> bool
+    requires { ⌜ Alike alike (now text) (now text2) ⌝ }
     ensures { λ r. ⌜ r ≡ sameTexts (now (text .entry)) (boardOf head []) (now (text2 .entry)) (boardOf head2 []) ⌝ }
 {
     let title = head.title;
     let title2 = head2.title;
-    if !same_text(twin, text, title, text2, title2) {
+    if !same_text(alike, text, title, text2, title2) {
         return false;
     }
     let room_board = head.room_board;
     let room_board2 = head2.room_board;
-    if !same_text(twin, text, room_board, text2, room_board2) {
+    if !same_text(alike, text, room_board, text2, room_board2) {
         return false;
     }
     let board_header = head.board_header;
     let board_header2 = head2.board_header;
-    same_text(twin, text, board_header, text2, board_header2)
+    same_text(alike, text, board_header, text2, board_header2)
 }
 
 // Whether cards and claim are the same.
@@ -105,22 +104,21 @@ fn equal(
     rows2: &[u32],
     cards2: &[u8],
 ) -> bool
-    requires { ⌜ (length (now counts) ≡ 208) × (length (now counts2) ≡ 208) ⌝ }
     ensures { λ r. ⌜ r ≡ equalTo (meaning (lent (now (text .entry)) (boardOf head (now (counts .entry))) (now (rows .entry)) (now (cards .entry)))) (meaning (lent (now (text2 .entry)) (boardOf head2 (now (counts2 .entry))) (now (rows2 .entry)) (now (cards2 .entry)))) ⌝ }
 {
-    let twin = twins(text, rows, text2);
+    let alike = texts_alike(text, rows, text2);
     let names = head.names;
     let names2 = head2.names;
-    if !same_names(twin, text, names, text2, names2) {
+    if !same_names(alike, text, names, text2, names2) {
         return false;
     }
     if !same_dealt(head, counts, head2, counts2) {
         return false;
     }
-    if !same_texts(twin, text, head, text2, head2) {
+    if !same_texts(alike, text, head, text2, head2) {
         return false;
     }
-    if !same_calls(twin, text, rows, text2, rows2) {
+    if !same_calls(alike, text, rows, text2, rows2) {
         return false;
     }
     same_play(cards, head, cards2, head2)

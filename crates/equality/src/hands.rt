@@ -4,7 +4,6 @@ use cards::seat_sum;
 use lin_spec::Deal;
 use lin_spec::Seat;
 ghost use mathlib.Core.Path.{_≡_};
-ghost use lib.ListN.{length};
 ghost use Rattle.lin_spec.specs.Letters.{handAt};
 ghost use Rattle.lin_spec.specs.Writer.{heldIn, sameCards};
 ghost use Rattle.lin_spec.specs.Equality.{sameDeal};
@@ -52,7 +51,6 @@ fn same_hands(counts: &[u32; 208], other: &[u32; 208]) -> bool
 
 // Whether each seat's hands are so. Most deals that are have the same counts.
 pub(crate) fn same_deal(counts: &[u32; 208], other: &[u32; 208]) -> bool
-    requires { ⌜ (length (now counts) ≡ 208) × (length (now other) ≡ 208) ⌝ }
     ensures { λ r. ⌜ r ≡ sameDeal (now (counts .entry)) (now (other .entry)) ⌝ }
 {
     if same_words(counts, other) {

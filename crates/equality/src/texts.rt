@@ -13,11 +13,11 @@ ghost use Rattle.lin_spec.specs.Base.{eqAll, eqList};
 ghost use Rattle.lin_spec.specs.Records.{bytesAt, optionOf};
 ghost use Rattle.lin_spec.specs.Board.{mapOption};
 ghost use Rattle.lin_spec.specs.Equality.{eqOption, eqFlag, eqCall};
-ghost use Rattle.equality.specs.Parts.{Twin, callBytes, callsBytes};
+ghost use Rattle.equality.specs.Parts.{Alike, callBytes, callsBytes};
 
 // Tests whether two texts are the same, where the first is short, or short for its rows. Promised is what its users need: where it says true, they are.
-pub(crate) fn twins(text: &[u8], rows: &[u32], text2: &[u8]) -> bool
-    ensures { λ r. ⌜ Twin r (now (text .entry)) (now (text2 .entry)) ⌝ }
+pub(crate) fn texts_alike(text: &[u8], rows: &[u32], text2: &[u8]) -> bool
+    ensures { λ r. ⌜ Alike r (now (text .entry)) (now (text2 .entry)) ⌝ }
 {
     if (256 < text.len()) & (rows.len() < text.len() / 4) {
         return false;
@@ -25,12 +25,12 @@ pub(crate) fn twins(text: &[u8], rows: &[u32], text2: &[u8]) -> bool
     same_bytes(text, text2)
 }
 
-// Whether two spans name the same bytes. `twin` is true only of texts that are the same: one place in both names the same bytes.
-fn same_span(twin: bool, text: &[u8], x: Span, text2: &[u8], y: Span) -> bool
-    requires { ⌜ Twin twin (now text) (now text2) ⌝ }
+// Whether two spans name the same bytes. `alike` is true only of texts that are the same: one place in both names the same bytes.
+fn same_span(alike: bool, text: &[u8], x: Span, text2: &[u8], y: Span) -> bool
+    requires { ⌜ Alike alike (now text) (now text2) ⌝ }
     ensures { λ r. ⌜ r ≡ eqList (bytesAt (now (text .entry)) x) (bytesAt (now (text2 .entry)) y) ⌝ }
 {
-    if twin & ((x.start == y.start) & (x.len == y.len)) {
+    if alike & ((x.start == y.start) & (x.len == y.len)) {
         return true;
     }
     same_bytes(shown(text, x), shown(text2, y))
@@ -38,18 +38,18 @@ fn same_span(twin: bool, text: &[u8], x: Span, text2: &[u8], y: Span) -> bool
 
 // Whether the names of each seat are the same.
 pub(crate) fn same_names(
-    twin: bool,
+    alike: bool,
     text: &[u8],
     names: [Span; 4],
     text2: &[u8],
     names2: [Span; 4],
 ) -> bool
-    requires { ⌜ Twin twin (now text) (now text2) ⌝ }
+    requires { ⌜ Alike alike (now text) (now text2) ⌝ }
     ensures { λ r. ⌜ r ≡ eqAll eqList (map (bytesAt (now (text .entry))) names) (map (bytesAt (now (text2 .entry))) names2) ⌝ }
 {
     let mut seat = 0;
     while seat < 4 {
-        if !same_span(twin, text, names[seat], text2, names2[seat]) {
+        if !same_span(alike, text, names[seat], text2, names2[seat]) {
             return false;
         }
         seat += 1;
@@ -58,8 +58,8 @@ pub(crate) fn same_names(
 }
 
 // Whether two texts are the same, or both are absent.
-pub(crate) fn same_text(twin: bool, text: &[u8], x: MaybeSpan, text2: &[u8], y: MaybeSpan) -> bool
-    requires { ⌜ Twin twin (now text) (now text2) ⌝ }
+pub(crate) fn same_text(alike: bool, text: &[u8], x: MaybeSpan, text2: &[u8], y: MaybeSpan) -> bool
+    requires { ⌜ Alike alike (now text) (now text2) ⌝ }
     ensures { λ r. ⌜ r ≡ eqOption eqList (mapOption (bytesAt (now (text .entry))) (optionOf x)) (mapOption (bytesAt (now (text2 .entry))) (optionOf y)) ⌝ }
 {
     match x {
@@ -69,7 +69,7 @@ pub(crate) fn same_text(twin: bool, text: &[u8], x: MaybeSpan, text2: &[u8], y: 
         },
         MaybeSpan::Present(a) => match y {
             MaybeSpan::Absent => false,
-            MaybeSpan::Present(b) => same_span(twin, text, a, text2, b),
+            MaybeSpan::Present(b) => same_span(alike, text, a, text2, b),
         },
     }
 }
@@ -85,8 +85,8 @@ fn same_flag(a: u32, b: u32) -> bool
 }
 
 // Whether two calls have the same annotation, or none.
-fn same_annotation(twin: bool, text: &[u8], c: Call, text2: &[u8], d: Call) -> bool
-    requires { ⌜ Twin twin (now text) (now text2) ⌝ }
+fn same_annotation(alike: bool, text: &[u8], c: Call, text2: &[u8], d: Call) -> bool
+    requires { ⌜ Alike alike (now text) (now text2) ⌝ }
     ensures { λ r. ⌜ r ≡ eqOption eqList (callBytes (now (text .entry)) c .annotation) (callBytes (now (text2 .entry)) d .annotation) ⌝ }
 {
     if c.annotated == 0 {
@@ -95,21 +95,21 @@ fn same_annotation(twin: bool, text: &[u8], c: Call, text2: &[u8], d: Call) -> b
     if d.annotated == 0 {
         return false;
     }
-    same_span(twin, text, c.annotation, text2, d.annotation)
+    same_span(alike, text, c.annotation, text2, d.annotation)
 }
 
 // Whether two calls have the same bid, are both alerted or neither, and have the same annotation or none.
-fn same_call(twin: bool, text: &[u8], c: Call, text2: &[u8], d: Call) -> bool
-    requires { ⌜ Twin twin (now text) (now text2) ⌝ }
+fn same_call(alike: bool, text: &[u8], c: Call, text2: &[u8], d: Call) -> bool
+    requires { ⌜ Alike alike (now text) (now text2) ⌝ }
     ensures { λ r. ⌜ r ≡ eqCall (callBytes (now (text .entry)) c) (callBytes (now (text2 .entry)) d) ⌝ }
 {
-    if !same_span(twin, text, c.bid, text2, d.bid) {
+    if !same_span(alike, text, c.bid, text2, d.bid) {
         return false;
     }
     if !same_flag(c.alerted, d.alerted) {
         return false;
     }
-    same_annotation(twin, text, c, text2, d)
+    same_annotation(alike, text, c, text2, d)
 }
 
 // Whether two lists have the same words.
@@ -129,8 +129,8 @@ pub(crate) fn same_words(a: &[u32], b: &[u32]) -> bool
 }
 
 // Whether there are as many calls, and each is the same.
-fn each_same(twin: bool, text: &[u8], rows: &[u32], text2: &[u8], rows2: &[u32]) -> bool
-    requires { ⌜ Twin twin (now text) (now text2) ⌝ }
+fn each_same(alike: bool, text: &[u8], rows: &[u32], text2: &[u8], rows2: &[u32]) -> bool
+    requires { ⌜ Alike alike (now text) (now text2) ⌝ }
     ensures { λ r. ⌜ r ≡ eqAll eqCall (callsBytes (now (text .entry)) (now (rows .entry))) (callsBytes (now (text2 .entry)) (now (rows2 .entry))) ⌝ }
 {
     if rows.len() / 6 != rows2.len() / 6 {
@@ -138,7 +138,7 @@ fn each_same(twin: bool, text: &[u8], rows: &[u32], text2: &[u8], rows2: &[u32])
     }
     let mut i = 0;
     while 6 <= rows.len() - i {
-        if !same_call(twin, text, call_at(rows, i), text2, call_at(rows2, i)) {
+        if !same_call(alike, text, call_at(rows, i), text2, call_at(rows2, i)) {
             return false;
         }
         i += 6;
@@ -147,12 +147,18 @@ fn each_same(twin: bool, text: &[u8], rows: &[u32], text2: &[u8], rows2: &[u32])
 }
 
 // Whether the calls are the same. Those of the same rows over the same text are.
-pub(crate) fn same_calls(twin: bool, text: &[u8], rows: &[u32], text2: &[u8], rows2: &[u32]) -> bool
-    requires { ⌜ Twin twin (now text) (now text2) ⌝ }
+pub(crate) fn same_calls(
+    alike: bool,
+    text: &[u8],
+    rows: &[u32],
+    text2: &[u8],
+    rows2: &[u32],
+) -> bool
+    requires { ⌜ Alike alike (now text) (now text2) ⌝ }
     ensures { λ r. ⌜ r ≡ eqAll eqCall (callsBytes (now (text .entry)) (now (rows .entry))) (callsBytes (now (text2 .entry)) (now (rows2 .entry))) ⌝ }
 {
-    if twin & same_words(rows, rows2) {
+    if alike & same_words(rows, rows2) {
         return true;
     }
-    each_same(twin, text, rows, text2, rows2)
+    each_same(alike, text, rows, text2, rows2)
 }

@@ -5,8 +5,8 @@ use Rattle.equality.proofs.EqualityLaws.{unlike-names, unlike-dealt, un
 use Rattle.equality.proofs.boards.equal.Statement.{statement}
 use Rattle.equality.proofs.boards.equal.Tie as tie
 
-twins-requires : tie.Need-twins-requires
-twins-requires c κs = search needs
+texts-alike-requires : tie.Need-texts-alike-requires
+texts-alike-requires c κs = search needs
 
 same-names-requires : tie.Need-same-names-requires
 same-names-requires c κs = search needs
@@ -42,7 +42,7 @@ pub equal-spec : {M : Type 1} → statement M
 equal-spec =
     tie.close
     (tie.spec
-    twins-requires
+    texts-alike-requires
     same-names-requires
     returns
     same-dealt-requires

@@ -8,10 +8,10 @@ use Rattle.equality.proofs.texts.each_same.Statement.{statement}
 use Rattle.equality.proofs.texts.each_same.Tie as tie
 
 abbrev Inv-loop : tie.InvT-loop
-Inv-loop twin text rows text2 rows2 i₀ i = Rows text rows text2 rows2 i
+Inv-loop alike text rows text2 rows2 i₀ i = Rows text rows text2 rows2 i
 
 abbrev μ-loop : tie.MeasureT-loop
-μ-loop twin text rows text2 rows2 i₀ i = length rows - i
+μ-loop alike text rows text2 rows2 i₀ i = length rows - i
 
 returns : tie.Need-returns Inv-loop μ-loop
 returns c = rows-differ _ _ _ _ (c .if1 .taken)

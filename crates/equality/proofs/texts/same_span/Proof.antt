@@ -1,12 +1,12 @@
 -- `equality::same_span` meets its contract: what is compared is what the spans name.
 -- Assumes nothing.
 use borrow.Author.Needs.{needs}
-use Rattle.equality.proofs.EqualityLaws.{twin-span}
+use Rattle.equality.proofs.EqualityLaws.{alike-span}
 use Rattle.equality.proofs.texts.same_span.Statement.{statement}
 use Rattle.equality.proofs.texts.same_span.Tie as tie
 
 returns : tie.Need-returns
-returns c = let s = c .before .before .before .before .before .before .before in twin-span _ (s .args .x) _ (s .args .y) _ (s .pre) (c .if1 .taken)
+returns c = let s = c .before .before .before .before .before .before .before in alike-span _ (s .args .x) _ (s .args .y) _ (s .pre) (c .if1 .taken)
 
 shown-requires : tie.Need-shown-requires
 shown-requires c κs = search needs

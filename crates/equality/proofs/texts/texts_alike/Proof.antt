@@ -1,11 +1,11 @@
--- `equality::twins` meets its contract: it says true only of texts that were compared.
+-- `equality::texts_alike` meets its contract: it says true only of texts that were compared.
 -- Assumes nothing.
 use mathlib.Core.Path.{sym, _∙_}
 use mathlib.Core.Bool.{false≢true}
 use borrow.Author.Needs.{needs}
 use Rattle.lin_spec.proofs.Base.{eq-list}
-use Rattle.equality.proofs.texts.twins.Statement.{statement}
-use Rattle.equality.proofs.texts.twins.Tie as tie
+use Rattle.equality.proofs.texts.texts_alike.Statement.{statement}
+use Rattle.equality.proofs.texts.texts_alike.Tie as tie
 
 returns : tie.Need-returns
 returns c = λ e. absurd (false≢true e)
@@ -16,5 +16,5 @@ same-bytes-requires c κs = search needs
 returns-2 : tie.Need-returns-2
 returns-2 c = λ e. eq-list _ _ (sym (c .same-bytes .ensures) ∙ e)
 
-pub twins-spec : {M : Type 1} → statement M
-twins-spec = tie.close (tie.spec returns same-bytes-requires returns-2)
+pub texts-alike-spec : {M : Type 1} → statement M
+texts-alike-spec = tie.close (tie.spec returns same-bytes-requires returns-2)
