@@ -6,6 +6,7 @@ use cardtext::tricks_len;
 use cleaning::Marks;
 use cleaning::calls_len;
 use cleaning::put_calls;
+use dealtext::Sizes;
 use dealtext::md_len;
 use dealtext::put_md;
 use lent::Head;
@@ -18,7 +19,8 @@ use output::put_decimal;
 use output::sat_add;
 ghost use mathlib.Core.Path.{_≡_};
 ghost use mathlib.Core.Bool.{false};
-ghost use mathlib.Core.List.{_∷_, []};
+ghost use Prim.Native.Nat.{ℕ};
+ghost use mathlib.Core.List.{List, _∷_, []};
 ghost use lib.ListN.{length};
 ghost use Rattle.lin_spec.specs.Letters.{svLetter};
 ghost use Rattle.lin_spec.specs.Refusals.{sat};
@@ -28,6 +30,7 @@ ghost use Rattle.lin_spec.specs.Append.{writtenForm};
 ghost use Rattle.lent.specs.Heads.{boardOf};
 ghost use Rattle.lent.specs.declared.heads.Head.{Head};
 ghost use Rattle.output.specs.Put.{Room, Put};
+ghost use Rattle.dealtext.specs.Sizes.{Sized, Small};
 ghost use Rattle.boardtext.specs.Pieces.{claimedText, dealingText};
 ghost use Rattle.boardtext.specs.Filing.{filing};
 
@@ -52,25 +55,25 @@ fn put_sv(out: &mut [u8], at: usize, v: Vulnerability) -> usize
 }
 
 // Puts the deal and the vulnerability, and what begins the calls.
-fn put_dealing(out: &mut [u8], at: usize, head: Head, counts: &[u32; 208]) -> usize
-    requires { ⌜ Room (now out) at (dealingText (boardOf head (now counts))) × (length (now counts) ≡ 208) ⌝ }
+fn put_dealing(out: &mut [u8], at: usize, head: Head, counts: &[u32; 208], sizes: Sizes) -> usize
+    requires { ⌜ Room (now out) at (dealingText (boardOf head (now counts))) × Sized (now counts) sizes ⌝ }
     ensures { λ r. ⌜ Put (now (out .entry)) at (dealingText (boardOf head (now (counts .entry)))) (now (out .exit)) r ⌝ }
 {
     let dealer = head.dealer;
     let vulnerability = head.vulnerability;
     let a = put_bytes(out, at, &MD);
-    let b = put_md(out, a, dealer, counts);
+    let b = put_md(out, a, dealer, counts, sizes);
     let c = put_bytes(out, b, &SV);
     let d = put_sv(out, c, vulnerability);
     put_bytes(out, d, &SA)
 }
 
-// How many bytes they have.
-fn dealing_len(counts: &[u32; 208]) -> u64
-    requires { ⌜ length (now counts) ≡ 208 ⌝ }
-    ensures { λ r. ⌜ ((head : Head) → r ≡ sat (length (dealingText (boardOf head (now (counts .entry)))))) ⌝ }
+// How many bytes they have for a deal of these sizes.
+fn dealing_len(sizes: Sizes) -> u64
+    requires { ⌜ Small sizes ⌝ }
+    ensures { λ r. ⌜ ((head : Head) (counts : List ℕ) → Sized counts sizes → r ≡ sat (length (dealingText (boardOf head counts)))) ⌝ }
 {
-    sat_add(15, md_len(counts))
+    sat_add(15, md_len(sizes))
 }
 
 // Puts a claim that is made.
@@ -104,23 +107,24 @@ fn claim_len(claim: MaybeClaim) -> u64
     }
 }
 
-// Puts a board.
+// Puts a board whose deal has these sizes.
 pub fn put_board(
     out: &mut [u8],
     at: usize,
     text: &[u8],
     head: Head,
     counts: &[u32; 208],
+    sizes: Sizes,
     rows: &[u32],
     cards: &[u8],
     marks: Marks,
 ) -> usize
-    requires { ⌜ Room (now out) at (writtenForm (filing marks (now text) (boardOf head (now counts)) (now rows) (now cards))) × (badCards (now cards) ≡ false) × (length (now counts) ≡ 208) ⌝ }
+    requires { ⌜ Room (now out) at (writtenForm (filing marks (now text) (boardOf head (now counts)) (now rows) (now cards))) × (badCards (now cards) ≡ false) × Sized (now counts) sizes ⌝ }
     ensures { λ r. ⌜ Put (now (out .entry)) at (writtenForm (filing marks (now (text .entry)) (boardOf head (now (counts .entry))) (now (rows .entry)) (now (cards .entry)))) (now (out .exit)) r ⌝ }
 {
     let claim = head.claim;
     let a = put_heading(out, at, text, head, marks);
-    let b = put_dealing(out, a, head, counts);
+    let b = put_dealing(out, a, head, counts, sizes);
     let c = put_calls(out, b, text, rows, marks);
     let d = put_bytes(out, c, &PG);
     let e = put_tricks(out, d, cards);
@@ -131,16 +135,16 @@ pub fn put_board(
 pub fn board_len(
     text: &[u8],
     head: Head,
-    counts: &[u32; 208],
+    sizes: Sizes,
     rows: &[u32],
     cards: &[u8],
     marks: Marks,
 ) -> u64
-    requires { ⌜ length (now counts) ≡ 208 ⌝ }
-    ensures { λ r. ⌜ r ≡ sat (length (writtenForm (filing marks (now (text .entry)) (boardOf head (now (counts .entry))) (now (rows .entry)) (now (cards .entry))))) ⌝ }
+    requires { ⌜ Small sizes ⌝ }
+    ensures { λ r. ⌜ ((counts : List ℕ) → Sized counts sizes → r ≡ sat (length (writtenForm (filing marks (now (text .entry)) (boardOf head counts) (now (rows .entry)) (now (cards .entry)))))) ⌝ }
 {
     let claim = head.claim;
-    let a = sat_add(heading_len(text, head, marks), dealing_len(counts));
+    let a = sat_add(heading_len(text, head, marks), dealing_len(sizes));
     let b = sat_add(a, calls_len(text, rows));
     let c = sat_add(b, sat_add(5, tricks_len(cards)));
     sat_add(c, claim_len(claim))

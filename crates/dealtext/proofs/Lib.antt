@@ -1,3 +1,4 @@
 pub mod DealLaws
 pub mod EastLaws
 pub mod HandLaws
+pub mod SizeLaws

@@ -29,6 +29,10 @@ restOf d = remainder (handAt d South) (handAt d West) (handAt d North)
 unfoldable pub eastText : (deal : List ℕ) → List ℕ
 eastText d = pick (impliedEast d) [] (ascii "," ++ handText (handAt d East))
 
+-- the value of md where no card is held
+abbrev pub bareText : (dealer : Seat) → List ℕ
+bareText x = (dealerDigit x ∷ []) ++ ascii ",,,"
+
 -- the value of md
 abbrev pub mdPieces : (dealer : Seat) (deal : List ℕ) → List (List ℕ)
 mdPieces x d =

@@ -1,15 +1,16 @@
 // A hand as text: its suits, each with its ranks from A down, or nothing for an empty hand. (01: Writer, md)
-use cards::seat_sum;
 use cardtext::rank_letter;
 use cardtext::suit_letter;
 use lin_spec::Deal;
 use lin_spec::Seat;
 use output::put_byte;
 ghost use mathlib.Core.Path.{_≡_};
-ghost use Prim.Native.Nat.{_*_, _<_, _^_};
+ghost use mathlib.Core.List.{List};
+ghost use Prim.Native.Nat.{ℕ, _*_, _≤_, _<_, _^_};
 ghost use lib.ListN.{length, replicate};
 ghost use Rattle.lin_spec.specs.Records.{part};
-ghost use Rattle.lin_spec.specs.Letters.{handAt};
+ghost use Rattle.lin_spec.specs.Cards.{sum};
+ghost use Rattle.lin_spec.specs.Letters.{handAt, handLength};
 ghost use Rattle.lin_spec.specs.Writer.{ranksFrom, suitText, handText};
 ghost use Rattle.output.specs.Put.{Room, Put};
 ghost use Rattle.dealtext.specs.Hands.{suitsText};
@@ -72,22 +73,22 @@ fn put_suits(out: &mut [u8], at: usize, counts: &[u32; 208], seat: usize) -> usi
     put_suit(out, c, counts, seat, 3)
 }
 
-// Puts a seat's hand, nothing if it is empty.
-pub(crate) fn put_hand(out: &mut [u8], at: usize, counts: &[u32; 208], seat: Seat) -> usize
-    requires { ⌜ Room (now out) at (handText (handAt (now counts) seat)) ⌝ }
+// Puts a seat's hand of n cards, nothing if it is empty.
+pub(crate) fn put_hand(out: &mut [u8], at: usize, counts: &[u32; 208], seat: Seat, n: u64) -> usize
+    requires { ⌜ Room (now out) at (handText (handAt (now counts) seat)) × (n ≡ handLength (now counts) seat) ⌝ }
     ensures { λ r. ⌜ Put (now (out .entry)) at (handText (handAt (now (counts .entry)) seat)) (now (out .exit)) r ⌝ }
 {
-    if seat_sum(counts, seat) == 0 {
+    if n == 0 {
         return at;
     }
     put_suits(out, at, counts, seat.number())
 }
 
-// How many bytes a seat's hand has: a letter for each suit and each card, none if it is empty.
-pub(crate) fn hand_text_len(counts: &[u32; 208], seat: Seat) -> u64
-    ensures { λ r. ⌜ (r ≡ length (handText (handAt (now (counts .entry)) seat))) × (r < 2 ^ 39) ⌝ }
+// How many bytes a hand of n cards has: a letter for each suit and each card, none if it is empty.
+pub(crate) fn hand_text_len(n: u64) -> u64
+    requires { ⌜ n < 2 ^ 38 ⌝ }
+    ensures { λ r. ⌜ ((h : List ℕ) → length h ≤ 52 → n ≡ sum h → r ≡ length (handText h)) × (r < 2 ^ 39) ⌝ }
 {
-    let n = seat_sum(counts, seat);
     if n == 0 {
         return 0;
     }

@@ -6,18 +6,19 @@ use native.Mathlib.Omega.{arith}
 use mathlib.Core.Path.{_≡_, refl, ap, sym, _∙_}
 use mathlib.Core.Bool.{Bool, true, false, _&&_, _||_, not, false≢true, and-true, and-false, and-assoc, or-false}
 use mathlib.Core.List.{List, [], _∷_, map}
-use mathlib.Core.Option.{none, some}
+use mathlib.Core.Option.{Option, none, some}
 use lib.ListN.{length, getD, drop, drop-of-length-le, length-map}
 use lib.Seq.{drop-cons, drop-nil}
-use lib.Dec.{eqb}
-use borrow.Author.Tests.{eq-eqb, ne-eqb, lt-ltb, le-ltb}
-use Rattle.lin_spec.specs.Base.{pick, eqAll, eqList}
-use Rattle.lin_spec.specs.Records.{span, limit, bytesAt}
-use Rattle.lin_spec.specs.Refusals.{Answer, refuseIf, unless}
+use lib.Dec.{eqb, ltb}
+use borrow.Author.Tests.{eq-eqb, ne-eqb, eqb-true, lt-ltb, le-ltb}
+use Rattle.lin_spec.specs.Base.{pick, any, eqAll, eqList}
+use Rattle.lin_spec.specs.Records.{span, limit, bytesAt, optionOf}
+use Rattle.lin_spec.specs.Refusals.{Answer, refuseIf, unless, passesEnd, illSpan, spanNotUtf8}
 use Rattle.lin_spec.specs.Refusals.Answer.{refused, accepted}
+use Rattle.lin_spec.specs.Utf8.{utf8}
 use Rattle.lin_spec.specs.Board.{mapOption, mapCall, mapBoard}
 use Rattle.lin_spec.specs.Writer.{heldIn}
-use Rattle.lin_spec.specs.Lent.{callRows, callIn, Lent, lent, lentBoard, meaning}
+use Rattle.lin_spec.specs.Lent.{callRows, callIn, Lent, lent, lentBoard, meaning, spanIn, lentSpans, badNumber}
 use Rattle.lin_spec.specs.Equality.{eqOption, eqFlag, eqCall, sameDeal, equal, sameBoards}
 use Rattle.lin_spec.specs.declared.Span.{Span}
 use Rattle.lin_spec.specs.declared.Call.{Call}
@@ -26,14 +27,16 @@ use Rattle.lin_spec.specs.declared.Verdict.{Verdict}
 use Rattle.lin_spec.specs.declared.Verdict.the-variants.{Accepted, Refused}
 use Rattle.lin_spec.specs.declared.Refusal.{Refusal}
 use Rattle.lin_spec.specs.declared.Refusal.the-variants.{TextTooLong, OutOfRange, SpanPastEnd, SpanNotUtf8}
-use Rattle.lin_spec.proofs.Base.{split, eq-list, or-none}
-use Rattle.lin_spec.proofs.Checks.{unless-refused, unless-passed}
-use Rattle.lent.specs.Calls.{callAt}
-use Rattle.lent.specs.declared.checks.Faults.{Faults}
-use Rattle.lent.specs.Checks.{verdictOf, Found}
-use Rattle.lent.proofs.LentLaws.{rows-cons, rows-count, no-rows, rows-end, found-ill}
-use Rattle.equality.proofs.EqualityMeaning.{deal-self}
-use Rattle.equality.specs.Parts.{callBytes, callsBytes, sameDealt, sameTexts, samePlay, bothChecks, bothChecked}
+use Rattle.lin_spec.proofs.Base.{split, list-eq, eq-list, and-left, and-right}
+use Rattle.lin_spec.proofs.Checks.{unmet, unless-refused, unless-passed}
+use Rattle.lent.specs.Calls.{callAt, spansOf}
+use Rattle.lent.specs.declared.heads.Head.{Head}
+use Rattle.lent.specs.declared.checks.Bounds.{Bounds}
+use Rattle.lent.specs.Heads.{boardOf}
+use Rattle.lent.specs.Checks.{verdictOf, amiss, Bounded}
+use Rattle.lent.proofs.LentLaws.{rows-cons, rows-count, no-rows, rows-end, spans-any, head-any, amiss-ill, texts-ill}
+use Rattle.equality.proofs.EqualityMeaning.{all-self, call-self, deal-self}
+use Rattle.equality.specs.Parts.{Alike, callBytes, callsBytes, sameDealt, sameText, sameTexts, samePlay, mostChecks, mostChecked, unlikeBut}
 
 -- One part, and those after it: a part that differs decides, one that is the same leaves it to the others
 
@@ -64,6 +67,15 @@ module _ (left whole t next : Bool) (v : left ≡ whole) (e : left ≡ (t && nex
   pub turn-on : not t ≡ false → next ≡ whole
   turn-on h = and-pass t next next t refl h refl ∙ sym e ∙ v
 
+-- Lists that are not as long differ
+
+all-length : {A : Type 0} (f : A → A → Bool) (x y : List A) → (length x ≡ length y → ⊥) → false ≡ eqAll f x y
+unfolding eqAll
+all-length f [] [] h = absurd (h refl)
+all-length f [] (b ∷ y) h = refl
+all-length f (a ∷ x) [] h = refl
+all-length f (a ∷ x) (b ∷ y) h = sym (ap (λ (t : Bool). f a b && t) (sym (all-length f x y (λ e. h (omega arith)))) ∙ and-false (f a b))
+
 -- Numbers, one by one, all being looked at: t says whether those before i are the same
 
 module _ (a b : List ℕ) (l : length a ≡ length b) (i : ℕ) (t : Bool) (v : (t && eqList (drop i a) (drop i b)) ≡ eqList a b) where
@@ -77,6 +89,9 @@ module _ (a b : List ℕ) (l : length a ≡ length b) (i : ℕ) (t : Bool) (v : 
       and-assoc t (eqb (getD a i 0) (getD b i 0)) (eqList (drop (i + 1) a) (drop (i + 1) b))
       ∙ (let z : (t && eqList (drop i a) (drop i b)) ≡ (t && (eqb (getD a i 0) (getD b i 0) && eqList (drop (i + 1) a) (drop (i + 1) b))) = rw (add-one, drop-cons a i 0 h, drop-cons b i 0 (let k : i < length b = omega arith in k)) refl in sym z)
       ∙ v
+
+pub words-differ : (a b : List ℕ) → (length a ≡ length b → ⊥) → false ≡ eqList a b
+words-differ a b h = all-length eqb a b h
 
 -- two deals with the same counts are the same
 pub same-counts : (d e : List ℕ) → true ≡ eqList d e → true ≡ sameDeal d e
@@ -112,6 +127,17 @@ module _ (x y : List ℕ) (i : ℕ) (v : heldIn (drop i x) (drop i y) ≡ heldIn
 
     pub held-on : (not (eqb m 0) && eqb n 0) ≡ false → heldIn (drop (i + 1) x) (drop (i + 1) y) ≡ heldIn x y
     held-on h = turn-on _ _ (eqb m 0 || not (eqb n 0)) (heldIn (drop (i + 1) x) (drop (i + 1) y)) v held-cons (held-test (eqb m 0) (eqb n 0) false h)
+
+-- One place in two texts that are the same
+
+pub alike-span : (s : List ℕ) (x : Span) (t : List ℕ) (y : Span) (b : Bool) → Alike b s t → (b && (eqb (x .start) (y .start) && eqb (x .len) (y .len))) ≡ true
+    → true ≡ eqList (bytesAt s x) (bytesAt t y)
+alike-span s x t y b h e =
+    let p = h (and-left b (eqb (x .start) (y .start) && eqb (x .len) (y .len)) e) in
+    let q = and-right b (eqb (x .start) (y .start) && eqb (x .len) (y .len)) e in
+    let m = eqb-true (x .start) (y .start) (and-left (eqb (x .start) (y .start)) (eqb (x .len) (y .len)) q) in
+    let n = eqb-true (x .len) (y .len) (and-right (eqb (x .start) (y .start)) (eqb (x .len) (y .len)) q) in
+    rw (p, m, n) (sym (list-eq (bytesAt t y)))
 
 -- Names, seat by seat
 
@@ -171,13 +197,6 @@ module _ (s : List ℕ) (c : Call) (t : List ℕ) (d : Call) where
 
 -- Calls, row by row
 
-all-length : {A : Type 0} (f : A → A → Bool) (x y : List A) → (length x ≡ length y → ⊥) → false ≡ eqAll f x y
-unfolding eqAll
-all-length f [] [] h = absurd (h refl)
-all-length f [] (b ∷ y) h = refl
-all-length f (a ∷ x) [] h = refl
-all-length f (a ∷ x) (b ∷ y) h = sym (ap (λ (t : Bool). f a b && t) (sym (all-length f x y (λ e. h (omega arith)))) ∙ and-false (f a b))
-
 calls-length : (s ws : List ℕ) → length (callsBytes s ws) ≡ length (callRows ws)
 calls-length s ws = length-map (map callIn (callRows ws)) (mapCall (bytesAt s)) ∙ length-map (callRows ws) callIn
 
@@ -231,6 +250,13 @@ module _ (s ws t us : List ℕ) where
               same = turn-on _ _ r (callsFrom s ws t us (i + 6)) (v .same) rows-both q;
             }
 
+-- those of the same rows over the same text are the same
+pub calls-copied : (s ws t us : List ℕ) (b : Bool) → Alike b s t → (u : Bool) → u ≡ eqList ws us → (b && u) ≡ true → true ≡ eqAll eqCall (callsBytes s ws) (callsBytes t us)
+calls-copied s ws t us b h u e k =
+    sym (ap (λ (x : List ℕ). eqAll eqCall (callsBytes s ws) (callsBytes x us)) (sym (h (and-left b u k)))
+    ∙ ap (λ (x : List ℕ). eqAll eqCall (callsBytes s ws) (callsBytes s x)) (sym (eq-list ws us (sym e ∙ and-right b u k)))
+    ∙ all-self eqCall call-self (callsBytes s ws))
+
 -- The whole: its parts in order
 
 module _ (s : List ℕ) (b : Board) (ws cs t : List ℕ) (c : Board) (us ds : List ℕ) where
@@ -259,69 +285,162 @@ module _ (s : List ℕ) (b : Board) (ws cs t : List ℕ) (c : Board) (us ds : Li
           pub like-calls : not l ≡ false → (r : Bool) → r ≡ samePlay cs b ds c → r ≡ equal (meaning (lent s b ws cs)) (meaning (lent t c us ds))
           like-calls h r e = and-pass _ _ _ i ei hi (and-pass _ _ _ j ej hj (and-pass _ _ _ k ek hk (and-pass _ _ _ l el h e))) ∙ sym equal-is
 
--- The checks, by the tests that led there: 5 and 6 meet both boards or neither
+-- The checks, by the tests that led there: 5 meets both boards or neither
 
-both-of : (t a b c d c′ d′ : Bool) → ((a || b) ≡ false → (c ≡ c′) × (d ≡ d′))
-    → _≡_ {A = Answer Unit} (unless (refuseIf t OutOfRange ∷ refuseIf a SpanPastEnd ∷ refuseIf b SpanPastEnd ∷ refuseIf c SpanNotUtf8 ∷ refuseIf d SpanNotUtf8 ∷ []) tt)
-    (unless (refuseIf t OutOfRange ∷ refuseIf (a || b) SpanPastEnd ∷ refuseIf (c′ || d′) SpanNotUtf8 ∷ []) tt)
+most-of : (t a b c d : Bool) → (a ≡ false → c ≡ d)
+    → _≡_ {A = Answer Unit} (unless (refuseIf t OutOfRange ∷ refuseIf a SpanPastEnd ∷ refuseIf b SpanPastEnd ∷ refuseIf c SpanNotUtf8 ∷ []) tt)
+    (unless (refuseIf t OutOfRange ∷ refuseIf (a || b) SpanPastEnd ∷ refuseIf d SpanNotUtf8 ∷ []) tt)
 unfolding unless
-both-of true a b c d c′ d′ h = refl
-both-of false true b c d c′ d′ h = refl
-both-of false false true c d c′ d′ h = refl
-both-of false false false c d c′ d′ h = rw (h refl .0, h refl .1) (either c′ d′)
-  where
-    either : (u v : Bool) → _≡_ {A = Answer Unit} (unless (refuseIf u SpanNotUtf8 ∷ refuseIf v SpanNotUtf8 ∷ []) tt) (unless (refuseIf (u || v) SpanNotUtf8 ∷ []) tt)
-    either true v = refl
-    either false true = refl
-    either false false = refl
+most-of true a b c d h = refl
+most-of false true b c d h = refl
+most-of false false true c d h = refl
+most-of false false false c d h = rw (h refl) refl
 
 module _ (other : Bool) (x y : Lent) where
-  pub both-long : limit < length (x .text) → refused TextTooLong ≡ bothChecked other x y
-  unfolding unless bothChecks
-  both-long h = simp (lt-ltb limit (length (x .text)) h)
+  pub most-long : limit < length (x .text) → refused TextTooLong ≡ mostChecked other x y
+  unfolding unless mostChecks
+  most-long h = simp (lt-ltb limit (length (x .text)) h)
 
   module _ (h : length (x .text) ≤ limit) where
-    pub both-long-2 : limit < length (y .text) → refused TextTooLong ≡ bothChecked other x y
-    unfolding unless bothChecks
-    both-long-2 k = simp (le-ltb limit (length (x .text)) h, lt-ltb limit (length (y .text)) k)
+    pub most-long-2 : limit < length (y .text) → refused TextTooLong ≡ mostChecked other x y
+    unfolding unless mostChecks
+    most-long-2 k = simp (le-ltb limit (length (x .text)) h, lt-ltb limit (length (y .text)) k)
 
     module _ (k : length (y .text) ≤ limit) where
-      pub both-other : other ≡ true → refused OutOfRange ≡ bothChecked other x y
-      unfolding unless bothChecks
-      both-other o = simp (le-ltb limit (length (x .text)) h, le-ltb limit (length (y .text)) k, o)
+      pub most-other : other ≡ true → refused OutOfRange ≡ mostChecked other x y
+      unfolding unless mostChecks
+      most-other o = simp (le-ltb limit (length (x .text)) h, le-ltb limit (length (y .text)) k, o)
 
-      module _ (o : other ≡ false) (p q : Faults) (f : Found x p) (g : Found y q) where
-        both-found : bothChecked other x y ≡ unless (refuseIf (p .number || q .number) OutOfRange ∷ refuseIf (p .past || q .past) SpanPastEnd ∷ refuseIf (p .ill || q .ill) SpanNotUtf8 ∷ []) tt
-        unfolding unless bothChecks
-        both-found =
+      module _ (o : other ≡ false) (p q : Bounds) (f : Bounded x p) (g : Bounded y q) where
+        most-found : mostChecked other x y
+            ≡ unless (refuseIf (p .number || q .number) OutOfRange ∷ refuseIf (p .past || q .past) SpanPastEnd ∷ refuseIf (any (amiss (x .text)) (lentSpans x)) SpanNotUtf8 ∷ []) tt
+        unfolding unless mostChecks
+        most-found =
             simp (le-ltb limit (length (x .text)) h, le-ltb limit (length (y .text)) k, o, ← f .numbers, ← g .numbers, ← f .ends, ← g .ends)
-            (both-of (p .number || q .number) (p .past) (q .past) _ _ (p .ill) (q .ill) (λ e. let n = or-none (p .past) (q .past) e in (found-ill x p f (n .0), found-ill y q g (n .1))))
+            (most-of (p .number || q .number) (p .past) (q .past) _ _ (λ e. texts-ill x p f e _ refl))
 
-        pub both-number : (p .number || q .number) ≡ true → refused OutOfRange ≡ bothChecked other x y
+        pub most-number : (p .number || q .number) ≡ true → refused OutOfRange ≡ mostChecked other x y
         unfolding unless
-        both-number e = sym (both-found ∙ simp e)
+        most-number e = sym (most-found ∙ simp e)
 
         module _ (e : (p .number || q .number) ≡ false) where
-          pub both-past : (p .past || q .past) ≡ true → refused SpanPastEnd ≡ bothChecked other x y
+          pub most-past : (p .past || q .past) ≡ true → refused SpanPastEnd ≡ mostChecked other x y
           unfolding unless
-          both-past i = sym (both-found ∙ simp (e, i))
+          most-past i = sym (most-found ∙ simp (e, i))
 
-          module _ (i : (p .past || q .past) ≡ false) where
-            pub both-ill : (p .ill || q .ill) ≡ true → refused SpanNotUtf8 ≡ bothChecked other x y
+          module _ (i : (p .past || q .past) ≡ false) (t : Bool) (et : t ≡ any (amiss (x .text)) (lentSpans x)) where
+            pub most-ill : t ≡ true → refused SpanNotUtf8 ≡ mostChecked other x y
             unfolding unless
-            both-ill j = sym (both-found ∙ simp (e, i, j))
+            most-ill j = sym (most-found ∙ simp (e, i, ← et, j))
 
-            pub both-good : (p .ill || q .ill) ≡ false → accepted tt ≡ bothChecked other x y
+            pub most-good : t ≡ false → accepted tt ≡ mostChecked other x y
             unfolding unless
-            both-good j = sym (both-found ∙ simp (e, i, j))
+            most-good j = sym (most-found ∙ simp (e, i, ← et, j))
 
--- The answer
+-- what they have shown where none meets the call
+most-passed : {A : Type 0} (other : Bool) (x y : Lent) (a b : A) → unless (mostChecks other x y) a ≡ accepted b
+    → (any (passesEnd (y .text)) (lentSpans y) ≡ false) × (any (illSpan (x .text)) (lentSpans x) ≡ false)
+unfolding mostChecks
+most-passed other x y a b h =
+    let p = unmet (ltb limit (length (x .text))) _ _ _ _ h in
+    let q = unmet (ltb limit (length (y .text))) _ _ _ _ (p .1) in
+    let r = unmet (other || (badNumber x || badNumber y)) _ _ _ _ (q .1) in
+    let u = unmet (any (passesEnd (x .text)) (lentSpans x)) _ _ _ _ (r .1) in
+    let v = unmet _ _ _ _ _ (u .1) in
+    let w = unmet _ _ _ _ _ (v .1) in
+    (v .0, w .0)
 
-module _ (other : Bool) (x y : Lent) (v : Verdict) (e : verdictOf v ≡ bothChecked other x y) where
-  pub same-refused : (r : Refusal) → v ≡ Refused r → refused r ≡ sameBoards other x y
-  unfolding sameBoards bothChecks
-  same-refused r f = sym (unless-refused (bothChecks other x y) [] tt (equal (meaning x) (meaning y)) r (sym e ∙ ap verdictOf f))
+module _ (other : Bool) (x y : Lent) (e : mostChecked other x y ≡ accepted tt) where
+  -- what is left then is 6 of the second board, and the comparison
+  same-left : sameBoards other x y ≡ unless (spanNotUtf8 (y .text) (lentSpans y) ∷ []) (equal (meaning x) (meaning y))
+  unfolding sameBoards mostChecks
+  same-left = unless-passed (mostChecks other x y) (spanNotUtf8 (y .text) (lentSpans y) ∷ []) tt tt (equal (meaning x) (meaning y)) e
 
-  pub same-answered : v ≡ Accepted → (t : Bool) → t ≡ equal (meaning x) (meaning y) → accepted t ≡ sameBoards other x y
-  unfolding sameBoards unless bothChecks
-  same-answered f t g = sym (unless-passed (bothChecks other x y) [] tt tt (equal (meaning x) (meaning y)) (sym e ∙ ap verdictOf f) ∙ ap accepted (sym g))
+  pub same-equal : (t : Bool) → t ≡ equal (meaning x) (meaning y) → t ≡ true → any (illSpan (x .text)) (lentSpans x) ≡ any (illSpan (y .text)) (lentSpans y)
+      → accepted true ≡ sameBoards other x y
+  unfolding unless
+  same-equal t g k h = sym (same-left ∙ simp (← h, most-passed other x y tt tt e .1, ← g, k))
+
+  pub same-unlike : (t : Bool) → t ≡ equal (meaning x) (meaning y) → t ≡ false → unlikeBut y ≡ sameBoards other x y
+  unfolding unless
+  same-unlike t g k = sym (same-left ∙ simp (← g, k, amiss-ill (y .text) (lentSpans y) (most-passed other x y tt tt e .0)) (go (any (illSpan (y .text)) (lentSpans y))))
+    where
+      go : (u : Bool) → _≡_ {A = Answer Bool} (unless (refuseIf u SpanNotUtf8 ∷ []) false) (pick u (refused SpanNotUtf8) (accepted false))
+      go true = refl
+      go false = refl
+
+-- The answer of a call that a check meets
+
+pub same-refused : (other : Bool) (x y : Lent) (v : Verdict) → verdictOf v ≡ mostChecked other x y → (r : Refusal) → v ≡ Refused r → refused r ≡ sameBoards other x y
+unfolding sameBoards mostChecks
+same-refused other x y v e r f = sym (unless-refused (mostChecks other x y) (spanNotUtf8 (y .text) (lentSpans y) ∷ []) tt (equal (meaning x) (meaning y)) r (sym e ∙ ap verdictOf f))
+
+pub most-accepted : (other : Bool) (x y : Lent) (v : Verdict) → verdictOf v ≡ mostChecked other x y → v ≡ Accepted → mostChecked other x y ≡ accepted tt
+most-accepted other x y v e f = sym e ∙ ap verdictOf f
+
+-- Texts of boards that are equal: what is UTF-8 in one is in the other
+
+module _ (s t : List ℕ) where
+  span-ill : (x y : Span) → eqList (bytesAt s x) (bytesAt t y) ≡ true → illSpan s x ≡ illSpan t y
+  span-ill x y h = ap (λ (z : List ℕ). not (utf8 z)) (eq-list (bytesAt s x) (bytesAt t y) h)
+
+  option-ill : (x y : Option Span) → eqOption eqList (mapOption (bytesAt s) x) (mapOption (bytesAt t) y) ≡ true → any (illSpan s) (spanIn x) ≡ any (illSpan t) (spanIn y)
+  unfolding any
+  option-ill none none h = refl
+  option-ill none (some y) h = absurd (false≢true h)
+  option-ill (some x) none h = absurd (false≢true h)
+  option-ill (some x) (some y) h = rw (span-ill x y h) refl
+
+  names-ill : (x y : List Span) → eqAll eqList (map (bytesAt s) x) (map (bytesAt t) y) ≡ true → any (illSpan s) x ≡ any (illSpan t) y
+  unfolding any eqAll
+  names-ill [] [] h = refl
+  names-ill [] (b ∷ y) h = absurd (false≢true h)
+  names-ill (a ∷ x) [] h = absurd (false≢true h)
+  names-ill (a ∷ x) (b ∷ y) h =
+      let p = and-left (eqList (bytesAt s a) (bytesAt t b)) (eqAll eqList (map (bytesAt s) x) (map (bytesAt t) y)) h in
+      let q = and-right (eqList (bytesAt s a) (bytesAt t b)) (eqAll eqList (map (bytesAt s) x) (map (bytesAt t) y)) h in
+      rw (span-ill a b p, names-ill x y q) refl
+
+  call-ill : (c d : Call) → eqCall (callBytes s c) (callBytes t d) ≡ true → any (illSpan s) (spansOf c) ≡ any (illSpan t) (spansOf d)
+  unfolding any eqCall
+  call-ill c d h =
+      let p = and-left (eqList (bytesAt s (c .bid)) (bytesAt t (d .bid))) _ h in
+      let q = and-right (eqFlag (callIn c .alerted) (callIn d .alerted)) _ (and-right (eqList (bytesAt s (c .bid)) (bytesAt t (d .bid))) _ h) in
+      rw (span-ill (c .bid) (d .bid) p, option-ill (callIn c .annotation) (callIn d .annotation) q) refl
+
+  calls-ill : (x y : List Call) → eqAll eqCall (map (mapCall (bytesAt s)) (map callIn x)) (map (mapCall (bytesAt t)) (map callIn y)) ≡ true
+      → any (λ c. any (illSpan s) (spansOf c)) x ≡ any (λ c. any (illSpan t) (spansOf c)) y
+  unfolding any eqAll
+  calls-ill [] [] h = refl
+  calls-ill [] (b ∷ y) h = absurd (false≢true h)
+  calls-ill (a ∷ x) [] h = absurd (false≢true h)
+  calls-ill (a ∷ x) (b ∷ y) h =
+      let p = and-left (eqCall (callBytes s a) (callBytes t b)) _ h in
+      let q = and-right (eqCall (callBytes s a) (callBytes t b)) _ h in
+      rw (call-ill a b p, calls-ill x y q) refl
+
+module _ (s : List ℕ) (h : Head) (ds ws cs t : List ℕ) (k : Head) (es us fs : List ℕ) where
+  pub equal-ill : equal (meaning (lent s (boardOf h ds) ws cs)) (meaning (lent t (boardOf k es) us fs)) ≡ true
+      → any (illSpan s) (lentSpans (lent s (boardOf h ds) ws cs)) ≡ any (illSpan t) (lentSpans (lent t (boardOf k es) us fs))
+  equal-ill e =
+      let names = eqAll eqList (map (bytesAt s) (h .names)) (map (bytesAt t) (k .names)) in
+      let dealt = sameDealt (boardOf h ds) (boardOf k es) in
+      let texts = sameTexts s (boardOf h ds) t (boardOf k es) in
+      let title = sameText s (h .title) t (k .title) in
+      let room = sameText s (h .«room_board») t (k .«room_board») in
+      let calls = eqAll eqCall (callsBytes s ws) (callsBytes t us) in
+      let a = sym (equal-is s (boardOf h ds) ws cs t (boardOf k es) us fs) ∙ e in
+      let b = and-right dealt _ (and-right names _ a) in
+      let c = and-left texts _ b in
+      let d = and-right title _ c in
+      rw (
+        spans-any (illSpan s) s h ds ws cs,
+        spans-any (illSpan t) t k es us fs,
+        head-any (illSpan s) h,
+        head-any (illSpan t) k,
+        names-ill s t (h .names) (k .names) (and-left names _ a),
+        option-ill s t (optionOf (h .title)) (optionOf (k .title)) (and-left title _ c),
+        option-ill s t (optionOf (h .«room_board»)) (optionOf (k .«room_board»)) (and-left room _ d),
+        option-ill s t (optionOf (h .«board_header»)) (optionOf (k .«board_header»)) (and-right room _ d),
+        calls-ill s t (callRows ws) (callRows us) (and-left calls _ (and-right texts _ b)),
+      ) refl

@@ -3,12 +3,13 @@
 use Prim.Native.Nat.{ℕ}
 use mathlib.Core.Path.{_≡_, refl, sym, _∙_}
 use mathlib.Core.Bool.{Bool, true, false, _||_, not}
-use mathlib.Core.List.{List, [], _∷_}
+use mathlib.Core.List.{List, [], _∷_, _++_}
 use mathlib.Core.Option.{Option, none, some}
 use lib.Dec.{eqb}
 use borrow.Author.Tests.{eq-eqb}
 use Rattle.lin_spec.specs.Base.{ascii, any, eqAll, eqList, starts}
 use Rattle.lin_spec.specs.Records.{part}
+use Rattle.lin_spec.specs.Refusals.{spanNotUtf8}
 use Rattle.lin_spec.specs.Refusals.Answer.{accepted}
 use Rattle.lin_spec.specs.Utf8.{encode}
 use Rattle.lin_spec.specs.White.{whiteSpace, front, whiteAt, skipWhite, trimStart, blank, trimEnd, trim, lower, sameWord, isCommand}
@@ -17,15 +18,15 @@ use Rattle.lin_spec.specs.Cards.{indexOf, suitOf, rankOf, sum, handFrom, readHa
 use Rattle.lin_spec.specs.Board.{CallOf, BoardOf, dealerOf, readMd, over, undealt, boardFrom}
 use Rattle.lin_spec.specs.Reading.{parseLin}
 use Rattle.lin_spec.specs.Writer.{heldIn}
-use Rattle.lin_spec.specs.Lent.{Lent, meaning}
+use Rattle.lin_spec.specs.Lent.{Lent, lentSpans, meaning}
 use Rattle.lin_spec.specs.Equality.{eqOption, eqFlag, eqCall, sameDeal, equal, sameBoards}
 use Rattle.lin_spec.proofs.Base.{list-eq}
 use Rattle.lin_spec.proofs.Checks.{unless-same}
-use Rattle.equality.specs.Parts.{bothChecks}
+use Rattle.equality.specs.Parts.{mostChecks}
 
 -- A board equals itself
 
-all-self : {A : Type 0} (f : A → A → Bool) → ((a : A) → f a a ≡ true) → (x : List A) → eqAll f x x ≡ true
+pub all-self : {A : Type 0} (f : A → A → Bool) → ((a : A) → f a a ≡ true) → (x : List A) → eqAll f x x ≡ true
 unfolding eqAll
 all-self f h [] = refl
 all-self f h (a ∷ x) = simp (h a, all-self f h x)
@@ -41,7 +42,7 @@ flag-self false = refl
 number-self : (n : ℕ) → eqb n n ≡ true
 number-self n = eq-eqb n n refl
 
-call-self : (c : CallOf (List ℕ)) → eqCall c c ≡ true
+pub call-self : (c : CallOf (List ℕ)) → eqCall c c ≡ true
 unfolding eqCall
 call-self c = simp (list-eq (c .bid), flag-self (c .alerted), option-self eqList list-eq (c .annotation))
 
@@ -75,8 +76,8 @@ equal-self b =
 
 -- so a call that is lent one board twice, and accepted, says so
 pub same-self : (other : Bool) (x : Lent) (t : Bool) → sameBoards other x x ≡ accepted t → t ≡ true
-unfolding sameBoards bothChecks
-same-self other x t h = sym (unless-same (bothChecks other x x) (equal (meaning x) (meaning x)) t h) ∙ equal-self (meaning x)
+unfolding sameBoards mostChecks
+same-self other x t h = sym (unless-same (mostChecks other x x ++ (spanNotUtf8 (x .text) (lentSpans x) ∷ [])) (equal (meaning x) (meaning x)) t h) ∙ equal-self (meaning x)
 
 -- "lopsided for repeated cards": South's `SAA` equals `SAK`, which holds each of its cards, and not the other way round
 pub lopsided : (equal (parseLin (ascii "md|1SAA|")) (parseLin (ascii "md|1SAK|")) ≡ true) × (equal (parseLin (ascii "md|1SAK|")) (parseLin (ascii "md|1SAA|")) ≡ false)

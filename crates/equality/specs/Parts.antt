@@ -1,12 +1,14 @@
 -- The comparison of two lent boards in parts, and the checks of both. (01: equality; Eight refusals)
 use Prim.Native.Nat.{ℕ}
-use mathlib.Core.Bool.{Bool, _&&_, _||_}
+use mathlib.Core.Path.{_≡_}
+use mathlib.Core.Bool.{Bool, true, false, _&&_, _||_}
 use mathlib.Core.List.{List, [], _∷_, map}
 use mathlib.Core.Option.{Option}
 use lib.Dec.{eqb}
-use Rattle.lin_spec.specs.Base.{eqList}
+use Rattle.lin_spec.specs.Base.{pick, any, eqList}
 use Rattle.lin_spec.specs.Records.{bytesAt, optionOf}
 use Rattle.lin_spec.specs.Refusals.{Answer, refuseIf, unless, tooLong, pastEnd, spanNotUtf8}
+use Rattle.lin_spec.specs.Refusals.Answer.{refused, accepted}
 use Rattle.lin_spec.specs.Letters.{seatNumber, svLetter}
 use Rattle.lin_spec.specs.Board.{CallOf, mapOption, mapCall}
 use Rattle.lin_spec.specs.Lent.{callRows, callIn, Lent, claimOf, lentSpans, badNumber}
@@ -15,7 +17,12 @@ use Rattle.lin_spec.specs.declared.MaybeSpan.{MaybeSpan}
 use Rattle.lin_spec.specs.declared.Call.{Call}
 use Rattle.lin_spec.specs.declared.Board.{Board}
 use Rattle.lin_spec.specs.declared.Refusal.{Refusal}
-use Rattle.lin_spec.specs.declared.Refusal.the-variants.{OutOfRange}
+use Rattle.lin_spec.specs.declared.Refusal.the-variants.{OutOfRange, SpanNotUtf8}
+use Rattle.lent.specs.Checks.{amiss}
+
+-- t is true only of texts that are the same
+abbrev pub Alike : (t : Bool) (s s2 : List ℕ) → Type 0
+Alike t s s2 = t ≡ true → s ≡ s2
 
 -- a call with its texts as bytes, and the calls of the rows
 abbrev pub callBytes : (s : List ℕ) → Call → CallOf (List ℕ)
@@ -41,17 +48,20 @@ sameTexts s b t c =
 abbrev pub samePlay : (cards : List ℕ) → Board → (cards2 : List ℕ) → Board → Bool
 samePlay cs b ds c = eqList cs ds && eqOption eqb (claimOf (b .claim)) (claimOf (c .claim))
 
--- "Each is checked over the whole input before the next"
-unfoldable pub bothChecks : (other : Bool) (x y : Lent) → List (Option Refusal)
-bothChecks other x y =
+-- "Each is checked over the whole input before the next": the checks of both but the last, 6 of the second
+unfoldable pub mostChecks : (other : Bool) (x y : Lent) → List (Option Refusal)
+mostChecks other x y =
     tooLong (x .text)
     ∷ tooLong (y .text)
     ∷ refuseIf (other || (badNumber x || badNumber y)) OutOfRange
     ∷ pastEnd (x .text) (lentSpans x)
     ∷ pastEnd (y .text) (lentSpans y)
     ∷ spanNotUtf8 (x .text) (lentSpans x)
-    ∷ spanNotUtf8 (y .text) (lentSpans y)
     ∷ []
 
-abbrev pub bothChecked : (other : Bool) (x y : Lent) → Answer Unit
-bothChecked other x y = unless (bothChecks other x y) tt
+abbrev pub mostChecked : (other : Bool) (x y : Lent) → Answer Unit
+mostChecked other x y = unless (mostChecks other x y) tt
+
+-- the answer where they pass and the boards differ
+abbrev pub unlikeBut : Lent → Answer Bool
+unlikeBut y = pick (any (amiss (y .text)) (lentSpans y)) (refused SpanNotUtf8) (accepted false)

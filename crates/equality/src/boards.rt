@@ -3,10 +3,12 @@ use crate::hands::same_deal;
 use crate::texts::same_calls;
 use crate::texts::same_names;
 use crate::texts::same_text;
+use crate::texts::texts_alike;
 use compare::same_bytes;
 use lent::Head;
-use lent::faults_of;
+use lent::bounds_of;
 use lent::head_of;
+use lent::ill_texts;
 use lin_spec::Board;
 use lin_spec::Equality;
 use lin_spec::LIMIT;
@@ -22,7 +24,7 @@ ghost use Rattle.lin_spec.specs.Lent.{lent, claimOf, meaning};
 ghost use Rattle.lin_spec.specs.Equality.{equalityOf, eqOption, equal as equalTo, sameBoards, sameBoard};
 ghost use Rattle.lent.specs.Heads.{boardOf};
 ghost use Rattle.lent.specs.Checks.{verdictOf};
-ghost use Rattle.equality.specs.Parts.{bothChecked, sameDealt, sameTexts, samePlay};
+ghost use Rattle.equality.specs.Parts.{Alike, mostChecked, unlikeBut, sameDealt, sameTexts, samePlay};
 
 // Whether the claims are the same, or both are absent.
 fn same_claim(a: MaybeClaim, b: MaybeClaim) -> bool
@@ -42,7 +44,6 @@ fn same_claim(a: MaybeClaim, b: MaybeClaim) -> bool
 
 // Whether dealer, deal and vulnerability are the same.
 fn same_dealt(head: Head, counts: &[u32; 208], head2: Head, counts2: &[u32; 208]) -> bool
-    requires { ⌜ (length (now counts) ≡ 208) × (length (now counts2) ≡ 208) ⌝ }
     ensures { λ r. ⌜ r ≡ sameDealt (boardOf head (now (counts .entry))) (boardOf head2 (now (counts2 .entry))) ⌝ }
 {
     let dealer = head.dealer;
@@ -59,22 +60,23 @@ fn same_dealt(head: Head, counts: &[u32; 208], head2: Head, counts2: &[u32; 208]
 }
 
 // Whether title, room and header are the same.
-fn same_texts(text: &[u8], head: Head, text2: &[u8], head2: Head) -> bool
+fn same_texts(alike: bool, text: &[u8], head: Head, text2: &[u8], head2: Head) -> bool
+    requires { ⌜ Alike alike (now text) (now text2) ⌝ }
     ensures { λ r. ⌜ r ≡ sameTexts (now (text .entry)) (boardOf head []) (now (text2 .entry)) (boardOf head2 []) ⌝ }
 {
     let title = head.title;
     let title2 = head2.title;
-    if !same_text(text, title, text2, title2) {
+    if !same_text(alike, text, title, text2, title2) {
         return false;
     }
     let room_board = head.room_board;
     let room_board2 = head2.room_board;
-    if !same_text(text, room_board, text2, room_board2) {
+    if !same_text(alike, text, room_board, text2, room_board2) {
         return false;
     }
     let board_header = head.board_header;
     let board_header2 = head2.board_header;
-    same_text(text, board_header, text2, board_header2)
+    same_text(alike, text, board_header, text2, board_header2)
 }
 
 // Whether cards and claim are the same.
@@ -102,27 +104,27 @@ fn equal(
     rows2: &[u32],
     cards2: &[u8],
 ) -> bool
-    requires { ⌜ (length (now counts) ≡ 208) × (length (now counts2) ≡ 208) ⌝ }
     ensures { λ r. ⌜ r ≡ equalTo (meaning (lent (now (text .entry)) (boardOf head (now (counts .entry))) (now (rows .entry)) (now (cards .entry)))) (meaning (lent (now (text2 .entry)) (boardOf head2 (now (counts2 .entry))) (now (rows2 .entry)) (now (cards2 .entry)))) ⌝ }
 {
+    let alike = texts_alike(text, rows, text2);
     let names = head.names;
     let names2 = head2.names;
-    if !same_names(text, names, text2, names2) {
+    if !same_names(alike, text, names, text2, names2) {
         return false;
     }
     if !same_dealt(head, counts, head2, counts2) {
         return false;
     }
-    if !same_texts(text, head, text2, head2) {
+    if !same_texts(alike, text, head, text2, head2) {
         return false;
     }
-    if !same_calls(text, rows, text2, rows2) {
+    if !same_calls(alike, text, rows, text2, rows2) {
         return false;
     }
     same_play(cards, head, cards2, head2)
 }
 
-// The first of the checks that meets the call, each over both boards before the next, whatever the deals.
+// The first of the checks that meets the call, each over both boards before the next but 6, which is over the first, whatever the deals.
 fn check_both(
     other: bool,
     text: &[u8],
@@ -134,7 +136,7 @@ fn check_both(
     rows2: &[u32],
     cards2: &[u8],
 ) -> Verdict
-    ensures { λ r. ⌜ ((counts counts2 : List ℕ) → verdictOf r ≡ bothChecked other (lent (now (text .entry)) (boardOf head counts) (now (rows .entry)) (now (cards .entry))) (lent (now (text2 .entry)) (boardOf head2 counts2) (now (rows2 .entry)) (now (cards2 .entry)))) ⌝ }
+    ensures { λ r. ⌜ ((counts counts2 : List ℕ) → verdictOf r ≡ mostChecked other (lent (now (text .entry)) (boardOf head counts) (now (rows .entry)) (now (cards .entry))) (lent (now (text2 .entry)) (boardOf head2 counts2) (now (rows2 .entry)) (now (cards2 .entry)))) ⌝ }
 {
     if LIMIT < text.len() {
         return Verdict::Refused(Refusal::TextTooLong);
@@ -145,22 +147,32 @@ fn check_both(
     if other {
         return Verdict::Refused(Refusal::OutOfRange);
     }
-    let a = faults_of(text, head, rows, cards);
-    let b = faults_of(text2, head2, rows2, cards2);
+    let a = bounds_of(text, head, rows, cards);
+    let b = bounds_of(text2, head2, rows2, cards2);
     if a.number | b.number {
         return Verdict::Refused(Refusal::OutOfRange);
     }
     if a.past | b.past {
         return Verdict::Refused(Refusal::SpanPastEnd);
     }
-    if a.ill | b.ill {
+    if ill_texts(text, head, rows) {
         return Verdict::Refused(Refusal::SpanNotUtf8);
     }
     Verdict::Accepted
 }
 
+// The answer for two boards that differ, if the checks of both but 6 of the second have passed.
+fn unlike(text2: &[u8], head2: Head, rows2: &[u32]) -> Equality
+    ensures { λ r. ⌜ ((counts2 cards2 : List ℕ) → equalityOf r ≡ unlikeBut (lent (now (text2 .entry)) (boardOf head2 counts2) (now (rows2 .entry)) cards2)) ⌝ }
+{
+    if ill_texts(text2, head2, rows2) {
+        return Equality::Refused(Refusal::SpanNotUtf8);
+    }
+    Equality::Different
+}
+
 // Whether the first board equals the second, each without its deal and with the counts of its deal. `other` says whether another number of the call
-// is outside its range.
+// is outside its range. A board that equals one whose texts are UTF-8 has texts that are, so 6 is looked for in the second only where they differ.
 pub fn same_heads(
     other: bool,
     text: &[u8],
@@ -195,7 +207,7 @@ pub fn same_heads(
     ) {
         return Equality::Equal;
     }
-    Equality::Different
+    unlike(text2, head2, rows2)
 }
 
 // Whether the first board equals the second; each card of the first board's hands is looked for in the second's.

@@ -1,10 +1,9 @@
 // Hands and deals compared by their counts: `same_cards`, which is lopsided for repeated cards. (01: equality)
+use crate::texts::same_words;
 use cards::seat_sum;
 use lin_spec::Deal;
 use lin_spec::Seat;
 ghost use mathlib.Core.Path.{_≡_};
-ghost use lib.ListN.{length};
-ghost use Rattle.lin_spec.specs.Base.{eqList};
 ghost use Rattle.lin_spec.specs.Letters.{handAt};
 ghost use Rattle.lin_spec.specs.Writer.{heldIn, sameCards};
 ghost use Rattle.lin_spec.specs.Equality.{sameDeal};
@@ -50,26 +49,11 @@ fn same_hands(counts: &[u32; 208], other: &[u32; 208]) -> bool
     same_cards(counts, other, Seat::East)
 }
 
-// Whether all counts are the same.
-fn same_counts(counts: &[u32; 208], other: &[u32; 208]) -> bool
-    requires { ⌜ (length (now counts) ≡ 208) × (length (now other) ≡ 208) ⌝ }
-    ensures { λ r. ⌜ r ≡ eqList (now (counts .entry)) (now (other .entry)) ⌝ }
-{
-    let mut same = true;
-    let mut c = 0;
-    while c < 208 {
-        same = same & (counts[c] == other[c]);
-        c += 1;
-    }
-    same
-}
-
 // Whether each seat's hands are so. Most deals that are have the same counts.
 pub(crate) fn same_deal(counts: &[u32; 208], other: &[u32; 208]) -> bool
-    requires { ⌜ (length (now counts) ≡ 208) × (length (now other) ≡ 208) ⌝ }
     ensures { λ r. ⌜ r ≡ sameDeal (now (counts .entry)) (now (other .entry)) ⌝ }
 {
-    if same_counts(counts, other) {
+    if same_words(counts, other) {
         return true;
     }
     same_hands(counts, other)

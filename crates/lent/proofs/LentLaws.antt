@@ -4,13 +4,14 @@ use Prim.Native.Nat.{ℕ, _+_, _-_, _/_, _≤_, _<_}
 use native.Mathlib.Numerals.{add-one}
 use native.Mathlib.Omega.{arith}
 use mathlib.Core.Path.{_≡_, refl, ap, sym, _∙_, subst}
-use mathlib.Core.Bool.{Bool, true, false, _||_, or-assoc, or-false}
+use mathlib.Core.Bool.{Bool, true, false, _&&_, _||_, not, or-assoc, or-false}
 use mathlib.Core.List.{List, [], _∷_, _++_, map}
-use mathlib.Core.Option.{Option}
+use mathlib.Core.Option.{Option, none, some}
 use lib.ListN.{length, getD, drop, drop-of-length-le, length-drop}
 use lib.Seq.{drop-cons}
+use lib.Dec.{eqb}
 use borrow.Author.Tests.{eq-eqb, ne-eqb, lt-ltb, le-ltb, ltb-false}
-use Rattle.lin_spec.specs.Base.{any}
+use Rattle.lin_spec.specs.Base.{pick, any}
 use Rattle.lin_spec.specs.Records.{limit, endOf, optionOf}
 use Rattle.lin_spec.specs.Refusals.{unless, passesEnd, illSpan}
 use Rattle.lin_spec.specs.Refusals.Answer.{refused, accepted}
@@ -30,11 +31,11 @@ use Rattle.lin_spec.proofs.Checks.{unmet, unless-refused, unless-passed}
 use Rattle.text.proofs.ListLaws.{next-word}
 use Rattle.lent.specs.Calls.{rowAt, callAt, spansOf}
 use Rattle.lent.specs.declared.heads.Head.{Head}
-use Rattle.lent.specs.declared.checks.Faults.{Faults}
+use Rattle.lent.specs.declared.checks.Bounds.{Bounds}
 use Rattle.lent.specs.declared.checks.Look.{Look}
-use Rattle.lent.specs.declared.checks.Look.the-variants.{Past, Ill, Torn}
+use Rattle.lent.specs.declared.checks.Look.the-variants.{Torn}
 use Rattle.lent.specs.Heads.{boardOf, headSpans}
-use Rattle.lent.specs.Checks.{verdictOf, checked, amiss, lookOf, WholeIfTorn, NotPast, RowsFound, Found}
+use Rattle.lent.specs.Checks.{verdictOf, checked, amiss, WholeIfTorn, RowsBounded, Bounded}
 
 pub no-rows : {A : Type 0} (cs : List A) → length cs ≡ 0 → cs ≡ []
 no-rows [] h = refl
@@ -110,16 +111,16 @@ module _ {A : Type 0} (g : ℕ → ℕ → ℕ → ℕ → ℕ → ℕ → A) (f
   unfolding any
   or-row h c q u e = or-assoc t u (any f (rowsOf g (drop (i + 6) ws))) ∙ (let z : (t || any f (rowsOf g (drop i ws))) ≡ (t || (u || any f (rowsOf g (drop (i + 6) ws)))) = rw (rows-front g ws i h, ← q, e) refl in sym z) ∙ v
 
--- The same of cards
+-- The same of the elements of any list
 
-module _ (f : ℕ → Bool) (xs : List ℕ) (i : ℕ) (t : Bool) (v : (t || any f (drop i xs)) ≡ any f xs) where
-  pub all-cards : length xs ≤ i → t ≡ any f xs
+module _ {A : Type 0} (f : A → Bool) (d : A) (xs : List A) (i : ℕ) (t : Bool) (v : (t || any f (drop i xs)) ≡ any f xs) where
+  pub all-each : length xs ≤ i → t ≡ any f xs
   unfolding any
-  all-cards h = sym (or-false t) ∙ (let z = rw (drop-of-length-le xs h) at v in z)
+  all-each h = sym (or-false t) ∙ (let z = rw (drop-of-length-le xs h) at v in z)
 
-  pub or-card : i < length xs → ((t || f (getD xs i 0)) || any f (drop (i + 1) xs)) ≡ any f xs
+  pub or-each : i < length xs → (u : Bool) → u ≡ f (getD xs i d) → ((t || u) || any f (drop (i + 1) xs)) ≡ any f xs
   unfolding any
-  or-card h = or-assoc t (f (getD xs i 0)) (any f (drop (i + 1) xs)) ∙ (let z : (t || any f (drop i xs)) ≡ (t || (f (getD xs i 0) || any f (drop (i + 1) xs))) = rw (add-one, drop-cons xs i 0 h) refl in sym z) ∙ v
+  or-each h u e = or-assoc t u (any f (drop (i + 1) xs)) ∙ (let z : (t || any f (drop i xs)) ≡ (t || (u || any f (drop (i + 1) xs))) = rw (add-one, drop-cons xs i d h, e) refl in sym z) ∙ v
 
 -- A text that may be absent
 
@@ -132,27 +133,15 @@ module _ (f : Span → Bool) (x : MaybeSpan) where
   unfolding any
   present-one y e = rw e (sym (or-false (f y)))
 
--- A look at a span, by the arm that the code is in
+-- A look at a span
 
-module _ (l : Look) (s : List ℕ) (x : Span) (u : Bool) (p : u ≡ passesEnd s x) where
-  -- every look sees that the span passes the end
-  pub look-past : u ≡ true → true ≡ lookOf l s x
-  look-past h = go l
-    where
-      go : (m : Look) → true ≡ lookOf m s x
-      go Past = sym h ∙ p
-      go Ill = rw (← p, h) refl
-      go Torn = rw (← p, h) refl
+module _ (s : List ℕ) (x : Span) (u : Bool) (p : u ≡ passesEnd s x) where
+  -- one that passes the end is not asked for 6
+  pub amiss-past : u ≡ true → true ≡ amiss s x
+  amiss-past h = rw (← p, h) refl
 
-  module _ (h : u ≡ false) where
-    pub look-end : l ≡ Past → false ≡ lookOf l s x
-    look-end e = rw e (sym h ∙ p)
-
-    pub look-ill : l ≡ Ill → (t : Bool) → t ≡ illSpan s x → t ≡ lookOf l s x
-    look-ill e t f = rw (e, ← p, h) f
-
-    pub look-torn : l ≡ Torn → (t : Bool) → t ≡ illSpan s x → t ≡ lookOf l s x
-    look-torn e t f = rw (e, ← p, h) f
+  pub amiss-within : u ≡ false → (t : Bool) → t ≡ illSpan s x → t ≡ amiss s x
+  amiss-within h t f = rw (← p, h) f
 
 pub look-whole : (l : Look) (s : List ℕ) → l ≡ Torn → WholeIfTorn l s → utf8 s ≡ true
 look-whole l s e h = subst (λ (n : Look). WholeIfTorn n s) e h
@@ -176,6 +165,15 @@ module _ (f : Span → Bool) (c : Call) where
     unfolding any
     call-annotated e = simp (h, ne-eqb _ _ e, or-false)
 
+  -- both by one test
+  pub call-either : (t u : Bool) → t ≡ f (c .bid) → u ≡ f (c .annotation) → (t || (not (eqb (c .annotated) 0) && u)) ≡ any f (spansOf c)
+  unfolding any
+  call-either t u et eu = rw (et, eu) (ap (λ (w : Bool). f (c .bid) || w) (go (eqb (c .annotated) 0)))
+    where
+      go : (b : Bool) → (not b && f (c .annotation)) ≡ any f (spanIn (pick b none (some (c .annotation))))
+      go true = refl
+      go false = sym (or-false (f (c .annotation)))
+
 -- All spans: the names, the texts that may be absent, and those of the calls
 
 any-append : {A : Type 0} (f : A → Bool) (x y : List A) → any f (x ++ y) ≡ (any f x || any f y)
@@ -198,38 +196,35 @@ pub head-any : (f : Span → Bool) (h : Head) → any f (headSpans h)
     ≡ (any f (h .names) || (any f (spanIn (optionOf (h .title))) || (any f (spanIn (optionOf (h .«room_board»))) || any f (spanIn (optionOf (h .«board_header»))))))
 head-any f h = simp any-append
 
+-- the four tests of it
+pub head-four : (f : Span → Bool) (h : Head) (a b c d : Bool) → a ≡ any f (h .names) → b ≡ any f (spanIn (optionOf (h .title)))
+    → c ≡ any f (spanIn (optionOf (h .«room_board»))) → d ≡ any f (spanIn (optionOf (h .«board_header»))) → (a || (b || (c || d))) ≡ any f (headSpans h)
+head-four f h a b c d ea eb ec ed = rw (ea, eb, ec, ed) (sym (head-any f h))
+
 -- a card or a flag outside its range, whatever the board
 pub number-is : (s : List ℕ) (b : Board) (ws cs : List ℕ) → badNumber (lent s b ws cs) ≡ (badCards cs || any badFlag (callRows ws))
 unfolding badNumber
 number-is s b ws cs = refl
 
--- what is wrong with the rows, the cards and the heading, taken together, by either look for 6
-pub found-all : (l : Look) → NotPast l → (s : List ℕ) (h : Head) (ds ws cs : List ℕ) (r : Faults) → RowsFound l s ws r
-    → (t : Bool) → t ≡ badCards cs → (u : Bool) → u ≡ any (passesEnd s) (headSpans h) → (w : Bool) → w ≡ any (lookOf l s) (headSpans h)
-    → Found (lent s (boardOf h ds) ws cs) (record { number = t || r .number; past = u || r .past; ill = w || r .ill })
-unfolding badNumber
-found-all Past n s h ds ws cs r f t et u eu w ew = absurd n
-found-all Ill n s h ds ws cs r f t et u eu w ew =
-    record {
-      numbers = rw (et, f .flags) refl;
-      ends = rw (eu, f .ends) (sym (spans-any (passesEnd s) s h ds ws cs));
-      texts = rw (ew, f .texts) (sym (spans-any (amiss s) s h ds ws cs));
-    }
-found-all Torn n s h ds ws cs r f t et u eu w ew =
-    record {
-      numbers = rw (et, f .flags) refl;
-      ends = rw (eu, f .ends) (sym (spans-any (passesEnd s) s h ds ws cs));
-      texts = rw (ew, f .texts) (sym (spans-any (amiss s) s h ds ws cs));
-    }
+-- what is wrong with the rows, the cards and the heading, taken together: their numbers, and their texts
+module _ (s : List ℕ) (h : Head) (ds ws cs : List ℕ) where
+  pub bounds-all : (r : Bounds) → RowsBounded s ws r → (t : Bool) → t ≡ badCards cs → (u : Bool) → u ≡ any (passesEnd s) (headSpans h)
+      → Bounded (lent s (boardOf h ds) ws cs) (record { number = t || r .number; past = u || r .past })
+  unfolding badNumber
+  bounds-all r f t et u eu = record { numbers = rw (et, f .flags) refl; ends = rw (eu, f .ends) (sym (spans-any (passesEnd s) s h ds ws cs)) }
+
+  pub texts-all : (t u : Bool) → t ≡ any (amiss s) (headSpans h) → u ≡ any (λ c. any (amiss s) (spansOf c)) (callRows ws)
+      → (t || u) ≡ any (amiss s) (lentSpans (lent s (boardOf h ds) ws cs))
+  texts-all t u et eu = rw (et, eu) (sym (spans-any (amiss s) s h ds ws cs))
 
 -- where nothing passes the end, what is amiss is not UTF-8
-amiss-ill : (s : List ℕ) (xs : List Span) → any (passesEnd s) xs ≡ false → any (amiss s) xs ≡ any (illSpan s) xs
+pub amiss-ill : (s : List ℕ) (xs : List Span) → any (passesEnd s) xs ≡ false → any (amiss s) xs ≡ any (illSpan s) xs
 unfolding any
 amiss-ill s [] h = refl
 amiss-ill s (x ∷ xs) h = let n = or-none (passesEnd s x) (any (passesEnd s) xs) h in rw (n .0) (ap (λ (t : Bool). illSpan s x || t) (amiss-ill s xs (n .1)))
 
-pub found-ill : (x : Lent) (r : Faults) → Found x r → r .past ≡ false → any (illSpan (x .text)) (lentSpans x) ≡ r .ill
-found-ill x r f h = sym (f .texts ∙ amiss-ill (x .text) (lentSpans x) (sym (f .ends) ∙ h))
+pub texts-ill : (x : Lent) (r : Bounds) → Bounded x r → r .past ≡ false → (t : Bool) → t ≡ any (amiss (x .text)) (lentSpans x) → any (illSpan (x .text)) (lentSpans x) ≡ t
+texts-ill x r f h t e = sym (e ∙ amiss-ill (x .text) (lentSpans x) (sym (f .ends) ∙ h))
 
 -- The verdict, by the tests that led there
 
@@ -243,7 +238,7 @@ module _ (other : Bool) (x : Lent) where
     unfolding unless lentChecks
     check-other o = simp (le-ltb limit (length (x .text)) h, o)
 
-    module _ (o : other ≡ false) (r : Faults) (f : Found x r) where
+    module _ (o : other ≡ false) (r : Bounds) (f : Bounded x r) where
       pub check-number : r .number ≡ true → refused OutOfRange ≡ checked other x
       unfolding unless lentChecks
       check-number k = simp (le-ltb limit (length (x .text)) h, o, ← f .numbers, k)
@@ -253,14 +248,14 @@ module _ (other : Bool) (x : Lent) where
         unfolding unless lentChecks
         check-past l = simp (le-ltb limit (length (x .text)) h, o, ← f .numbers, k, ← f .ends, l)
 
-        module _ (l : r .past ≡ false) where
-          pub check-ill : r .ill ≡ true → refused SpanNotUtf8 ≡ checked other x
+        module _ (l : r .past ≡ false) (t : Bool) (e : t ≡ any (amiss (x .text)) (lentSpans x)) where
+          pub check-ill : t ≡ true → refused SpanNotUtf8 ≡ checked other x
           unfolding unless lentChecks
-          check-ill m = simp (le-ltb limit (length (x .text)) h, o, ← f .numbers, k, ← f .ends, l, found-ill x r f l, m)
+          check-ill m = simp (le-ltb limit (length (x .text)) h, o, ← f .numbers, k, ← f .ends, l, texts-ill x r f l t e, m)
 
-          pub check-good : r .ill ≡ false → accepted tt ≡ checked other x
+          pub check-good : t ≡ false → accepted tt ≡ checked other x
           unfolding unless lentChecks
-          check-good m = simp (le-ltb limit (length (x .text)) h, o, ← f .numbers, k, ← f .ends, l, found-ill x r f l, m)
+          check-good m = simp (le-ltb limit (length (x .text)) h, o, ← f .numbers, k, ← f .ends, l, texts-ill x r f l t e, m)
 
 -- What a caller has of it
 

@@ -11,9 +11,9 @@ use Rattle.lin_spec.specs.declared.Span.{Span}
 use Rattle.lin_spec.specs.Lent.{callRows, Lent, lentSpans, badFlag, badNumber, lentChecks}
 use Rattle.lin_spec.specs.declared.Verdict.{Verdict}
 use Rattle.lin_spec.specs.declared.Verdict.the-variants.{Accepted, Refused}
-use Rattle.lent.specs.declared.checks.Faults.{Faults}
+use Rattle.lent.specs.declared.checks.Bounds.{Bounds}
 use Rattle.lent.specs.declared.checks.Look.{Look}
-use Rattle.lent.specs.declared.checks.Look.the-variants.{Past, Ill, Torn}
+use Rattle.lent.specs.declared.checks.Look.the-variants.{Ill, Torn}
 use Rattle.lent.specs.Calls.{spansOf}
 
 -- a verdict as an answer that has no result
@@ -29,32 +29,17 @@ checked other x = unless (lentChecks other x) tt
 abbrev pub amiss : List ℕ → Span → Bool
 amiss s x = passesEnd s x || illSpan s x
 
--- what a look at a span says
-abbrev pub lookOf : Look → List ℕ → Span → Bool
-lookOf Past s x = passesEnd s x
-lookOf Ill s x = amiss s x
-lookOf Torn s x = amiss s x
-
 -- a look at the ends of a span is for a text that is UTF-8 as a whole
 abbrev pub WholeIfTorn : Look → List ℕ → Type 0
-WholeIfTorn Past s = Unit
 WholeIfTorn Ill s = Unit
 WholeIfTorn Torn s = utf8 s ≡ true
 
--- a look for 6
-abbrev pub NotPast : Look → Type 0
-NotPast Past = ⊥
-NotPast Ill = Unit
-NotPast Torn = Unit
-
--- what is wrong with the rows ws over the text s
-pub record RowsFound (l : Look) (s ws : List ℕ) (r : Faults) : Type 0 where
+-- what is wrong with the numbers of the rows ws over the text s
+pub record RowsBounded (s ws : List ℕ) (r : Bounds) : Type 0 where
   pub flags : r .number ≡ any badFlag (callRows ws)
   pub ends : r .past ≡ any (λ c. any (passesEnd s) (spansOf c)) (callRows ws)
-  pub texts : r .ill ≡ any (λ c. any (lookOf l s) (spansOf c)) (callRows ws)
 
--- and with all that is lent
-pub record Found (x : Lent) (r : Faults) : Type 0 where
+-- and of all that is lent
+pub record Bounded (x : Lent) (r : Bounds) : Type 0 where
   pub numbers : r .number ≡ badNumber x
   pub ends : r .past ≡ any (passesEnd (x .text)) (lentSpans x)
-  pub texts : r .ill ≡ any (amiss (x .text)) (lentSpans x)

@@ -16,11 +16,12 @@ ghost use mathlib.Core.List.{List};
 ghost use Prim.Native.Nat.{ℕ};
 ghost use Rattle.lin_spec.specs.Base.{any};
 ghost use Rattle.lin_spec.specs.Records.{optionOf};
-ghost use Rattle.lin_spec.specs.Lent.{lent, spanIn, badFlag, badCards};
+ghost use Rattle.lin_spec.specs.Refusals.{passesEnd};
+ghost use Rattle.lin_spec.specs.Lent.{callRows, lent, lentSpans, spanIn, badFlag, badCards};
 ghost use Rattle.text.specs.Fault.{faultOf};
 ghost use Rattle.lent.specs.Calls.{spansOf};
 ghost use Rattle.lent.specs.Heads.{boardOf, headSpans};
-ghost use Rattle.lent.specs.Checks.{verdictOf, checked, lookOf, WholeIfTorn, NotPast, RowsFound, Found};
+ghost use Rattle.lent.specs.Checks.{verdictOf, checked, amiss, WholeIfTorn, RowsBounded, Bounded};
 
 // Whether a card is none of the 52.
 pub fn bad_cards(cards: &[u8]) -> bool
@@ -42,23 +43,21 @@ fn bad_flag(c: Call) -> bool
     (1 < c.alerted) | (1 < c.annotated)
 }
 
-// How a span is looked at: by 5; by 5 or 6, byte for byte; or by 5 or 6 within a text that is UTF-8 as a whole, by the ends of the span.
+// How a span is looked at by 6: byte for byte; or, within a text that is UTF-8 as a whole, by its ends.
 enum Look {
-    Past,
     Ill,
     Torn,
 }
 
-// Whether a span meets it.
+// Whether 5 or 6 meets a span.
 fn meets(text: &[u8], x: Span, look: Look) -> bool
     requires { ⌜ WholeIfTorn look (now text) ⌝ }
-    ensures { λ r. ⌜ r ≡ lookOf look (now (text .entry)) x ⌝ }
+    ensures { λ r. ⌜ r ≡ amiss (now (text .entry)) x ⌝ }
 {
     if faulty(text, x, Fault::PastEnd) {
         return true;
     }
     match look {
-        Look::Past => false,
         Look::Ill => faulty(text, x, Fault::NotUtf8),
         Look::Torn => torn(text, x),
     }
@@ -66,7 +65,7 @@ fn meets(text: &[u8], x: Span, look: Look) -> bool
 
 // How 6 is looked at. A text that is short, or short for its rows, is looked at as a whole first.
 fn look_for(text: &[u8], rows: &[u32]) -> Look
-    ensures { λ r. ⌜ WholeIfTorn r (now (text .entry)) × NotPast r ⌝ }
+    ensures { λ r. ⌜ WholeIfTorn r (now (text .entry)) ⌝ }
 {
     let short = (text.len() <= 256) | (text.len() / 4 <= rows.len());
     if !short {
@@ -78,10 +77,10 @@ fn look_for(text: &[u8], rows: &[u32]) -> Look
     Look::Ill
 }
 
-// Whether a name meets it.
+// Whether 5 or 6 meets a name.
 fn name_meets(text: &[u8], names: [Span; 4], look: Look) -> bool
     requires { ⌜ WholeIfTorn look (now text) ⌝ }
-    ensures { λ r. ⌜ r ≡ any (lookOf look (now (text .entry))) names ⌝ }
+    ensures { λ r. ⌜ r ≡ any (amiss (now (text .entry))) names ⌝ }
 {
     let mut seat = 0;
     while seat < 4 {
@@ -103,10 +102,10 @@ pub fn present_faulty(text: &[u8], x: MaybeSpan, fault: Fault) -> bool
     }
 }
 
-// Whether a text that is present meets it.
+// Whether 5 or 6 meets a text that is present.
 fn present_meets(text: &[u8], x: MaybeSpan, look: Look) -> bool
     requires { ⌜ WholeIfTorn look (now text) ⌝ }
-    ensures { λ r. ⌜ r ≡ any (lookOf look (now (text .entry))) (spanIn (optionOf x)) ⌝ }
+    ensures { λ r. ⌜ r ≡ any (amiss (now (text .entry))) (spanIn (optionOf x)) ⌝ }
 {
     match x {
         MaybeSpan::Absent => false,
@@ -114,10 +113,10 @@ fn present_meets(text: &[u8], x: MaybeSpan, look: Look) -> bool
     }
 }
 
-// Whether a text of a call meets it. The place of an annotation that is absent is not looked at.
+// Whether 5 or 6 meets a text of a call. The place of an annotation that is absent is not looked at.
 fn call_meets(text: &[u8], c: Call, look: Look) -> bool
     requires { ⌜ WholeIfTorn look (now text) ⌝ }
-    ensures { λ r. ⌜ r ≡ any (lookOf look (now (text .entry))) (spansOf c) ⌝ }
+    ensures { λ r. ⌜ r ≡ any (amiss (now (text .entry))) (spansOf c) ⌝ }
 {
     if meets(text, c.bid, look) {
         return true;
@@ -128,10 +127,10 @@ fn call_meets(text: &[u8], c: Call, look: Look) -> bool
     meets(text, c.annotation, look)
 }
 
-// Whether a text of the heading meets it.
+// Whether 5 or 6 meets a text of the heading.
 fn head_meets(text: &[u8], head: Head, look: Look) -> bool
     requires { ⌜ WholeIfTorn look (now text) ⌝ }
-    ensures { λ r. ⌜ r ≡ any (lookOf look (now (text .entry))) (headSpans head) ⌝ }
+    ensures { λ r. ⌜ r ≡ any (amiss (now (text .entry))) (headSpans head) ⌝ }
 {
     let names = head.names;
     let title = head.title;
@@ -144,42 +143,96 @@ fn head_meets(text: &[u8], head: Head, look: Look) -> bool
     a | (b | (c | d))
 }
 
-// What is wrong with what is lent: whether 8 meets a card or a flag, 5 a span, and 5 or 6 a span.
-pub struct Faults {
+// What is wrong with the numbers of what is lent: whether 8 meets a card or a flag, and 5 a span.
+pub struct Bounds {
     pub number: bool,
     pub past: bool,
-    pub ill: bool,
 }
 
-// What is wrong with the rows. Each is looked at once.
-fn row_faults(text: &[u8], rows: &[u32], look: Look) -> Faults
-    requires { ⌜ WholeIfTorn look (now text) ⌝ }
-    ensures { λ r. ⌜ RowsFound look (now (text .entry)) (now (rows .entry)) r ⌝ }
+// Whether a text of a call passes the end, by one test for both texts.
+fn call_past(text: &[u8], c: Call) -> bool
+    ensures { λ r. ⌜ r ≡ any (passesEnd (now (text .entry))) (spansOf c) ⌝ }
+{
+    let bid = faulty(text, c.bid, Fault::PastEnd);
+    let annotation = faulty(text, c.annotation, Fault::PastEnd);
+    bid | ((c.annotated != 0) & annotation)
+}
+
+// What is wrong with the numbers of the rows. Each is looked at once.
+fn row_bounds(text: &[u8], rows: &[u32]) -> Bounds
+    ensures { λ r. ⌜ RowsBounded (now (text .entry)) (now (rows .entry)) r ⌝ }
 {
     let mut number = false;
     let mut past = false;
-    let mut ill = false;
     let mut i = 0;
     while 6 <= rows.len() - i {
         let c = call_at(rows, i);
         number = number | bad_flag(c);
-        past = past | call_meets(text, c, Look::Past);
-        ill = ill | call_meets(text, c, look);
+        past = past | call_past(text, c);
         i += 6;
     }
-    Faults { number, past, ill }
+    Bounds { number, past }
 }
 
-// What is wrong with a lent board, whatever its deal.
-pub fn faults_of(text: &[u8], head: Head, rows: &[u32], cards: &[u8]) -> Faults
-    ensures { λ r. ⌜ ((counts : List ℕ) → Found (lent (now (text .entry)) (boardOf head counts) (now (rows .entry)) (now (cards .entry))) r) ⌝ }
+// Whether a name passes the end. All four are looked at.
+fn name_past(text: &[u8], names: [Span; 4]) -> bool
+    ensures { λ r. ⌜ r ≡ any (passesEnd (now (text .entry))) names ⌝ }
+{
+    let mut past = false;
+    let mut seat = 0;
+    while seat < 4 {
+        past = past | faulty(text, names[seat], Fault::PastEnd);
+        seat += 1;
+    }
+    past
+}
+
+// Whether a text of the heading passes the end.
+fn head_past(text: &[u8], head: Head) -> bool
+    ensures { λ r. ⌜ r ≡ any (passesEnd (now (text .entry))) (headSpans head) ⌝ }
+{
+    let names = head.names;
+    let title = head.title;
+    let room_board = head.room_board;
+    let board_header = head.board_header;
+    let a = name_past(text, names);
+    let b = present_faulty(text, title, Fault::PastEnd);
+    let c = present_faulty(text, room_board, Fault::PastEnd);
+    let d = present_faulty(text, board_header, Fault::PastEnd);
+    a | (b | (c | d))
+}
+
+// What is wrong with the numbers of a lent board, whatever its deal.
+pub fn bounds_of(text: &[u8], head: Head, rows: &[u32], cards: &[u8]) -> Bounds
+    ensures { λ r. ⌜ ((counts : List ℕ) → Bounded (lent (now (text .entry)) (boardOf head counts) (now (rows .entry)) (now (cards .entry))) r) ⌝ }
+{
+    let row = row_bounds(text, rows);
+    let number = bad_cards(cards) | row.number;
+    let past = head_past(text, head) | row.past;
+    Bounds { number, past }
+}
+
+// Whether 5 or 6 meets a text of a row.
+fn rows_meet(text: &[u8], rows: &[u32], look: Look) -> bool
+    requires { ⌜ WholeIfTorn look (now text) ⌝ }
+    ensures { λ r. ⌜ r ≡ any (λ c. any (amiss (now (text .entry))) (spansOf c)) (callRows (now (rows .entry))) ⌝ }
+{
+    let mut found = false;
+    let mut i = 0;
+    while 6 <= rows.len() - i {
+        found = found | call_meets(text, call_at(rows, i), look);
+        i += 6;
+    }
+    found
+}
+
+// Whether 5 or 6 meets a text of a lent board, whatever its deal and its cards.
+pub fn ill_texts(text: &[u8], head: Head, rows: &[u32]) -> bool
+    ensures { λ r. ⌜ ((counts cards : List ℕ) → r ≡ any (amiss (now (text .entry))) (lentSpans (lent (now (text .entry)) (boardOf head counts) (now (rows .entry)) cards))) ⌝ }
 {
     let look = look_for(text, rows);
-    let row = row_faults(text, rows, look);
-    let number = bad_cards(cards) | row.number;
-    let past = head_meets(text, head, Look::Past) | row.past;
-    let ill = head_meets(text, head, look) | row.ill;
-    Faults { number, past, ill }
+    let row = rows_meet(text, rows, look);
+    head_meets(text, head, look) | row
 }
 
 // The first of the checks that meets the call, whatever the deal. `other` says whether another number of the call is outside its range.
@@ -192,14 +245,14 @@ pub fn check(other: bool, text: &[u8], head: Head, rows: &[u32], cards: &[u8]) -
     if other {
         return Verdict::Refused(Refusal::OutOfRange);
     }
-    let found = faults_of(text, head, rows, cards);
+    let found = bounds_of(text, head, rows, cards);
     if found.number {
         return Verdict::Refused(Refusal::OutOfRange);
     }
     if found.past {
         return Verdict::Refused(Refusal::SpanPastEnd);
     }
-    if found.ill {
+    if ill_texts(text, head, rows) {
         return Verdict::Refused(Refusal::SpanNotUtf8);
     }
     Verdict::Accepted

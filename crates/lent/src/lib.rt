@@ -4,10 +4,11 @@ mod checks;
 mod heads;
 
 pub use calls::call_at;
-pub use checks::Faults;
+pub use checks::Bounds;
 pub use checks::bad_cards;
+pub use checks::bounds_of;
 pub use checks::check;
-pub use checks::faults_of;
+pub use checks::ill_texts;
 pub use checks::present_faulty;
 pub use heads::Head;
 pub use heads::head_of;

@@ -20,7 +20,7 @@ use Rattle.lin_spec.specs.declared.Verdict.{Verdict}
 use Rattle.lin_spec.specs.declared.Verdict.the-variants.{Accepted, Refused}
 use Rattle.lin_spec.specs.declared.Board.{Board}
 use Rattle.lin_spec.proofs.Base.{or-none}
-use Rattle.output.specs.Put.{Put}
+use Rattle.output.specs.Put.{Room, Put}
 use Rattle.lent.specs.Checks.{verdictOf, checked}
 use Rattle.lent.proofs.LentLaws.{number-is, check-refuses, check-passes, check-passed}
 use Rattle.cleaning.specs.declared.texts.Marks.{Marks}
@@ -33,6 +33,9 @@ module _ (f : Filing) (o : List ℕ) (used : ℕ) (h : used ≤ room o) (need : 
   fit-small k =
       let z : room o < used + length (writtenForm f) = omega arith in
       simp (lt-ltb (room o) (used + length (writtenForm f)) z, ← en)
+
+  pub fit-room : need ≤ r - used → Room o used (writtenForm f)
+  fit-room k = record { room = omega arith }
 
   pub fit-done : need ≤ r - used → {o′ : List ℕ} {n : ℕ} → Put o used (writtenForm f) o′ n → _≡_ {A = Outcome} (record { answer = accepted n; output = o′ }) (fitted f o used)
   unfolding fitted unless

@@ -2,6 +2,7 @@
 use boardtext::board_len;
 use boardtext::put_board;
 use cleaning::Marks;
+use dealtext::sizes_of;
 use lent::Head;
 use lent::check;
 use lent::head_of;
@@ -34,11 +35,12 @@ fn append_checked(
     requires { ⌜ (used ≤ roomOf (now out)) × (badCards (now cards) ≡ false) × (length (now counts) ≡ 208) ⌝ }
     ensures { λ r. ⌜ _≡_ {A = Outcome} (record { answer = answerOf r; output = now (out .exit) }) (fitted (filing marks (now (text .entry)) (boardOf head (now (counts .entry))) (now (rows .entry)) (now (cards .entry))) (now (out .entry)) used) ⌝ }
 {
-    let need = board_len(text, head, counts, rows, cards, marks);
+    let sizes = sizes_of(counts);
+    let need = board_len(text, head, sizes, rows, cards, marks);
     if ((room(out.len()) - used) as u64) < need {
         return Written::Refused(Refusal::OutputTooSmall(need));
     }
-    let n = put_board(out, used, text, head, counts, rows, cards, marks);
+    let n = put_board(out, used, text, head, counts, sizes, rows, cards, marks);
     Written::Length(n)
 }
 

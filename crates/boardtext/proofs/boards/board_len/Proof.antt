@@ -42,8 +42,10 @@ sat-add-requires-5 c κs = search needs
 
 returns : tie.Need-returns
 returns c =
-    board-sum _ _ _ _ _ (c .before .before .before .before .before .before .before .before .before .heading-len .ensures) (c .before .before .before .before .before .before .before .before .dealing-len .ensures (c .before .before .before .before .before .before .before .before .before .before .before .before .before .args .head)) (c .before .before .before .before .before .before .before .sat-add .ensures) (c .before .before .before .before .before .before .calls-len .ensures (c .before .before .before .before .before .before .before .before .before .before .before .before .before .args .marks .pipe) (c .before .before .before .before .before .before .before .before .before .before .before .before .before .args .marks .line)) (c .before .before .before .before .before .sat-add2 .ensures) (c .before .before .before .before .tricks-len .ensures) (c .before .before .before .sat-add3 .ensures) (c .before .before .sat-add4 .ensures) (c .before .claim-len .ensures) (c .sat-add5 .ensures)
-    ∙ ap (λ (n : ℕ). sat n) (sym (written-long (c .before .before .before .before .before .before .before .before .before .before .before .before .before .args .marks) (now (c .before .before .before .before .before .before .before .before .before .before .before .before .before .args .text)) (boardOf (c .before .before .before .before .before .before .before .before .before .before .before .before .before .args .head) (now (c .before .before .before .before .before .before .before .before .before .before .before .before .before .args .counts))) (now (c .before .before .before .before .before .before .before .before .before .before .before .before .before .args .rows)) (now (c .before .before .before .before .before .before .before .before .before .before .before .before .before .args .cards))))
+    let a = c .before .before .before .before .before .before .before .before .before .before .before .before .before .args in
+    λ counts z.
+    board-sum _ _ _ _ _ (c .before .before .before .before .before .before .before .before .before .heading-len .ensures) (c .before .before .before .before .before .before .before .before .dealing-len .ensures (a .head) counts z) (c .before .before .before .before .before .before .before .sat-add .ensures) (c .before .before .before .before .before .before .calls-len .ensures (a .marks .pipe) (a .marks .line)) (c .before .before .before .before .before .sat-add2 .ensures) (c .before .before .before .before .tricks-len .ensures) (c .before .before .before .sat-add3 .ensures) (c .before .before .sat-add4 .ensures) (c .before .claim-len .ensures) (c .sat-add5 .ensures)
+    ∙ ap (λ (n : ℕ). sat n) (sym (written-long (a .marks) (now (a .text)) (boardOf (a .head) counts) (now (a .rows)) (now (a .cards))))
 
 pub board-len-spec : {M : Type 1} → statement M
 board-len-spec =

@@ -1,6 +1,5 @@
 -- `boardtext::dealing_len` meets its contract: the sum of the lengths of the pieces.
 -- Assumes nothing.
-use denote.Ref.{now}
 use Rattle.lent.specs.Heads.{boardOf}
 use Rattle.boardtext.proofs.PieceLaws.{dealing-long}
 use borrow.Author.Needs.{needs}
@@ -15,7 +14,7 @@ sat-add-requires : tie.Need-sat-add-requires
 sat-add-requires c κs = search needs
 
 returns : tie.Need-returns
-returns c = λ head. omega (arith, dealing-long (boardOf head (now (c .before .before .args .counts))), c .before .md-len .ensures (head .dealer), c .sat-add .ensures)
+returns c = λ head counts z. omega (arith, dealing-long (boardOf head counts), c .before .md-len .ensures counts z (head .dealer), c .sat-add .ensures)
 
 pub dealing-len-spec : {M : Type 1} → statement M
 dealing-len-spec = tie.close (tie.spec md-len-requires sat-add-requires returns)

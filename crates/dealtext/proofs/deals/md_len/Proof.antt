@@ -1,8 +1,11 @@
 -- `dealtext::md_len` meets its contract: the hands, a digit and two commas.
 -- Assumes nothing.
+use Prim.Native.Nat.{_*_}
 use native.Mathlib.Omega.{arith}
-use denote.Ref.{now}
 use borrow.Author.Needs.{needs}
+use Rattle.lin_spec.specs.Letters.{handAt}
+use Rattle.lin_spec.specs.declared.Seat.the-variants.{South, West, North}
+use Rattle.cards.proofs.HandLaws.{counts-most}
 use Rattle.dealtext.proofs.DealLaws.{md-long}
 use Rattle.dealtext.proofs.deals.md_len.Statement.{statement}
 use Rattle.dealtext.proofs.deals.md_len.Tie as tie
@@ -32,7 +35,16 @@ add-result-4 : tie.Need-add-result-4
 add-result-4 c = search needs
 
 returns : tie.Need-returns
-returns c = λ x. omega (arith, md-long x (now (c .before .before .before .before .args .counts)), c .before .before .before .hand-text-len .ensures .0, c .before .before .hand-text-len2 .ensures .0, c .before .hand-text-len3 .ensures .0, c .east-len .ensures .0)
+returns c =
+    λ d z x.
+    omega (
+      arith,
+      md-long x d,
+      c .before .before .before .hand-text-len .ensures .0 (handAt d South) (counts-most d (0 * 52) 52) (z .south),
+      c .before .before .hand-text-len2 .ensures .0 (handAt d West) (counts-most d (1 * 52) 52) (z .west),
+      c .before .hand-text-len3 .ensures .0 (handAt d North) (counts-most d (2 * 52) 52) (z .north),
+      c .east-len .ensures .0 d (z .east) (z .implied),
+    )
 
 pub md-len-spec : {M : Type 1} → statement M
 md-len-spec =

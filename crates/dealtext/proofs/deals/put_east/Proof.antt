@@ -6,25 +6,22 @@ use Rattle.dealtext.proofs.DealLaws.{east-out, east-in}
 use Rattle.dealtext.proofs.deals.put_east.Statement.{statement}
 use Rattle.dealtext.proofs.deals.put_east.Tie as tie
 
-implied-requires : tie.Need-implied-requires
-implied-requires c κs = search needs
-
 returns : tie.Need-returns
-returns c = put-none _ _ _ (east-out _ _ (c .before .implied .ensures) (c .if1 .taken))
+returns c = put-none _ _ _ (east-out _ _ (c .before .before .pre .1 .implied) (c .if1 .taken))
 
 put-byte-requires : tie.Need-put-byte-requires
-put-byte-requires c κs = first-room _ _ _ (east-in _ _ (c .before .before .implied .ensures) (c .before .if1 .left)) (c .before .before .before .before .pre .0)
+put-byte-requires c κs = first-room _ _ _ (east-in _ _ (c .before .before .before .pre .1 .implied) (c .before .if1 .left)) (c .before .before .before .pre .0)
 
 put-hand-requires : tie.Need-put-hand-requires
-put-hand-requires c κs = second-room _ _ _ (east-in _ _ (c .before .before .before .before .before .before .implied .ensures) (c .before .before .before .before .before .if1 .left)) (c .before .before .before .before .before .before .before .before .pre .0) (c .before .before .before .put-byte .ensures)
+put-hand-requires c κs = (second-room _ _ _ (east-in _ _ (c .before .before .before .before .before .before .before .pre .1 .implied) (c .before .before .before .before .before .if1 .left)) (c .before .before .before .before .before .before .before .pre .0) (c .before .before .before .put-byte .ensures), c .before .before .before .before .before .before .before .pre .1 .east)
 
 same-length : tie.Need-same-length
 same-length c = search needs
 
 returns-2 : tie.Need-returns-2
-returns-2 c = put-both _ _ _ (east-in _ _ (c .before .before .before .before .before .before .before .before .before .implied .ensures) (c .before .before .before .before .before .before .before .before .if1 .left)) (c .before .before .before .before .before .before .before .before .before .before .before .pre .0) (c .before .before .before .before .before .before .put-byte .ensures) (c .before .before .put-hand .ensures)
+returns-2 c = put-both _ _ _ (east-in _ _ (c .before .before .before .before .before .before .before .before .before .before .pre .1 .implied) (c .before .before .before .before .before .before .before .before .if1 .left)) (c .before .before .before .before .before .before .before .before .before .before .pre .0) (c .before .before .before .before .before .before .put-byte .ensures) (c .before .before .put-hand .ensures)
 
 pub put-east-spec : {M : Type 1} → statement M
 put-east-spec =
     tie.close
-    (tie.spec implied-requires returns put-byte-requires put-hand-requires same-length returns-2)
+    (tie.spec returns put-byte-requires put-hand-requires same-length returns-2)

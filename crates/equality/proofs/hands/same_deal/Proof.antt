@@ -6,11 +6,11 @@ use borrow.Author.Needs.{needs}
 use Rattle.equality.proofs.hands.same_deal.Statement.{statement}
 use Rattle.equality.proofs.hands.same_deal.Tie as tie
 
-same-counts-requires : tie.Need-same-counts-requires
-same-counts-requires c κs = search needs
+same-words-requires : tie.Need-same-words-requires
+same-words-requires c κs = search needs
 
 returns : tie.Need-returns
-returns c = same-counts _ _ (sym (c .if1 .taken) ∙ c .before .same-counts .ensures)
+returns c = same-counts _ _ (sym (c .if1 .taken) ∙ c .before .same-words .ensures)
 
 same-hands-requires : tie.Need-same-hands-requires
 same-hands-requires c κs = search needs
@@ -19,4 +19,4 @@ returns-2 : tie.Need-returns-2
 returns-2 c = c .same-hands .ensures
 
 pub same-deal-spec : {M : Type 1} → statement M
-same-deal-spec = tie.close (tie.spec same-counts-requires returns same-hands-requires returns-2)
+same-deal-spec = tie.close (tie.spec same-words-requires returns same-hands-requires returns-2)

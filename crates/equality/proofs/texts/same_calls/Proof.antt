@@ -1,65 +1,21 @@
--- `equality::same_calls` meets its contract: a turn passes two calls that are the same.
+-- `equality::same_calls` meets its contract: the same rows over the same text, or call by call.
 -- Assumes nothing.
-use Prim.Native.Nat.{_-_}
-use native.Mathlib.Omega.{arith}
-use lib.ListN.{length}
-use Rattle.equality.proofs.EqualityLaws.{Rows, rows-differ, rows-begin, rows-over, other-row, row-differs, row-next}
+use borrow.Author.Needs.{needs}
+use Rattle.equality.proofs.EqualityLaws.{calls-copied}
 use Rattle.equality.proofs.texts.same_calls.Statement.{statement}
 use Rattle.equality.proofs.texts.same_calls.Tie as tie
 
-abbrev Inv-loop : tie.InvT-loop
-Inv-loop text rows text2 rows2 i₀ i = Rows text rows text2 rows2 i
+same-words-requires : tie.Need-same-words-requires
+same-words-requires c κs = search needs
 
-abbrev μ-loop : tie.MeasureT-loop
-μ-loop text rows text2 rows2 i₀ i = length rows - i
+returns : tie.Need-returns
+returns c = calls-copied _ _ _ _ _ (c .before .before .before .before .before .before .pre) _ (c .before .same-words .ensures) (c .if1 .taken)
 
-returns : tie.Need-returns Inv-loop μ-loop
-returns c = rows-differ _ _ _ _ (c .if1 .taken)
+each-same-requires : tie.Need-each-same-requires
+each-same-requires c κs = search needs
 
-loop-holds : tie.Need-loop-holds Inv-loop μ-loop
-loop-holds c = rows-begin _ _ _ _ (c .if1 .left)
-
-sub-loop : tie.Need-sub-loop Inv-loop μ-loop
-sub-loop c = omega (arith, c .loop .inv .within)
-
-call-at-requires : tie.Need-call-at-requires Inv-loop μ-loop
-call-at-requires c κs = omega arith
-
-call-at-requires-2 : tie.Need-call-at-requires-2 Inv-loop μ-loop
-call-at-requires-2 c κs = other-row _ _ _ _ _ (c .before .before .loop .inv) (c .before .loop-test .taken)
-
-same-call-requires : tie.Need-same-call-requires Inv-loop μ-loop
-same-call-requires c κs = tt
-
-returns-2 : tie.Need-returns-2 Inv-loop μ-loop
-returns-2 c = row-differs _ _ _ _ _ (c .before .before .before .before .before .loop .inv) (c .before .before .before .before .loop-test .taken) _ (c .before .before .before .call-at .ensures) _ (c .before .before .call-at2 .ensures) _ (c .before .same-call .ensures) (c .if2 .taken)
-
-add-i : tie.Need-add-i Inv-loop μ-loop
-add-i c = omega arith
-
-loop-less : tie.Need-loop-less Inv-loop μ-loop
-loop-less c = omega arith
-
-loop-again : tie.Need-loop-again Inv-loop μ-loop
-loop-again c = row-next _ _ _ _ _ (c .before .before .before .before .before .loop .inv) (c .before .before .before .before .loop-test .taken) _ (c .before .before .before .call-at .ensures) _ (c .before .before .call-at2 .ensures) _ (c .before .same-call .ensures) (c .if2 .left)
-
-returns-3 : tie.Need-returns-3 Inv-loop μ-loop
-returns-3 c = rows-over _ _ _ _ _ (c .before .loop .inv) (c .loop-test .left)
+returns-2 : tie.Need-returns-2
+returns-2 c = c .each-same .ensures
 
 pub same-calls-spec : {M : Type 1} → statement M
-same-calls-spec =
-    tie.close
-    (tie.spec
-    Inv-loop
-    μ-loop
-    returns
-    loop-holds
-    sub-loop
-    call-at-requires
-    call-at-requires-2
-    same-call-requires
-    returns-2
-    add-i
-    loop-less
-    loop-again
-    returns-3)
+same-calls-spec = tie.close (tie.spec same-words-requires returns each-same-requires returns-2)

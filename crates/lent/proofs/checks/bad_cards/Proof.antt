@@ -7,7 +7,7 @@ use mathlib.Core.Bool.{_||_}
 use lib.ListN.{length, drop}
 use lib.Dec.{ltb}
 use Rattle.lin_spec.specs.Base.{any}
-use Rattle.lent.proofs.LentLaws.{all-cards, or-card}
+use Rattle.lent.proofs.LentLaws.{all-each, or-each}
 use Rattle.lent.proofs.checks.bad_cards.Statement.{statement}
 use Rattle.lent.proofs.checks.bad_cards.Tie as tie
 
@@ -30,10 +30,10 @@ loop-less : tie.Need-loop-less Inv-loop μ-loop
 loop-less c = omega arith
 
 loop-again : tie.Need-loop-again Inv-loop μ-loop
-loop-again c = or-card (ltb 51) _ _ (c .before .before .loop .bad) (c .before .before .loop .inv) (c .before .loop-test .taken)
+loop-again c = or-each (ltb 51) 0 _ _ (c .before .before .loop .bad) (c .before .before .loop .inv) (c .before .loop-test .taken) _ refl
 
 returns : tie.Need-returns Inv-loop μ-loop
-returns c = all-cards (ltb 51) _ _ _ (c .before .loop .inv) (c .loop-test .left)
+returns c = all-each (ltb 51) 0 _ _ _ (c .before .loop .inv) (c .loop-test .left)
 
 pub bad-cards-spec : {M : Type 1} → statement M
 bad-cards-spec =

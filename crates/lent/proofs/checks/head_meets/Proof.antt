@@ -1,9 +1,6 @@
 -- `lent::head_meets` meets its contract: the names, and the three texts that may be absent.
 -- Assumes nothing.
-use mathlib.Core.Path.{sym, _∙_}
-use denote.Ref.{now}
-use Rattle.lent.specs.Checks.{lookOf}
-use Rattle.lent.proofs.LentLaws.{head-any}
+use Rattle.lent.proofs.LentLaws.{head-four}
 use borrow.Author.Needs.{needs}
 use Rattle.lent.proofs.checks.head_meets.Statement.{statement}
 use Rattle.lent.proofs.checks.head_meets.Tie as tie
@@ -21,7 +18,7 @@ present-meets-requires-3 : tie.Need-present-meets-requires-3
 present-meets-requires-3 c κs = search needs
 
 returns : tie.Need-returns
-returns c = let a = c .before .before .before .before .before .before .args in sym (head-any (lookOf (a .look) (now (a .text))) (a .head) ∙ simp (← c .before .before .before .name-meets .ensures, ← c .before .before .present-meets .ensures, ← c .before .present-meets2 .ensures, ← c .present-meets3 .ensures))
+returns c = head-four _ (c .before .before .before .before .before .before .args .head) _ _ _ _ (c .before .before .before .name-meets .ensures) (c .before .before .present-meets .ensures) (c .before .present-meets2 .ensures) (c .present-meets3 .ensures)
 
 pub head-meets-spec : {M : Type 1} → statement M
 head-meets-spec =

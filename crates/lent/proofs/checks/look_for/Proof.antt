@@ -12,7 +12,7 @@ is-utf8-requires : tie.Need-is-utf8-requires
 is-utf8-requires c κs = search needs
 
 returns-2 : tie.Need-returns-2
-returns-2 c = (sym (c .before .is-utf8 .ensures) ∙ c .if2 .taken, tt)
+returns-2 c = sym (c .before .is-utf8 .ensures) ∙ c .if2 .taken
 
 returns-3 : tie.Need-returns-3
 returns-3 c = search needs

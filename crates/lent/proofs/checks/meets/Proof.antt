@@ -2,7 +2,7 @@
 -- Assumes nothing.
 use denote.Ref.{now}
 use borrow.Author.Needs.{needs}
-use Rattle.lent.proofs.LentLaws.{look-past, look-end, look-ill, look-torn, look-whole, look-within}
+use Rattle.lent.proofs.LentLaws.{amiss-past, amiss-within, look-whole, look-within}
 use Rattle.lent.proofs.checks.meets.Statement.{statement}
 use Rattle.lent.proofs.checks.meets.Tie as tie
 
@@ -10,39 +10,31 @@ faulty-requires : tie.Need-faulty-requires
 faulty-requires c κs = search needs
 
 returns : tie.Need-returns
-returns c = let a = c .before .before .before .args in look-past (a .look) (now (a .text)) (a .x) _ (c .before .faulty .ensures) (c .if1 .taken)
+returns c = let a = c .before .before .before .args in amiss-past (now (a .text)) (a .x) _ (c .before .faulty .ensures) (c .if1 .taken)
 
 enum-told : tie.Need-enum-told
 enum-told c = search needs
 
-enum-told-2 : tie.Need-enum-told-2
-enum-told-2 c = search needs
-
 faulty-requires-2 : tie.Need-faulty-requires-2
 faulty-requires-2 c κs = search needs
 
-enum-told-3 : tie.Need-enum-told-3
-enum-told-3 c = search needs
+enum-told-2 : tie.Need-enum-told-2
+enum-told-2 c = search needs
 
 torn-requires : tie.Need-torn-requires
 torn-requires c κs =
     let a = c .before .before .before .before .before in
-    (look-whole _ _ (c .enum-told3 .given .1) (a .pre), look-within (now (a .args .text)) (a .args .x) _ (c .before .before .before .faulty .ensures) (c .before .before .if1 .left))
+    (look-whole _ _ (c .enum-told2 .given .1) (a .pre), look-within (now (a .args .text)) (a .args .x) _ (c .before .before .before .faulty .ensures) (c .before .before .if1 .left))
 
 returns-2 : tie.Need-returns-2
 returns-2 c =
-    let a = c .before .before .before .before .before .args in
-    look-end (a .look) (now (a .text)) (a .x) _ (c .before .before .before .faulty .ensures) (c .before .before .if1 .left) (c .enum-told .given .1)
+    let a = c .before .before .before .before .before .before .args in
+    amiss-within (now (a .text)) (a .x) _ (c .before .before .before .before .faulty .ensures) (c .before .before .before .if1 .left) _ (c .faulty2 .ensures)
 
 returns-3 : tie.Need-returns-3
 returns-3 c =
     let a = c .before .before .before .before .before .before .args in
-    look-ill (a .look) (now (a .text)) (a .x) _ (c .before .before .before .before .faulty .ensures) (c .before .before .before .if1 .left) (c .before .enum-told2 .given .1) _ (c .faulty2 .ensures)
-
-returns-4 : tie.Need-returns-4
-returns-4 c =
-    let a = c .before .before .before .before .before .before .args in
-    look-torn (a .look) (now (a .text)) (a .x) _ (c .before .before .before .before .faulty .ensures) (c .before .before .before .if1 .left) (c .before .enum-told3 .given .1) _ (c .torn .ensures)
+    amiss-within (now (a .text)) (a .x) _ (c .before .before .before .before .faulty .ensures) (c .before .before .before .if1 .left) _ (c .torn .ensures)
 
 pub meets-spec : {M : Type 1} → statement M
 meets-spec =
@@ -51,10 +43,8 @@ meets-spec =
     faulty-requires
     returns
     enum-told
-    enum-told-2
     faulty-requires-2
-    enum-told-3
+    enum-told-2
     torn-requires
     returns-2
-    returns-3
-    returns-4)
+    returns-3)

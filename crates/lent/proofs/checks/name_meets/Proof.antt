@@ -7,13 +7,13 @@ use lib.ListN.{length, drop}
 use borrow.Author.Needs.{needs}
 use Rattle.lin_spec.specs.Base.{any}
 use Rattle.lin_spec.specs.Records.{span}
-use Rattle.lent.specs.Checks.{lookOf}
+use Rattle.lent.specs.Checks.{amiss}
 use Rattle.text.proofs.ListLaws.{any-end, any-found, any-next}
 use Rattle.lent.proofs.checks.name_meets.Statement.{statement}
 use Rattle.lent.proofs.checks.name_meets.Tie as tie
 
 abbrev Inv-loop : tie.InvT-loop
-Inv-loop text look names seat₀ seat = (any (lookOf look text) (drop seat names) ≡ any (lookOf look text) names) × (length names ≡ 4)
+Inv-loop text look names seat₀ seat = (any (amiss text) (drop seat names) ≡ any (amiss text) names) × (length names ≡ 4)
 
 abbrev μ-loop : tie.MeasureT-loop
 μ-loop text look names seat₀ seat = 4 - seat

@@ -1,4 +1,4 @@
--- `lent::row_faults` meets its contract: a turn looks at a row.
+-- `lent::row_bounds` meets its contract: a turn looks at a row.
 -- Assumes nothing.
 use Prim.Native.Nat.{_-_, _≤_}
 use native.Mathlib.Omega.{arith}
@@ -9,22 +9,20 @@ use Rattle.lin_spec.specs.Base.{any}
 use Rattle.lin_spec.specs.Refusals.{passesEnd}
 use Rattle.lin_spec.specs.Lent.{callRow, callRows, badFlag}
 use Rattle.lent.specs.Calls.{spansOf}
-use Rattle.lent.specs.Checks.{lookOf}
 use Rattle.lent.proofs.LentLaws.{all-rows, or-row}
-use Rattle.lent.proofs.checks.row_faults.Statement.{statement}
-use Rattle.lent.proofs.checks.row_faults.Tie as tie
+use Rattle.lent.proofs.checks.row_bounds.Statement.{statement}
+use Rattle.lent.proofs.checks.row_bounds.Tie as tie
 
 abbrev Inv-loop : tie.InvT-loop
-Inv-loop text rows look number₀ past₀ ill₀ i₀ number past ill i =
+Inv-loop text rows number₀ past₀ i₀ number past i =
     (i ≤ length rows) × ((number || any badFlag (callRows (drop i rows))) ≡ any badFlag (callRows rows))
     × ((past || any (λ c. any (passesEnd text) (spansOf c)) (callRows (drop i rows))) ≡ any (λ c. any (passesEnd text) (spansOf c)) (callRows rows))
-    × ((ill || any (λ c. any (lookOf look text) (spansOf c)) (callRows (drop i rows))) ≡ any (λ c. any (lookOf look text) (spansOf c)) (callRows rows))
 
 abbrev μ-loop : tie.MeasureT-loop
-μ-loop text rows look number₀ past₀ ill₀ i₀ number past ill i = length rows - i
+μ-loop text rows number₀ past₀ i₀ number past i = length rows - i
 
 loop-holds : tie.Need-loop-holds Inv-loop μ-loop
-loop-holds c = (omega arith, refl, refl, refl)
+loop-holds c = (omega arith, refl, refl)
 
 sub-loop : tie.Need-sub-loop Inv-loop μ-loop
 sub-loop c = omega arith
@@ -35,11 +33,8 @@ call-at-requires c κs = omega arith
 bad-flag-requires : tie.Need-bad-flag-requires Inv-loop μ-loop
 bad-flag-requires c κs = tt
 
-call-meets-requires : tie.Need-call-meets-requires Inv-loop μ-loop
-call-meets-requires c κs = tt
-
-call-meets-requires-2 : tie.Need-call-meets-requires-2 Inv-loop μ-loop
-call-meets-requires-2 c κs = c .before .before .before .before .before .before .before .pre
+call-past-requires : tie.Need-call-past-requires Inv-loop μ-loop
+call-past-requires c κs = tt
 
 add-i : tie.Need-add-i Inv-loop μ-loop
 add-i c = omega arith
@@ -49,24 +44,23 @@ loop-less c = omega arith
 
 loop-again : tie.Need-loop-again Inv-loop μ-loop
 loop-again c =
-    let l = c .before .before .before .before .before .loop in
+    let l = c .before .before .before .before .loop in
     let v = l .inv in
-    let h = c .before .before .before .before .loop-test .taken in
-    let e = c .before .before .before .call-at .ensures in (
+    let h = c .before .before .before .loop-test .taken in
+    let e = c .before .before .call-at .ensures in (
       omega arith,
-      or-row callRow badFlag _ _ (l .number) (v .1) h _ e _ (c .before .before .bad-flag .ensures),
-      or-row callRow _ _ _ (l .past) (v .2) h _ e _ (c .before .call-meets .ensures),
-      or-row callRow _ _ _ (l .ill) (v .3) h _ e _ (c .call-meets2 .ensures),
+      or-row callRow badFlag _ _ (l .number) (v .1) h _ e _ (c .before .bad-flag .ensures),
+      or-row callRow _ _ _ (l .past) (v .2) h _ e _ (c .call-past .ensures),
     )
 
 returns : tie.Need-returns Inv-loop μ-loop
 returns c =
     let v = c .before .loop .inv in
     let h = c .loop-test .left in
-    record { flags = all-rows callRow badFlag _ _ _ (v .1) h; ends = all-rows callRow _ _ _ _ (v .2) h; texts = all-rows callRow _ _ _ _ (v .3) h }
+    record { flags = all-rows callRow badFlag _ _ _ (v .1) h; ends = all-rows callRow _ _ _ _ (v .2) h }
 
-pub row-faults-spec : {M : Type 1} → statement M
-row-faults-spec =
+pub row-bounds-spec : {M : Type 1} → statement M
+row-bounds-spec =
     tie.close
     (tie.spec
     Inv-loop
@@ -75,8 +69,7 @@ row-faults-spec =
     sub-loop
     call-at-requires
     bad-flag-requires
-    call-meets-requires
-    call-meets-requires-2
+    call-past-requires
     add-i
     loop-less
     loop-again

@@ -1,4 +1,4 @@
--- `dealtext::deals::is_rest` meets its contract. The loop's invariant: the remainder's cards passed are counted, and `held` says whether those of East are in it.
+-- `dealtext::sizes::is_rest` meets its contract. The loop's invariant: the remainder's cards passed are counted, and `held` says whether those of East are in it.
 -- The measure is what is left.
 -- Assumes nothing.
 use Prim.Native.Nat.{_+_, _-_, _≤_}
@@ -16,8 +16,8 @@ use Rattle.lin_spec.specs.declared.Seat.the-variants.{East}
 use Rattle.cards.proofs.HandLaws.{sum-next, sum-end, count-at, counts-most}
 use Rattle.dealtext.specs.Hands.{restOf}
 use Rattle.dealtext.proofs.EastLaws.{rest-long, held-turn, held-end, rest-is}
-use Rattle.dealtext.proofs.deals.is_rest.Statement.{statement}
-use Rattle.dealtext.proofs.deals.is_rest.Tie as tie
+use Rattle.dealtext.proofs.sizes.is_rest.Statement.{statement}
+use Rattle.dealtext.proofs.sizes.is_rest.Tie as tie
 
 abbrev Inv-loop : tie.InvT-loop
 Inv-loop counts east n₀ held₀ c₀ n held c = (n + sum (drop c (restOf counts)) ≡ sum (restOf counts)) × ((held && heldIn (drop c (handAt counts East)) (drop c (restOf counts))) ≡ heldIn (handAt counts East) (restOf counts)) × (n ≤ c) × (c ≤ 52)

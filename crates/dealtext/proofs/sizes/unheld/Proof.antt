@@ -1,10 +1,10 @@
--- `dealtext::deals::unheld` meets its contract: the test is the remainder's.
+-- `dealtext::sizes::unheld` meets its contract: the test is the remainder's.
 -- Assumes nothing.
 use native.Mathlib.Omega.{arith}
 use borrow.Author.Needs.{needs}
 use Rattle.dealtext.proofs.EastLaws.{rest-free, rest-held}
-use Rattle.dealtext.proofs.deals.unheld.Statement.{statement}
-use Rattle.dealtext.proofs.deals.unheld.Tie as tie
+use Rattle.dealtext.proofs.sizes.unheld.Statement.{statement}
+use Rattle.dealtext.proofs.sizes.unheld.Tie as tie
 
 mul-if1 : tie.Need-mul-if1
 mul-if1 c = search needs
