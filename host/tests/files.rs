@@ -358,10 +358,14 @@ fn repeated(unit: &str, times: usize, len: usize) -> Vec<u8> {
     text
 }
 
-/// Counted, walked by the cursor and searched: the boards and the sections.
+/// Counted, read and walked by the cursor, and searched: the boards and the
+/// sections.
 fn walk(text: &[u8]) -> (u64, u64) {
     let boards = files::count_boards(text).unwrap();
     assert_eq!(files::find_name(text, b""), Ok(boards));
+    let mut reader = files::read_boards(text).unwrap();
+    let read = std::iter::from_fn(|| reader.read().map(|b| b.number));
+    assert!(read.eq(0..boards));
     let mut cursor = BoardCursor::open(text).unwrap();
     for sections in 0.. {
         let step = cursor.step(text);
@@ -423,6 +427,10 @@ fn growth_of_moves_back() {
     grows(&run(100), 2_500, 2_500, 2_500);
     grows(&run(10_000), 26, 26, 26);
     grows(&run(131_000), 2, 2, 2);
+    let apart = |n: usize| format!("qx||md||{}an||", "pn||".repeat(n));
+    grows(&apart(1), 65_000, 65_000, 65_000);
+    grows(&apart(100), 2_500, 2_500, 2_500);
+    grows(&apart(10_000), 26, 26, 26);
 }
 
 #[test]

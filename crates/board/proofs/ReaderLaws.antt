@@ -56,7 +56,7 @@ use Rattle.board_steps.specs.Head.{boardAt}
 use Rattle.board.specs.Reader.{headOf, Places, Ample, Counted}
 use Rattle.board_steps.specs.Storing.{Fits, Stored}
 use Rattle.board_steps.specs.declared.heading.Head.{Head}
-use Rattle.board_steps.specs.declared.dealing.Dealt.{Dealt}
+use Rattle.lin_spec.specs.declared.Seat.{Seat}
 use Rattle.board_steps.specs.declared.play.NextCard.{NextCard}
 use Rattle.board_steps.proofs.DealingLaws.{dealt-last}
 use Rattle.board_steps.proofs.CallLaws.{annotated-length}
@@ -195,14 +195,14 @@ claim-is : (m : MaybeClaim) {o : Option ℕ} → claimOf m ≡ o → m ≡ claim
 claim-is NoClaim e = ap claimedOf e
 claim-is (Claimed n) e = ap claimedOf e
 
-pub with-deal : (s : List ℕ) (h : Head) (d : Dealt) → held d ≡ dealtFrom s (optionOf (h .md))
+pub with-deal : (s : List ℕ) (h : Head) (x : Seat) (d : List ℕ) → held x d ≡ dealtFrom s (optionOf (h .md))
     → record {
       verdict = Accepted;
       board =
           record {
             names = h .names;
-            dealer = d .dealer;
-            deal = d .deal;
+            dealer = x;
+            deal = record { counts = d };
             vulnerability = h .vulnerability;
             title = h .title;
             «room_board» = h .room;
@@ -212,7 +212,7 @@ pub with-deal : (s : List ℕ) (h : Head) (d : Dealt) → held d ≡ dealtFrom s
       calls = h .calls;
       cards = h .cards;
     } ≡ headOf s h
-with-deal s h d e =
+with-deal s h x d e =
     λ i.
     record {
       verdict = Accepted;

@@ -9,6 +9,7 @@ use document::Cursor;
 use document::Opened;
 use document::open;
 use lin_spec::Board;
+use lin_spec::Deal;
 use lin_spec::Heading;
 use lin_spec::Refusal;
 use lin_spec::RowKind;
@@ -50,11 +51,10 @@ pub fn heading_of(text: &[u8], h: Head) -> Heading
     requires { ⌜ length (now text) < 2 ^ 32 ⌝ }
     ensures { λ r. ⌜ r ≡ headOf (now (text .entry)) h ⌝ }
 {
+    let mut counts = [0u32; 208];
     let md = h.md;
-    let d = dealt_by(text, md);
+    let dealer = dealt_by(&mut counts, text, md);
     let names = h.names;
-    let dealer = d.dealer;
-    let deal = d.deal;
     let vulnerability = h.vulnerability;
     let title = h.title;
     let room_board = h.room;
@@ -63,7 +63,7 @@ pub fn heading_of(text: &[u8], h: Head) -> Heading
     let board = Board {
         names,
         dealer,
-        deal,
+        deal: Deal { counts },
         vulnerability,
         title,
         room_board,

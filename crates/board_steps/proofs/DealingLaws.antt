@@ -6,7 +6,7 @@ use mathlib.Core.Path.{_≡_, refl, ap, sym, _∙_}
 use mathlib.Core.Bool.{Bool, true, false, _||_}
 use mathlib.Core.List.{List, [], _∷_}
 use mathlib.Core.Option.{Option, none, some}
-use lib.ListN.{length, getD, take, drop, length-take, length-drop}
+use lib.ListN.{length, getD, take, drop, replicate, length-take, length-drop}
 use lib.Seq.{take-all}
 use lib.Dec.{eqb}
 use Rattle.lin_spec.specs.Base.{pick, ascii}
@@ -24,7 +24,6 @@ use Rattle.lin_spec.proofs.Rules.{over-change, md-skipped, md-whole}
 use Rattle.fields.specs.Fields.{isDealer, lastMd}
 use Rattle.board_steps.specs.Head.{onLast}
 use Rattle.board_steps.specs.Dealing.{held, dealtFrom}
-use Rattle.lin_spec.specs.declared.Deal.{Deal}
 use Rattle.lin_spec.specs.declared.MaybeSpan.{MaybeSpan}
 use Rattle.lin_spec.specs.declared.MaybeSpan.the-variants.{Absent, Present}
 
@@ -38,12 +37,17 @@ pub md-none : (s : List ℕ) (d : DealtBy) → (length s ≡ 0 → ⊥) → deal
 md-none [] d h e = absurd (h refl)
 md-none (b ∷ s) d h e = sym (md-skipped b s d e)
 
-pub md-given : (s : List ℕ) (d : DealtBy) (x : Seat) → (length s ≡ 0 → ⊥) → dealerOf (getD s 0 0) ≡ some x → (r : Deal) → r ≡ record { counts = dealOf (cut 0x2C (take (length s - 1) (drop 1 s))) }
-    → held (record { dealer = x; deal = r }) ≡ readMd s d
+pub md-given : (s : List ℕ) (d : DealtBy) (x : Seat) → (length s ≡ 0 → ⊥) → dealerOf (getD s 0 0) ≡ some x → (r : List ℕ) → r ≡ dealOf (cut 0x2C (take (length s - 1) (drop 1 s)))
+    → held x r ≡ readMd s d
 md-given [] d x h e r f = absurd (h refl)
 md-given (b ∷ s) d x h e r f =
     let t : take (suc (length s) - 1) s ≡ s = take-all (suc (length s) - 1) s (omega arith) in
     rw f (simp t (sym (md-whole b s d x e)))
+
+-- before the first md
+pub none-dealt : (d : List ℕ) → d ≡ replicate 208 0 → held North d ≡ undealt
+unfolding undealt
+none-dealt d e = rw e refl
 
 -- the value of an md, trimmed, is short
 part-short : (s : List ℕ) (a n : ℕ) → length (part s a n) ≤ length s

@@ -9,14 +9,13 @@ use Rattle.lin_spec.specs.declared.Span.{Span}
 use Rattle.lin_spec.specs.declared.Seat.{Seat}
 use Rattle.board_steps.specs.declared.dealing.MaybeSeat.{MaybeSeat}
 use Rattle.board_steps.specs.declared.dealing.MaybeSeat.the-variants.{Dealer, Nobody}
-use Rattle.board_steps.specs.declared.dealing.Dealt.{Dealt}
 
 abbrev pub seatOf : MaybeSeat → Option Seat
 seatOf (Dealer x) = some x
 seatOf Nobody = none
 
-abbrev pub held : Dealt → DealtBy
-held d = record { dealer = d .dealer; deal = d .deal .counts }
+abbrev pub held : Seat → (counts : List ℕ) → DealtBy
+held x d = record { dealer = x; deal = d }
 
 abbrev pub dealtFrom : (s : List ℕ) → Option Span → DealtBy
 dealtFrom s none = undealt

@@ -1,13 +1,12 @@
 // The dealer and the deal of an md value. (01: Board, md)
-use cards::deal_of;
-use lin_spec::Deal;
+use cards::count_deal;
 use lin_spec::MaybeSpan;
 use lin_spec::Seat;
 use text::shown;
 use white::trim;
 ghost use mathlib.Core.Path.{_≡_};
 ghost use Prim.Native.Nat.{_<_, _^_};
-ghost use lib.ListN.{length};
+ghost use lib.ListN.{length, replicate};
 ghost use Rattle.lin_spec.specs.Records.{optionOf};
 ghost use Rattle.lin_spec.specs.Board.{dealerOf, undealt, readMd};
 ghost use Rattle.board_steps.specs.Dealing.{seatOf, held, dealtFrom};
@@ -15,11 +14,6 @@ ghost use Rattle.board_steps.specs.Dealing.{seatOf, held, dealtFrom};
 enum MaybeSeat {
     Dealer(Seat),
     Nobody,
-}
-
-pub struct Dealt {
-    pub dealer: Seat,
-    pub deal: Deal,
 }
 
 // 1 2 3 4 is dealer S W N E.
@@ -41,39 +35,28 @@ fn dealer_of(b: u8) -> MaybeSeat
     MaybeSeat::Nobody
 }
 
-// Before the first md.
-fn undealt() -> Dealt
-    ensures { λ r. ⌜ held r ≡ undealt ⌝ }
-{
-    let deal = Deal::new();
-    Dealt {
-        dealer: Seat::North,
-        deal,
-    }
-}
-
-// The dealer and the deal of a trimmed value.
-fn read_md(s: &[u8]) -> Dealt
-    requires { ⌜ length (now s) < 2 ^ 32 ⌝ }
-    ensures { λ r. ⌜ held r ≡ readMd (now (s .entry)) undealt ⌝ }
+// The dealer of a trimmed value, and the deal, counted where none is counted yet. Without a dealer it is North, and no card is counted.
+fn read_md(counts: &mut [u32; 208], s: &[u8]) -> Seat
+    requires { ⌜ (now counts ≡ replicate 208 0) × (length (now s) < 2 ^ 32) ⌝ }
+    ensures { λ r. ⌜ held r (now (counts .exit)) ≡ readMd (now (s .entry)) undealt ⌝ }
 {
     if s.len() == 0 {
-        return undealt();
+        return Seat::North;
     }
     let MaybeSeat::Dealer(dealer) = dealer_of(s[0]) else {
-        return undealt();
+        return Seat::North;
     };
-    let deal = deal_of(&s[1..]);
-    Dealt { dealer, deal }
+    count_deal(counts, &s[1..]);
+    dealer
 }
 
-// The dealer and the deal of the value of the last md that was accepted.
-pub fn dealt_by(text: &[u8], md: MaybeSpan) -> Dealt
-    requires { ⌜ length (now text) < 2 ^ 32 ⌝ }
-    ensures { λ r. ⌜ held r ≡ dealtFrom (now (text .entry)) (optionOf md) ⌝ }
+// The same of the value of the last md that was accepted.
+pub fn dealt_by(counts: &mut [u32; 208], text: &[u8], md: MaybeSpan) -> Seat
+    requires { ⌜ (now counts ≡ replicate 208 0) × (length (now text) < 2 ^ 32) ⌝ }
+    ensures { λ r. ⌜ held r (now (counts .exit)) ≡ dealtFrom (now (text .entry)) (optionOf md) ⌝ }
 {
     match md {
-        MaybeSpan::Absent => undealt(),
-        MaybeSpan::Present(v) => read_md(trim(shown(text, v))),
+        MaybeSpan::Absent => Seat::North,
+        MaybeSpan::Present(v) => read_md(counts, trim(shown(text, v))),
     }
 }

@@ -7,7 +7,6 @@ mod storing;
 
 pub use calls::NextCall;
 pub use calls::next_call;
-pub use dealing::Dealt;
 pub use dealing::dealt_by;
 pub use heading::Head;
 pub use heading::fresh_head;

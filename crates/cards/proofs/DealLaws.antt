@@ -104,8 +104,8 @@ pub record Dealing (d p : List ℕ) (k m : ℕ) : Type 0 where
   pub long : length p ≡ k * 52
   pub is : d ≡ p ++ replicate m 0
 
-pub dealing-none : Dealing (replicate 208 0) [] 0 208
-dealing-none = record { long = refl; is = refl }
+pub dealing-none : (d : List ℕ) → d ≡ replicate 208 0 → Dealing d [] 0 208
+dealing-none d e = record { long = refl; is = e }
 
 module _ (d p : List ℕ) (k m : ℕ) (v : Dealing d p k (52 + m)) where
   -- there is place for a hand

@@ -3,14 +3,13 @@ use crate::hands::count_field;
 use crate::hands::count_rest;
 use crate::hands::seat_sum;
 use crate::letters::LETTERS;
-use lin_spec::Deal;
 use lin_spec::Seat;
 use text::find_byte;
 use text::part;
 use white::is_blank;
 ghost use mathlib.Core.Path.{_≡_};
 ghost use Prim.Native.Nat.{_≤_, _<_, _^_};
-ghost use lib.ListN.{length};
+ghost use lib.ListN.{length, replicate};
 ghost use Rattle.lin_spec.specs.Tokens.{cut};
 ghost use Rattle.lin_spec.specs.Cards.{noCards, thirteens, eastOf, dealOf};
 ghost use Rattle.cards.specs.Letters.{table};
@@ -45,16 +44,14 @@ fn count_east(counts: &mut [u32; 208], letters: &[u8; 128], s: &[u8], at: usize)
     count_field(counts, letters, 3, s, at);
 }
 
-// The deal of an md value, from what follows its dealer.
-pub fn deal_of(s: &[u8]) -> Deal
-    requires { ⌜ length (now s) < 2 ^ 32 ⌝ }
-    ensures { λ r. ⌜ r ≡ record { counts = dealOf (cut 0x2C (now (s .entry))) } ⌝ }
+// Counts the deal of an md value, from what follows its dealer, where none is counted yet.
+pub fn count_deal(counts: &mut [u32; 208], s: &[u8])
+    requires { ⌜ (now counts ≡ replicate 208 0) × (length (now s) < 2 ^ 32) ⌝ }
+    ensures { λ r. ⌜ now (counts .exit) ≡ dealOf (cut 0x2C (now (s .entry))) ⌝ }
 {
-    let mut counts = [0u32; 208];
     let letters = LETTERS;
-    let west = count_field(&mut counts, &letters, 0, s, 0);
-    let north = count_field(&mut counts, &letters, 1, s, west);
-    let east = count_field(&mut counts, &letters, 2, s, north);
-    count_east(&mut counts, &letters, s, east);
-    Deal { counts }
+    let west = count_field(counts, &letters, 0, s, 0);
+    let north = count_field(counts, &letters, 1, s, west);
+    let east = count_field(counts, &letters, 2, s, north);
+    count_east(counts, &letters, s, east);
 }

@@ -3,7 +3,7 @@ mod deals;
 mod hands;
 mod letters;
 
-pub use deals::deal_of;
+pub use deals::count_deal;
 pub use hands::seat_len;
 pub use hands::seat_sum;
 pub use letters::LETTERS;
