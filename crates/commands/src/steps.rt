@@ -33,11 +33,11 @@ fn far_command(text: &[u8], cursor: Cursor) -> Commanded
         return Commanded::Ended;
     }
     let k = command_at(text, at, p);
-    let value = Part {
+    let part = Part {
         start: v,
         len: q - v,
     };
-    Commanded::Token(k, value, Cursor { at: q + 1 })
+    Commanded::Token(k, part, Cursor { at: q + 1 })
 }
 
 // The same, for a command of two bytes at once.
