@@ -1,6 +1,6 @@
 -- Laws of the board reader: the calls and cards one at a time are the board's, the heading's numbers are their lengths, and what the entries give. (01: Board)
 -- Assumes nothing.
-use Prim.Native.Nat.{ℕ, suc, _+_, _-_, _*_, _/_, _≤_, _<_, _^_}
+use Prim.Native.Nat.{ℕ, _+_, _-_, _*_, _/_, _≤_, _<_, _^_}
 use native.Mathlib.Omega.{arith}
 use mathlib.Core.Path.{_≡_, refl, ap, sym, subst, _∙_}
 use mathlib.Core.Bool.{Bool, true, false, _&&_}
@@ -17,7 +17,7 @@ use Rattle.lin_spec.specs.Tokens.Pieces.{end, piece}
 use Rattle.lin_spec.specs.Tokens.TokenOf.{token}
 use Rattle.lin_spec.specs.Cards.{readCard}
 use Rattle.lin_spec.specs.Board.{CallOf, BoardOf, callOf, annotated, played, undealt, over, onDealt, onCalls, onPlay, boardFrom}
-use Rattle.lin_spec.specs.Reading.{spanText, placed, stream, parseSpans, flag, maybeOf, claimedOf, headingOf, headed, readHeading, annotationWords, callWords, fewRows, stored, readBoard}
+use Rattle.lin_spec.specs.Reading.{spanText, placed, stream, parseSpans, maybeOf, claimedOf, headingOf, headed, readHeading, fewRows, stored, readBoard}
 use Rattle.lin_spec.specs.Fresh.{refusedHeading}
 use Rattle.lin_spec.specs.Refusals.{Answer, unless, tooLong, notUtf8}
 use Rattle.lin_spec.specs.Refusals.Answer.{refused, accepted}
@@ -50,7 +50,7 @@ use Rattle.lin_spec.specs.Lent.{claimOf}
 use Rattle.fields.specs.Fields.{more}
 use Rattle.board_steps.specs.Head.{freshHead, onCount, onCard, Leaves}
 use Rattle.board_steps.specs.Dealing.{held, dealtFrom}
-use Rattle.board_steps.specs.Calls.{isPresent, placeOf, rowOf, rowWords, with, callsAfter, callsFrom}
+use Rattle.board_steps.specs.Calls.{with, callsAfter, callsFrom}
 use Rattle.board_steps.specs.Play.{before, cardsFrom, Gives as Card·Gives}
 use Rattle.board_steps.specs.Head.{boardAt}
 use Rattle.board.specs.Reader.{headOf, Places, Ample, Counted}

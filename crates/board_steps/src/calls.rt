@@ -11,7 +11,6 @@ use lin_spec::MaybeSpan;
 use lin_spec::Span;
 use text::shown;
 ghost use mathlib.Core.Path.{_≡_};
-ghost use mathlib.Core.List.{[], _∷_};
 ghost use Prim.Native.Nat.{_<_, _≤_, _^_};
 ghost use lib.ListN.{length};
 ghost use Rattle.lin_spec.specs.Board.{withoutEnd, callOf};

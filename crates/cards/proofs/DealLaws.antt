@@ -1,18 +1,17 @@
 -- Deals as the code makes them: the fields between commas, East's hand, a hand stored in its place, four of them. (01: Board, md)
 -- Assumes nothing.
 use Prim.Native.Nat.{ℕ, zero, suc, _+_, _-_, _*_, _≤_, _<_}
-use native.Mathlib.Nat.{sub-zero}
 use native.Mathlib.Numerals.{add-one}
 use native.Mathlib.Omega.{arith}
 use mathlib.Core.Path.{_≡_, refl, ap, sym, _∙_}
 use mathlib.Core.Bool.{Bool, true, false, _&&_}
 use mathlib.Core.List.{List, [], _++_, append-assoc, append-nil}
-use lib.ListN.{length, getD, set, take, drop, replicate, length-append, length-replicate, drop-of-length-le, replicate-append-replicate, List·getD-append}
+use lib.ListN.{length, getD, set, take, drop, replicate, length-append, length-replicate, replicate-append-replicate, List·getD-append}
 use lib.Seq.{take-at, drop-at, drop-drop, length-take-le, take-all, getD-take, paste, paste-suc}
 use lib.Dec.{eqb}
 use Rattle.lin_spec.specs.Records.{part}
 use Rattle.lin_spec.specs.White.{blank}
-use Rattle.lin_spec.specs.Tokens.{Pieces, cut}
+use Rattle.lin_spec.specs.Tokens.{Pieces}
 use Rattle.lin_spec.specs.Tokens.Pieces.{end, piece}
 use Rattle.lin_spec.specs.Cursor.{findFrom}
 use Rattle.lin_spec.specs.Base.{pick}

@@ -5,12 +5,12 @@ use Prim.Native.Nat.{ℕ, zero, suc, _+_, _-_, _*_, _≤_, _<_}
 use native.Mathlib.Nat.{zero-add, suc-add}
 use native.Mathlib.Numerals.{add-one}
 use native.Mathlib.Omega.{arith}
-use mathlib.Core.Path.{_≡_, refl, ap, sym, subst, _∙_}
+use mathlib.Core.Path.{_≡_, refl, ap, sym, _∙_}
 use mathlib.Core.Bool.{Bool, true, false, _&&_, and-false, false≢true}
 use mathlib.Core.List.{List, [], _∷_, _++_, map}
 use mathlib.Core.Option.{Option, none, some}
 use lib.ListN.{length, getD, set, take, drop, length-map, length-set, length-take, length-drop, drop-of-length-le, take-append-drop, List·getD-append}
-use lib.Seq.{drop-cons, drop-drop, length-take-le, take-all, take-suc, take-suc-set, getD-take, getD-drop, getD-append-add, set-append-left}
+use lib.Seq.{drop-cons, drop-drop, length-take-le, getD-take, getD-drop, getD-append-add, set-append-left}
 use lib.Dec.{eqb, leb, ltb}
 use borrow.Author.Tests.{lt-ltb, le-ltb, le-leb, ltb-true}
 use Rattle.lin_spec.specs.Base.{pick}
@@ -24,7 +24,7 @@ use Rattle.lin_spec.proofs.Records.{part-rest, part-length}
 use Rattle.lin_spec.proofs.Cursor.{find-here, find-next, find-after, find-within, find-end, cut-at, cut-end}
 use Rattle.lin_spec.proofs.Cards.{count-sum, set-sum, remainder-at, remainder-length}
 use Rattle.cards.specs.Letters.{suitIn, rankIn}
-use Rattle.cards.specs.Deals.{others, fieldAt, placed, handOf, Counted}
+use Rattle.cards.specs.Deals.{others, fieldAt, placed, Counted}
 
 -- The loop over a text: the rest of it makes of the hand so far what the whole text makes of none
 

@@ -10,8 +10,7 @@ use lib.ListN.{length, getD}
 use lib.Dec.{eqb, leb, ltb}
 use borrow.Author.Tests.{eqb-true, leb-true, lt-ltb, le-ltb}
 use Rattle.lin_spec.specs.Base.{pick}
-use Rattle.lin_spec.specs.White.{lower, trim}
-use Rattle.lin_spec.specs.Tokens.{pipe}
+use Rattle.lin_spec.specs.White.{lower}
 use Rattle.lin_spec.specs.Cards.{indexOf, suitOf, rankOf, cardOf, readCard}
 use Rattle.lin_spec.proofs.Base.{and-left, and-right, allBelow, below}
 use Rattle.lin_spec.proofs.White.{Visible, trim-visible}

@@ -9,7 +9,7 @@ ghost use lib.ListN.{length};
 ghost use lib.Dec.{eqb};
 ghost use Rattle.lin_spec.specs.Base.{pick};
 ghost use Rattle.lin_spec.specs.Records.{part};
-ghost use Rattle.lin_spec.specs.Cards.{noCards, sum, remainder};
+ghost use Rattle.lin_spec.specs.Cards.{noCards, remainder};
 ghost use Rattle.lin_spec.specs.Letters.{handLength};
 ghost use Rattle.cards.specs.Letters.{table};
 ghost use Rattle.cards.specs.Deals.{placed, handOf, Counted};

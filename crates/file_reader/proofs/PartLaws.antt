@@ -8,7 +8,7 @@ use mathlib.Core.List.{List, [], _∷_}
 use mathlib.Core.Option.{none}
 use lib.ListN.{length, take, length-take}
 use lib.Dec.{eqb, ltb}
-use borrow.Author.Tests.{eq-eqb, ne-eqb, eqb-true, not-true, not-false, le-leb, le-ltb, lt-ltb, ltb-true}
+use borrow.Author.Tests.{eq-eqb, ne-eqb, eqb-true, not-true, not-false, le-leb, lt-ltb, ltb-true}
 use Rattle.lin_spec.specs.Base.{pick, ascii}
 use Rattle.lin_spec.specs.Records.{span, endOf, bytesAt}
 use Rattle.lin_spec.specs.White.{trim, isCommand}

@@ -4,7 +4,7 @@ use Prim.Native.Nat.{ℕ, _-_, _≤_, _<_, _^_}
 use native.Mathlib.Omega.{arith}
 use mathlib.Core.Path.{_≡_, refl, ap, sym, subst, _∙_}
 use mathlib.Core.Bool.{true, false, not, _&&_}
-use mathlib.Core.List.{List, []}
+use mathlib.Core.List.{List}
 use lib.ListN.{length, take, length-take}
 use lib.Dec.{leb}
 use borrow.Author.Tests.{lt-ltb, le-ltb, leb-true, not-true}
@@ -12,7 +12,7 @@ use Rattle.lin_spec.specs.Records.{limit}
 use Rattle.lin_spec.specs.Refusals.{unless}
 use Rattle.lin_spec.specs.Fresh.{refusedHeading}
 use Rattle.lin_spec.specs.Board.{BoardOf, boardFrom, over}
-use Rattle.lin_spec.specs.Reading.{spanText, stream, fewRows, Reading, stored}
+use Rattle.lin_spec.specs.Reading.{fewRows, Reading, stored}
 use Rattle.lin_spec.specs.File.{Section as Part, section, boardIn, partAt, Visit, visit, after, seen, ReadStep, readStep}
 use Rattle.lin_spec.specs.File.Visit.{found, ended}
 use Rattle.lin_spec.specs.declared.Span.{Span}

@@ -3,7 +3,6 @@
 use denote.Ref.{now}
 use mathlib.Core.Path.{refl}
 use Rattle.board.proofs.ReaderLaws.{with-deal}
-use borrow.Author.Needs.{needs}
 use Rattle.board.proofs.reader.heading_of.Statement.{statement}
 use Rattle.board.proofs.reader.heading_of.Tie as tie
 

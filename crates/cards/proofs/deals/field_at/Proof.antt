@@ -1,6 +1,5 @@
 -- `cards::deals::field_at` meets its contract. (01: Board, md)
 -- Assumes nothing.
-use mathlib.Core.Path.{_∙_}
 use borrow.Author.Needs.{needs}
 use Rattle.cards.proofs.DealLaws.{find-from, field-found}
 use Rattle.cards.proofs.deals.field_at.Statement.{statement}

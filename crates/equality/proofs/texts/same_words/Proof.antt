@@ -5,7 +5,6 @@ use native.Mathlib.Omega.{arith}
 use mathlib.Core.Path.{_≡_, refl}
 use mathlib.Core.Bool.{_&&_}
 use lib.ListN.{length, drop}
-use borrow.Author.Needs.{needs}
 use Rattle.lin_spec.specs.Base.{eqList}
 use Rattle.equality.proofs.EqualityLaws.{words-differ, like-end, like-next}
 use Rattle.equality.proofs.texts.same_words.Statement.{statement}
