@@ -104,6 +104,10 @@ pub const ALL: &[Work] = &[
         time: equality,
     },
     Work {
+        name: "== | same_board, texts apart",
+        time: equality_apart,
+    },
+    Work {
         name: "from_board | from_board",
         time: converting,
     },
@@ -325,11 +329,36 @@ fn writing(text: &str, runs: usize) -> Times {
 
 /// Each board against its copy.
 fn equality(text: &str, runs: usize) -> Times {
+    equality_by(text, runs, |board| board)
+}
+
+/// The same, where each text of the copy stands a byte further on.
+fn equality_apart(text: &str, runs: usize) -> Times {
+    equality_by(text, runs, |mut board| {
+        board.text.insert(0, b' ');
+        let heading = &mut board.board;
+        heading.names.iter_mut().step_by(2).for_each(|n| *n += 1);
+        for text in [
+            &mut heading.title,
+            &mut heading.room_board,
+            &mut heading.board_header,
+        ] {
+            text.start += text.present;
+        }
+        for row in board.rows.chunks_exact_mut(ROW) {
+            row[0] += 1;
+            row[4] += row[3];
+        }
+        board
+    })
+}
+
+fn equality_by(text: &str, runs: usize, other: impl Fn(Gathered) -> Gathered) -> Times {
     let boards = fitting(text);
     let copies = boards.clone();
     let gather = |b: &LinData| Gathered::from(&upstream::board(b));
     let lent: Vec<Gathered> = boards.iter().map(gather).collect();
-    let others: Vec<Gathered> = boards.iter().map(gather).collect();
+    let others: Vec<Gathered> = boards.iter().map(|b| other(gather(b))).collect();
     let same = || {
         let pairs = black_box(&lent).iter().zip(&others);
         pairs
