@@ -126,7 +126,8 @@ impl BoardCursor {
     }
 
     /// The step as the export gives it, with its part or line read as a board;
-    /// rows and cards are filled as by `boards::parse_lin_numbers`.
+    /// rows and cards are filled as by `boards::parse_lin_numbers`. Refusals 1
+    /// and 3; 2 was looked for when the cursor was opened, and is not here.
     pub fn read(self, text: &[u8], rows: &mut [u32], cards: &mut [u8]) -> LinRead {
         // SAFETY: each pointer and length are those of one slice, and rows and
         // cards, being borrowed alone, overlap no other.

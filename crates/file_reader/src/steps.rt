@@ -50,7 +50,8 @@ fn read_parts(text: &[u8], c: BoardCursor, rows: &mut [u32], cards: &mut [u8]) -
     BoardRead { step, heading }
 }
 
-// The step at a cursor, and its section read as a board: its calls go into the rows, six words each, and its play into the cards.
+// The step at a cursor, and its section read as a board: its calls go into the rows, six words each, and its play into the cards. 1 and 3 refuse the
+// reading; 2 is looked for where the cursor is opened, and not here.
 pub fn read_board(text: &[u8], c: BoardCursor, rows: &mut [u32], cards: &mut [u8]) -> BoardRead
     ensures { λ r. ⌜ readOf r (now (rows .exit)) (now (cards .exit)) ≡ readStep (now (text .entry)) (standingOf c) (now (rows .entry)) (now (cards .entry)) ⌝ }
 {

@@ -180,7 +180,7 @@ pub extern "C" fn lin_next_board(text: &[u8], at: u64, number: u64, lines: u32) 
     section_numbers(cursor.next(text))
 }
 
-// The same, and its part or line read as a board. Rows and cards are as for lin_parse_lin.
+// The same, and its part or line read as a board. Rows and cards are as for lin_parse_lin. 1 and 3 refuse the reading; 2 is looked for by lin_open_boards.
 #[no_mangle]
 pub extern "C" fn lin_read_board(
     text: &[u8],

@@ -153,8 +153,8 @@ pub fn visit(bytes: &[u8], at: u64, number: u64) -> Same {
 
 /// The step that reads, with places for any board and with as many as the board
 /// needs and fewer: the same step, and the board that upstream reads of the
-/// section. A section that is no text has no such board, and only the step and
-/// what is lent are held to.
+/// section. A section that is no text has no such board: there the step is held
+/// to, and what is lent to the board that was read with places for any.
 fn reads(bytes: &[u8], cursor: BoardCursor, step: LinSection) -> Same {
     let most = bytes.len() / 4;
     let (mut rows, mut cards) = (vec![0; ROW * most], vec![0; most]);
@@ -164,9 +164,6 @@ fn reads(bytes: &[u8], cursor: BoardCursor, step: LinSection) -> Same {
         start: step.start,
         len: step.stop - step.start,
     };
-    let Ok(text) = std::str::from_utf8(part.of(bytes)) else {
-        return Ok(());
-    };
     let heading = read
         .heading
         .read(bytes)
@@ -174,8 +171,10 @@ fn reads(bytes: &[u8], cursor: BoardCursor, step: LinSection) -> Same {
     let calls = boards::calls(bytes, &rows[..ROW * heading.calls]);
     let play = cards[..heading.cards].iter().map(|c| Card(*c)).collect();
     let got = Board::new(heading, calls, play);
-    let Ok(want) = oracle::lin::parse_lin(text);
-    as_upstream(&got, &want)?;
+    if let Ok(text) = std::str::from_utf8(part.of(bytes)) {
+        let Ok(want) = oracle::lin::parse_lin(text);
+        as_upstream(&got, &want)?;
+    }
     lent(
         bytes,
         &|rows, cards| cursor.read(bytes, rows, cards).heading,
