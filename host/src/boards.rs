@@ -5,13 +5,13 @@
 //!
 //! let text = "pn|Ann,José|md|1SAKH2,CT|sv|e|mb|1N!|an|15-17|pc|HQ|mc|9|".as_bytes();
 //! let board = boards::board(text)?;
-//! assert_eq!(board.heading.name(Seat::West), "José".as_bytes());
+//! assert_eq!(board.heading.name(Seat::West), "José");
 //! assert_eq!(board.heading.dealer, Seat::South);
 //! assert_eq!(board.heading.vulnerability, Vulnerability::EastWest);
 //! assert_eq!(board.heading.claim, Some(9));
 //! let south: Vec<String> = board.heading.deal.cards(Seat::South).map(|c| c.to_string()).collect();
 //! assert_eq!(south, ["SA", "SK", "H2"]);
-//! assert_eq!((board.calls[0].bid, board.calls[0].alerted), (&b"1N"[..], true));
+//! assert_eq!((board.calls[0].bid, board.calls[0].alerted), ("1N", true));
 //! assert_eq!(board.play, ["HQ".parse::<Card>().unwrap()]);
 //!
 //! // the heading alone tells how many rows and cards the board needs
@@ -20,9 +20,9 @@
 //! # Ok::<(), lin_host_rust::Refusal>(())
 //! ```
 
-use crate::{ffi, tokens::Span, Refusal};
-use std::{fmt, str::FromStr};
+use crate::{ffi, gathered::shown, tokens::Span, Refusal};
 
+pub use crate::cards::{Card, Deal, NoCard, Rank, Suit};
 pub use ffi::{LinBoard, LinHeading, LinText};
 
 /// The words of a call's row: bid start and length, alerted, annotated,
@@ -32,26 +32,36 @@ pub const ROW: usize = 6;
 /// A seat, in LIN's order.
 #[derive(Debug, Clone, Copy, PartialEq, Eq)]
 pub enum Seat {
+    /// South.
     South,
+    /// West.
     West,
+    /// North.
     North,
+    /// East.
     East,
 }
 
 impl Seat {
+    /// The seats by their numbers, 0 to 3.
     pub const ALL: [Seat; 4] = [Seat::South, Seat::West, Seat::North, Seat::East];
 }
 
 /// Which sides are vulnerable.
 #[derive(Debug, Clone, Copy, PartialEq, Eq)]
 pub enum Vulnerability {
+    /// Neither side.
     None,
+    /// North and South.
     NorthSouth,
+    /// East and West.
     EastWest,
+    /// Both sides.
     Both,
 }
 
 impl Vulnerability {
+    /// The four by their numbers, 0 to 3.
     pub const ALL: [Vulnerability; 4] = [
         Vulnerability::None,
         Vulnerability::NorthSouth,
@@ -60,123 +70,29 @@ impl Vulnerability {
     ];
 }
 
-/// A card by its number, 0 to 51: suit times 13 plus rank, suits S, H, D, C and
-/// ranks from 2 to A. It shows as suit and rank, `SA`.
-#[derive(Debug, Clone, Copy, PartialEq, Eq)]
-pub struct Card(pub u8);
-
-const SUITS: &str = "SHDC";
-const RANKS: &str = "23456789TJQKA";
-
-/// A text that is no card.
-#[derive(Debug, Clone, Copy, PartialEq, Eq)]
-pub struct NoCard;
-
-impl fmt::Display for NoCard {
-    fn fmt(&self, f: &mut fmt::Formatter) -> fmt::Result {
-        f.write_str("no suit and rank")
-    }
-}
-
-impl std::error::Error for NoCard {}
-
-impl FromStr for Card {
-    type Err = NoCard;
-
-    /// Exactly a suit and a rank, in either case.
-    fn from_str(text: &str) -> Result<Card, NoCard> {
-        let upper = text.to_ascii_uppercase();
-        let mut letters = upper.chars();
-        let (Some(suit), Some(rank), None) = (letters.next(), letters.next(), letters.next())
-        else {
-            return Err(NoCard);
-        };
-        let suit = SUITS.find(suit).ok_or(NoCard)?;
-        let rank = RANKS.find(rank).ok_or(NoCard)?;
-        Ok(Card((13 * suit + rank) as u8))
-    }
-}
-
-impl fmt::Display for Card {
-    fn fmt(&self, f: &mut fmt::Formatter) -> fmt::Result {
-        let letter = |of: &str, n: u8| of.chars().nth(n.into()).unwrap_or('?');
-        let suit = letter(SUITS, self.0 / 13);
-        let rank = letter(RANKS, self.0 % 13);
-        write!(f, "{suit}{rank}")
-    }
-}
-
-/// How often each seat holds each card.
-#[derive(Debug, Clone, Copy, PartialEq, Eq)]
-pub struct Deal {
-    counts: [u32; 208],
-}
-
-impl Default for Deal {
-    fn default() -> Deal {
-        Deal::new()
-    }
-}
-
-impl Deal {
-    /// No card in any hand.
-    pub fn new() -> Deal {
-        Deal { counts: [0; 208] }
-    }
-
-    /// Gives a seat a card, once more if it holds it.
-    ///
-    /// # Panics
-    ///
-    /// If there is no such card, or its count would pass 32 bits.
-    pub fn add(&mut self, seat: Seat, card: Card) {
-        assert!(card.0 < 52, "no card: {}", card.0);
-        let count = &mut self.counts[52 * seat as usize + usize::from(card.0)];
-        *count = count.checked_add(1).expect("a count of 32 bits");
-    }
-
-    /// The counts of all hands, at seat times 52 plus card.
-    pub fn counts(&self) -> &[u32; 208] {
-        &self.counts
-    }
-
-    /// The counts of a seat's 52 cards.
-    pub fn hand(&self, seat: Seat) -> &[u32] {
-        let from = 52 * seat as usize;
-        &self.counts[from..from + 52]
-    }
-
-    /// The cards of a seat by suit, ranks from A down, a repeated one as often as
-    /// it is counted.
-    pub fn cards(&self, seat: Seat) -> impl Iterator<Item = Card> + '_ {
-        let hand = self.hand(seat);
-        let down = (0..52u8).map(|n| 13 * (n / 13) + 12 - n % 13);
-        down.flat_map(|n| (0..hand[usize::from(n)]).map(move |_| Card(n)))
-    }
-
-    /// How many cards a seat holds, a repeated one as often as it is counted.
-    pub fn len(&self, seat: Seat) -> u64 {
-        self.hand(seat).iter().map(|n| u64::from(*n)).sum()
-    }
-}
-
 /// A board without its calls and its play; its texts are parts of the text
 /// that it was read from.
 #[derive(Debug, Clone, Copy, PartialEq, Eq)]
 pub struct Heading<'a> {
     /// The names of S, W, N, E.
-    pub names: [&'a [u8]; 4],
+    pub names: [&'a str; 4],
+    /// Who deals.
     pub dealer: Seat,
+    /// The hands.
     pub deal: Deal,
+    /// Which sides are vulnerable.
     pub vulnerability: Vulnerability,
-    /// What mn, qx and ah say.
-    pub title: Option<&'a [u8]>,
-    pub room_board: Option<&'a [u8]>,
-    pub board_header: Option<&'a [u8]>,
-    /// The tricks that are claimed.
+    /// What mn says.
+    pub title: Option<&'a str>,
+    /// What qx says.
+    pub room_board: Option<&'a str>,
+    /// What ah says.
+    pub board_header: Option<&'a str>,
+    /// What mc says.
     pub claim: Option<u8>,
-    /// How many calls and how many cards of play the board has.
+    /// How many calls the board has.
     pub calls: usize,
+    /// How many cards its play has.
     pub cards: usize,
 }
 
@@ -184,17 +100,21 @@ pub struct Heading<'a> {
 #[derive(Debug, Clone, Copy, PartialEq, Eq)]
 pub struct Call<'a> {
     /// As it was written, without the marks of an alert.
-    pub bid: &'a [u8],
+    pub bid: &'a str,
+    /// Whether an alert was marked.
     pub alerted: bool,
     /// What an says of it.
-    pub annotation: Option<&'a [u8]>,
+    pub annotation: Option<&'a str>,
 }
 
 /// A board. The default is one before its first token.
 #[derive(Debug, Clone, PartialEq, Eq, Default)]
 pub struct Board<'a> {
+    /// All but the calls and the play, with their numbers.
     pub heading: Heading<'a>,
+    /// The auction.
     pub calls: Vec<Call<'a>>,
+    /// The cards in the order of play.
     pub play: Vec<Card>,
 }
 
@@ -203,7 +123,7 @@ impl Default for Heading<'_> {
     /// card, none is vulnerable, and all else is empty or absent.
     fn default() -> Self {
         Heading {
-            names: [b""; 4],
+            names: [""; 4],
             dealer: Seat::North,
             deal: Deal::new(),
             vulnerability: Vulnerability::None,
@@ -219,7 +139,7 @@ impl Default for Heading<'_> {
 
 impl<'a> Heading<'a> {
     /// The name at a seat.
-    pub fn name(&self, seat: Seat) -> &'a [u8] {
+    pub fn name(&self, seat: Seat) -> &'a str {
         self.names[seat as usize]
     }
 }
@@ -250,16 +170,16 @@ pub(crate) fn flag(word: u32) -> bool {
 }
 
 /// A part of the text, or its absence: present or not, start and length.
-fn part(words: [u32; 3], text: &[u8]) -> Option<&[u8]> {
+fn part(words: [u32; 3], text: &[u8]) -> Option<&str> {
     match words {
         [0, 0, 0] => None,
-        [1, start, len] => Some(Span::new(start, len).of(text)),
+        [1, start, len] => Some(shown(Span::new(start, len).of(text))),
         _ => panic!("neither a part nor its absence: {words:?}"),
     }
 }
 
 impl LinText {
-    fn of(self, text: &[u8]) -> Option<&[u8]> {
+    fn of(self, text: &[u8]) -> Option<&str> {
         part([self.present, self.start, self.len], text)
     }
 }
@@ -279,20 +199,19 @@ impl LinHeading {
     ///
     /// # Panics
     ///
-    /// If a number has no meaning: see `LinAnswer::read`.
+    /// If a number has no meaning, see [`LinAnswer::read`](crate::LinAnswer::read),
+    /// or a text is not a part of this one, or not UTF-8: no heading of this text.
     pub fn read(self, text: &[u8]) -> Result<Heading<'_>, Refusal> {
         assert_eq!(self.answer.read()?, 0, "a value beside a heading");
         let board = self.board;
         let name = |seat: usize| {
             let [start, len] = [board.names[2 * seat], board.names[2 * seat + 1]];
-            Span::new(start, len).of(text)
+            shown(Span::new(start, len).of(text))
         };
         Ok(Heading {
             names: [0, 1, 2, 3].map(name),
             dealer: Seat::ALL[board.dealer as usize],
-            deal: Deal {
-                counts: board.counts,
-            },
+            deal: Deal::from(board.counts),
             vulnerability: Vulnerability::ALL[board.vulnerability as usize],
             title: board.title.of(text),
             room_board: board.room_board.of(text),
@@ -343,18 +262,29 @@ pub fn parse_lin_into<'a>(
     parse_lin_numbers(text, rows, cards).read(text)
 }
 
-/// The calls of the rows that `parse_lin_into` filled.
+/// The calls of the rows that [`parse_lin_into`] filled.
 ///
 /// # Panics
 ///
-/// If a word has no meaning.
+/// If a word has no meaning, or a text is not a part of this one, or not UTF-8:
+/// no rows of this text.
 pub fn calls<'a>(text: &'a [u8], rows: &[u32]) -> Vec<Call<'a>> {
     let call = |row: &[u32]| Call {
-        bid: Span::new(row[0], row[1]).of(text),
+        bid: shown(Span::new(row[0], row[1]).of(text)),
         alerted: flag(row[2]),
         annotation: part([row[3], row[4], row[5]], text),
     };
     rows.chunks_exact(ROW).map(call).collect()
+}
+
+/// The play of the cards that [`parse_lin_into`] filled.
+///
+/// # Panics
+///
+/// If a byte is no card.
+pub fn play(cards: &[u8]) -> Vec<Card> {
+    let card = |n: &u8| Card::new(*n).expect("a card");
+    cards.iter().map(card).collect()
 }
 
 /// A board in as many rows and cards as its heading tells; `read` fills them.
@@ -369,7 +299,7 @@ pub(crate) fn filled<'a>(
     Ok(Board {
         heading,
         calls: calls(text, &rows),
-        play: cards.into_iter().map(Card).collect(),
+        play: play(&cards),
     })
 }
 

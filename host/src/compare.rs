@@ -5,11 +5,13 @@ mod boards;
 mod files;
 mod guards;
 mod pbn;
+mod reader;
 mod writer;
 
 pub use boards::{as_upstream as fields_of, board, read};
 pub use files::{file, name, visit, visits};
 pub use pbn::{annotation, annotations, converted, record, Sizes};
+pub use reader::{read_board, reads, walk, Standing};
 pub use writer::{append, appends, equality, play_text, written};
 
 use crate::{
@@ -20,6 +22,7 @@ use crate::{
 use guards::held;
 use std::fmt::Debug;
 
+/// Nothing, or what differs.
 pub type Same = Result<(), String>;
 
 fn same<T: PartialEq + Debug>(what: &str, got: T, want: T) -> Same {

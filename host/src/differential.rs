@@ -15,31 +15,53 @@ use sweeps::{Scalars, Words};
 /// What is compared.
 #[derive(Debug, Clone, Copy, PartialEq, Eq)]
 pub enum Kind {
+    /// Texts, by their tokens.
     Texts,
+    /// Runs of bytes, opened.
     Bytes,
+    /// Places that a cursor steps from.
     Places,
+    /// Documents written.
     Documents,
+    /// Boards read.
     Boards,
+    /// Files read.
     Files,
+    /// Steps that read a board, from any place.
+    Reads,
+    /// Files walked by them.
+    Walks,
+    /// Boards written.
     Written,
+    /// Play texts.
     Plays,
+    /// Pairs of boards, compared both ways.
     Pairs,
+    /// Lists of appends.
     Lists,
+    /// The appends in them.
     Appends,
+    /// Annotations as text.
     Annotations,
+    /// PBN records.
     Records,
+    /// Texts with one scalar value.
     Scalars,
+    /// Short words.
     Words,
 }
 
 impl Kind {
-    pub const ALL: [(Kind, &'static str); 15] = [
+    /// Every kind, with its line of a report.
+    pub const ALL: [(Kind, &'static str); 17] = [
         (Kind::Texts, "texts, by tokens"),
         (Kind::Bytes, "runs of bytes, opened"),
         (Kind::Places, "places that a cursor steps from"),
         (Kind::Documents, "documents written"),
         (Kind::Boards, "boards read"),
         (Kind::Files, "files read"),
+        (Kind::Reads, "steps that read a board, from any place"),
+        (Kind::Walks, "files walked by them"),
         (Kind::Written, "boards written"),
         (Kind::Plays, "play texts"),
         (Kind::Pairs, "pairs of boards, compared both ways"),
@@ -56,18 +78,21 @@ impl Kind {
 #[derive(Debug, Clone, Default)]
 pub struct Report {
     counts: [u64; Kind::ALL.len()],
-    /// How many scalar values and how many short words had their turn, and how
-    /// many there are.
+    /// How many scalar values had their turn, and how many there are.
     pub scalars: (u64, u64),
+    /// The same of short words.
     pub words: (u64, u64),
+    /// What differed, each with its case.
     pub differences: Vec<String>,
 }
 
 impl Report {
+    /// How many cases of a kind were compared.
     pub fn count(&self, kind: Kind) -> u64 {
         self.counts[kind as usize]
     }
 
+    /// How many cases were compared.
     pub fn cases(&self) -> u64 {
         self.counts.iter().sum()
     }

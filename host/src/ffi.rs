@@ -20,10 +20,15 @@ pub struct LinAnswer {
 pub struct LinStep {
     /// 1 with a token, 0 without.
     pub found: u32,
+    /// Where the command begins.
     pub command_start: u64,
+    /// How many bytes it has.
     pub command_len: u64,
+    /// Where the value begins.
     pub value_start: u64,
+    /// How many bytes it has.
     pub value_len: u64,
+    /// The place after the token.
     pub next: u64,
 }
 
@@ -31,7 +36,9 @@ pub struct LinStep {
 #[repr(C)]
 #[derive(Debug, Clone, Copy, PartialEq, Eq)]
 pub struct LinPart {
+    /// The place of its first byte.
     pub start: u64,
+    /// How many bytes it has.
     pub len: u64,
 }
 
@@ -41,7 +48,9 @@ pub struct LinPart {
 pub struct LinText {
     /// 1 with a text, 0 without.
     pub present: u32,
+    /// The place of its first byte.
     pub start: u32,
+    /// How many bytes it has.
     pub len: u32,
 }
 
@@ -55,8 +64,11 @@ pub struct LinBoard {
     pub dealer: u32,
     /// 0 none, 1 NS, 2 EW, 3 both.
     pub vulnerability: u32,
+    /// What mn says.
     pub title: LinText,
+    /// What qx says.
     pub room_board: LinText,
+    /// What ah says.
     pub board_header: LinText,
     /// 1 with a claim, 0 without.
     pub claimed: u32,
@@ -72,8 +84,11 @@ pub struct LinBoard {
 pub struct LinHeading {
     /// The value is 0 where nothing is refused.
     pub answer: LinAnswer,
+    /// How many calls the board has.
     pub calls: u64,
+    /// How many cards its play has.
     pub cards: u64,
+    /// The board.
     pub board: LinBoard,
 }
 
@@ -84,14 +99,17 @@ pub struct LinHeading {
 pub struct LinBoards {
     /// The value is 0 where nothing is refused.
     pub answer: LinAnswer,
+    /// The place of the next part or line.
     pub at: u64,
+    /// The number of the next board.
     pub number: u64,
     /// 1 for a file of lines, 0 for one of parts.
     pub lines: u32,
 }
 
 /// A step of the board cursor. Without a part or a line its numbers are 0, and
-/// the cursor is as it was.
+/// the cursor is as it was. After a last line that no LF ends the cursor's place
+/// is one past the text's length.
 #[repr(C)]
 #[derive(Debug, Clone, Copy, PartialEq, Eq)]
 pub struct LinSection {
@@ -99,20 +117,44 @@ pub struct LinSection {
     pub found: u32,
     /// The number that it has if it is a board.
     pub number: u64,
+    /// The place where it begins.
     pub start: u64,
+    /// The place where it ends.
     pub stop: u64,
     /// 1 for a board, 0 for none.
     pub board: u32,
+    /// The place of the next part or line.
     pub next_at: u64,
+    /// The number of the next board.
     pub next_number: u64,
 }
 
-/// A step of the board cursor, and the heading of its section.
+/// A step of the board cursor to the next board, and the board. Without one, or
+/// refused, its numbers are 0, the cursor is as it was, and the board is fresh,
+/// without calls and cards. The cursor's place is as for [`LinSection`].
 #[repr(C)]
 #[derive(Debug, Clone, Copy, PartialEq, Eq)]
 pub struct LinRead {
-    pub section: LinSection,
-    pub heading: LinHeading,
+    /// The value is 0 where nothing is refused.
+    pub answer: LinAnswer,
+    /// 1 with a board, 0 without.
+    pub found: u32,
+    /// The number of the board.
+    pub number: u64,
+    /// The place where its part or line begins.
+    pub start: u64,
+    /// The place where it ends.
+    pub stop: u64,
+    /// The place of the next part or line.
+    pub next_at: u64,
+    /// The number of the next board.
+    pub next_number: u64,
+    /// The board.
+    pub board: LinBoard,
+    /// How many calls the board has.
+    pub calls: u64,
+    /// How many cards its play has.
+    pub cards: u64,
 }
 
 /// What becomes of a raw annotation.
@@ -130,12 +172,19 @@ pub struct LinAnnotation {
 #[repr(C)]
 #[derive(Debug, Clone, Copy, PartialEq, Eq)]
 pub struct LinPbn {
+    /// South's name.
     pub south: LinText,
+    /// West's name.
     pub west: LinText,
+    /// North's name.
     pub north: LinText,
+    /// East's name.
     pub east: LinText,
+    /// The event.
     pub event: LinText,
+    /// The date.
     pub date: LinText,
+    /// The board's id.
     pub id: LinText,
     /// 1 with a number, 0 without.
     pub number_given: u32,
@@ -149,6 +198,7 @@ pub struct LinPbn {
     pub vulnerability: u32,
     /// 1 with a result, 0 without.
     pub result_given: u32,
+    /// The tricks won.
     pub result: i32,
     /// The count of a card is at seat times 52 plus card.
     pub counts: [u32; 208],
@@ -159,6 +209,7 @@ pub struct LinPbn {
 #[repr(C)]
 #[derive(Debug, Clone, Copy, PartialEq, Eq)]
 pub struct LinConverted {
+    /// The board's heading.
     pub heading: LinHeading,
     /// The bytes of the texts.
     pub len: u64,

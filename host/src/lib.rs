@@ -5,11 +5,15 @@
 //! |---|---|
 //! | [`tokens`] | the tokens of a text, and the document writer |
 //! | [`boards`] | a board with its names, hands, calls and cards |
+//! | [`cards`] | cards, and hands as counts of them |
 //! | [`files`] | the boards of a file, one after another or by number; the name finder |
 //! | [`writer`] | boards written and appended; the play as a text; equality |
 //! | [`pbn`] | boards made of PBN records, and annotations as text |
 //!
-//! An entry answers a value or a [`Refusal`], and a refusal changes nothing.
+//! An entry answers a value or a [`Refusal`], and a refusal changes nothing. A
+//! read text is given as bytes, which the library checks; what it then shows of
+//! the text is `str`. Functions whose names end in `numbers`, and the types
+//! `Lent` and `Lin..`, are raw: they take and give the numbers of the exports.
 //! The other modules compare the exports with upstream and with document 01 in
 //! plain Rust.
 //!
@@ -25,8 +29,8 @@
 //! assert_eq!(files::count_boards(filed.bytes())?, 2);
 //! assert_eq!(files::find_name(filed.bytes(), b"Ann")?, 1);
 //! let first = files::file_board(filed.bytes(), 0)?;
-//! assert_eq!(first.heading.name(Seat::West), b"Bob");
-//! assert_eq!(first.calls[0].annotation, Some(&b"16+"[..]));
+//! assert_eq!(first.heading.name(Seat::West), "Bob");
+//! assert_eq!(first.calls[0].annotation, Some("16+"));
 //! assert_eq!(first.play[0].to_string(), "SA");
 //!
 //! let missing = files::file_board(filed.bytes(), 2).unwrap_err();
@@ -36,7 +40,11 @@
 //! # Ok::<(), Refusal>(())
 //! ```
 
+#![deny(missing_docs)]
+#![deny(rustdoc::broken_intra_doc_links)]
+
 pub mod boards;
+pub mod cards;
 pub mod compare;
 pub mod differential;
 mod ffi;
@@ -71,7 +79,10 @@ pub enum RowKind {
 pub enum Refusal {
     /// A lent text is too long.
     TextTooLong,
-    /// A read text is not UTF-8: the length of the longest well-formed start.
+    /// The bytes that were looked at of a read text are not UTF-8: the place up to
+    /// which they are well formed. For a call that reads a whole text that is the
+    /// length of the text's longest well-formed start; a step from a place looks
+    /// at nothing before it.
     NotUtf8(u64),
     /// Too few rows, calls before cards: the rows needed of that kind.
     TooFewRows(RowKind, u64),
@@ -103,7 +114,7 @@ impl Refusal {
         }
     }
 
-    /// The length or the count that it carries.
+    /// The place, the length or the count that it carries.
     pub fn carried(self) -> Option<u64> {
         match self {
             Refusal::NotUtf8(n)
@@ -119,7 +130,7 @@ impl fmt::Display for Refusal {
     fn fmt(&self, f: &mut fmt::Formatter) -> fmt::Result {
         match self {
             Refusal::TextTooLong => write!(f, "a text is longer than {LIMIT} bytes"),
-            Refusal::NotUtf8(n) => write!(f, "a text is not UTF-8 after its first {n} bytes"),
+            Refusal::NotUtf8(n) => write!(f, "the bytes read are UTF-8 only up to place {n}"),
             Refusal::TooFewRows(RowKind::Calls, n) => write!(f, "{n} rows for calls are needed"),
             Refusal::TooFewRows(RowKind::Cards, n) => write!(f, "{n} places for cards are needed"),
             Refusal::NoBoard(n) => write!(f, "no board of that number among {n}"),

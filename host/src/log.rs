@@ -129,7 +129,9 @@ fn implied_east(board: &LinData) -> Option<Hand> {
 #[derive(Debug, Clone)]
 pub struct Log {
     room: usize,
+    /// T: the written forms, one after another.
     pub bytes: Vec<u8>,
+    /// L: the settled forms.
     pub boards: Vec<LinData>,
 }
 

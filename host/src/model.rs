@@ -2,6 +2,9 @@
 //! that are no text, any place, any span, any output.
 
 pub mod pbn;
+mod reader;
+
+pub use reader::read_board;
 
 use crate::{
     boards::{LinBoard, LinText},
@@ -11,6 +14,7 @@ use crate::{
 };
 use oracle::texts::WHITE;
 
+/// Opening a text: 0, or refusal 1 or 2.
 pub fn open(text: &[u8]) -> Result<u64, Refusal> {
     if text.len() > LIMIT {
         return Err(Refusal::TextTooLong);
@@ -46,6 +50,7 @@ fn rest(text: &[u8], at: u64) -> &[u8] {
     text.get(at..).unwrap_or_default()
 }
 
+/// The step of a cursor at any place, over any bytes.
 pub fn step(text: &[u8], at: u64) -> Step {
     let rest = rest(text, at);
     let mut pipes = (0..).zip(rest).filter(|(_, b)| **b == b'|');
@@ -69,19 +74,28 @@ pub fn step(text: &[u8], at: u64) -> Step {
     }
 }
 
+/// The remainder of a text from a place on; beyond the end, nothing at the end.
 pub fn trailing(text: &[u8], at: u64) -> Part {
     Part {
-        start: at,
+        start: at.min(text.len() as u64),
         len: rest(text, at).len() as u64,
     }
 }
 
+/// The first of what a white space leaves.
+fn without_white<'a>(strip: impl Fn(&[u8]) -> Option<&'a [u8]>) -> Option<&'a [u8]> {
+    let mut buffer = [0; 4];
+    let white = WHITE.iter();
+    white
+        .map(|w| strip(w.encode_utf8(&mut buffer).as_bytes()))
+        .find_map(|less| less)
+}
+
 fn trim(mut bytes: &[u8]) -> &[u8] {
-    let white: Vec<String> = WHITE.iter().map(char::to_string).collect();
-    while let Some(less) = white.iter().find_map(|w| bytes.strip_prefix(w.as_bytes())) {
+    while let Some(less) = without_white(|white| bytes.strip_prefix(white)) {
         bytes = less;
     }
-    while let Some(less) = white.iter().find_map(|w| bytes.strip_suffix(w.as_bytes())) {
+    while let Some(less) = without_white(|white| bytes.strip_suffix(white)) {
         bytes = less;
     }
     bytes
@@ -158,6 +172,7 @@ fn part(text: &[u8], at: u64) -> Option<(u64, bool, u64)> {
     Some((stop, board, stop))
 }
 
+/// A document of any rows written into any output.
 pub fn write_document(
     text: &[u8],
     rows: &[u32],

@@ -2,44 +2,45 @@
 //!
 //! ```
 //! use lin_host_rust::{
-//!     boards::{Card, Seat},
+//!     boards::{Card, Rank, Seat, Suit},
 //!     pbn::{self, Bid, Call, Record, Strain},
 //! };
 //!
+//! let ace = Card::of(Suit::Spades, Rank::Ace);
 //! let opening = Call {
 //!     bid: Bid::Level(1, Strain::NoTrump),
-//!     annotation: Some(b"=1=$2"),
+//!     annotation: Some("=1=$2"),
 //! };
 //! let mut record = Record {
-//!     names: [None, None, Some("José".as_bytes()), None],
-//!     event: Some(b"Cup"),
-//!     date: Some(b"2026.09.14"),
+//!     names: [None, None, Some("José"), None],
+//!     event: Some("Cup"),
+//!     date: Some("2026.09.14"),
 //!     number: Some(6),
 //!     calls: vec![opening, Bid::Pass.into(), Bid::Continue.into()],
-//!     notes: [(1, &b"15 to 17"[..])].into(),
-//!     play: vec![None, Some(Card(12))],
+//!     notes: [(1, "15 to 17")].into(),
+//!     play: vec![None, Some(ace)],
 //!     result: Some(9),
 //!     ..Record::default()
 //! };
-//! record.deal.add(Seat::South, Card(12));
+//! record.deal.add(Seat::South, ace);
 //!
 //! let made = pbn::from_board(&record)?;
 //! let board = made.board();
-//! assert_eq!(board.heading.names[2], "José".as_bytes());
-//! assert_eq!(board.heading.title, Some(&b"Cup - 2026.09.14"[..]));
-//! assert_eq!(board.heading.room_board, Some(&b"o6,BOARD 6"[..]));
+//! assert_eq!(board.heading.name(Seat::North), "José");
+//! assert_eq!(board.heading.title, Some("Cup - 2026.09.14"));
+//! assert_eq!(board.heading.room_board, Some("o6,BOARD 6"));
 //! assert_eq!(board.heading.dealer, Seat::East);
 //! assert_eq!(board.heading.claim, Some(9));
-//! assert_eq!(board.calls[0].bid, b"1N");
-//! assert_eq!(board.calls[0].annotation, Some(&b"15 to 17 ?"[..]));
-//! assert_eq!((board.calls.len(), board.play), (2, vec![Card(12)]));
+//! assert_eq!(board.calls[0].bid, "1N");
+//! assert_eq!(board.calls[0].annotation, Some("15 to 17 ?"));
+//! assert_eq!((board.calls.len(), board.play), (2, vec![ace]));
 //! # Ok::<(), lin_host_rust::Refusal>(())
 //! ```
 
 use crate::{
     boards::{self, flag, Board, Card, Deal, LinText, Seat, Vulnerability, ROW},
     ffi,
-    gathered::gather_some,
+    gathered::{gather_some, shown, written},
     tokens::Span,
     Refusal, LIMIT,
 };
@@ -47,24 +48,30 @@ use std::collections::BTreeMap;
 
 pub use ffi::{LinAnnotation, LinConverted, LinPbn};
 
-/// The words of the notes: three for each of the 256 numbers, being 0 if it is
-/// absent, the start and the length.
+/// The words of the notes: three for each of the 256 numbers, the first 0 if it
+/// is absent, then the start and the length.
 pub type NoteWords = [u32; 768];
 
-/// An entry of the play that is no card.
+/// The raw byte for an entry of the play that is a gap.
 pub const GAP: u8 = 255;
 
 /// The strain of a bid.
 #[derive(Debug, Clone, Copy, PartialEq, Eq)]
 pub enum Strain {
+    /// Clubs, C.
     Clubs,
+    /// Diamonds, D.
     Diamonds,
+    /// Hearts, H.
     Hearts,
+    /// Spades, S.
     Spades,
+    /// Notrump, N.
     NoTrump,
 }
 
 impl Strain {
+    /// The strains by their numbers, 0 to 4.
     pub const ALL: [Strain; 5] = [
         Strain::Clubs,
         Strain::Diamonds,
@@ -77,20 +84,27 @@ impl Strain {
 /// What a call of a record says. The last two are dropped.
 #[derive(Debug, Clone, Copy, PartialEq, Eq)]
 pub enum Bid {
+    /// A pass.
     Pass,
+    /// A double.
     Double,
+    /// A redouble.
     Redouble,
-    /// A level of 1 to 7 with its strain.
+    /// A level of 1 to 7 with its strain; any other level is refused by 8.
     Level(u8, Strain),
+    /// The auction is continued elsewhere.
     Continue,
+    /// A call that was left out.
     Blank,
 }
 
 /// A call of a record, with its raw annotation.
 #[derive(Debug, Clone, Copy, PartialEq, Eq)]
 pub struct Call<'a> {
+    /// What the call says.
     pub bid: Bid,
-    pub annotation: Option<&'a [u8]>,
+    /// Its raw annotation, with marks and the numbers of notes.
+    pub annotation: Option<&'a str>,
 }
 
 impl From<Bid> for Call<'_> {
@@ -104,26 +118,35 @@ impl From<Bid> for Call<'_> {
 }
 
 /// The texts of the notes that are given, by their number.
-pub type Notes<'a> = BTreeMap<u8, &'a [u8]>;
+pub type Notes<'a> = BTreeMap<u8, &'a str>;
 
 /// A PBN record. The default has nothing: no text, no number, no card, none
 /// vulnerable.
 #[derive(Debug, Clone, PartialEq, Eq)]
 pub struct Record<'a> {
     /// The names of S, W, N, E.
-    pub names: [Option<&'a [u8]>; 4],
-    pub event: Option<&'a [u8]>,
-    pub date: Option<&'a [u8]>,
-    pub id: Option<&'a [u8]>,
-    /// 1 to 65,535.
+    pub names: [Option<&'a str>; 4],
+    /// The event.
+    pub event: Option<&'a str>,
+    /// The date.
+    pub date: Option<&'a str>,
+    /// The board's id.
+    pub id: Option<&'a str>,
+    /// The board's number, 1 to 65,535; any other is refused by 8.
     pub number: Option<u32>,
+    /// Who deals, if that is given.
     pub dealer: Option<Seat>,
+    /// The hands.
     pub deal: Deal,
+    /// Which sides are vulnerable.
     pub vulnerability: Vulnerability,
+    /// The auction.
     pub calls: Vec<Call<'a>>,
+    /// The notes that annotations name.
     pub notes: Notes<'a>,
-    /// Cards and gaps.
+    /// The cards in the order of play, none for a gap.
     pub play: Vec<Option<Card>>,
+    /// The tricks won; outside 0 to 255 they give no claim.
     pub result: Option<i32>,
 }
 
@@ -147,15 +170,19 @@ impl Default for Record<'_> {
 }
 
 /// A record as the export is lent it: a text, and what stands in it by spans.
+/// Its numbers are raw: any are taken, and those out of range are refused.
 #[derive(Debug, Clone, Copy, PartialEq, Eq)]
 pub struct Lent<'a> {
+    /// The text.
     pub text: &'a [u8],
+    /// All but the calls, the play and the notes.
     pub board: LinPbn,
     /// Six words for each call: kind, level, strain, annotated, and the raw
     /// annotation's start and length; a rest of fewer is no call.
     pub calls: &'a [u32],
-    /// A byte for each entry of the play, a card or `GAP`.
+    /// A byte for each entry of the play, a card or [`GAP`].
     pub plays: &'a [u8],
+    /// The notes.
     pub notes: &'a NoteWords,
 }
 
@@ -195,14 +222,20 @@ impl Lent<'_> {
 /// A record with its texts gathered into one.
 #[derive(Debug, Clone, PartialEq, Eq)]
 pub struct Gathered {
+    /// The texts, back to back.
     pub text: Vec<u8>,
+    /// The record with its places in them.
     pub board: LinPbn,
+    /// Six words for each call.
     pub calls: Vec<u32>,
+    /// A byte for each entry of the play.
     pub plays: Vec<u8>,
+    /// Three words for each note.
     pub notes: Box<NoteWords>,
 }
 
 impl Gathered {
+    /// What is lent to the export.
     pub fn lent(&self) -> Lent<'_> {
         Lent {
             text: &self.text,
@@ -268,7 +301,7 @@ impl From<&Record<'_>> for Gathered {
             .flat_map(|call| gather_call(&mut text, call))
             .collect();
         let notes = gather_notes(&mut text, &from.notes);
-        let entry = |card: &Option<Card>| card.map_or(GAP, |card| card.0);
+        let entry = |card: &Option<Card>| card.map_or(GAP, |card| card.number());
         Gathered {
             text,
             board,
@@ -293,43 +326,49 @@ impl Made {
     ///
     /// # Panics
     ///
-    /// If a number has no meaning: see `LinAnswer::read`.
+    /// If a number has no meaning or a text is not UTF-8: see
+    /// [`LinHeading::read`](boards::LinHeading::read).
     pub fn board(&self) -> Board<'_> {
         let heading = self.answer.heading.read(&self.texts).expect("accepted");
         Board {
             heading,
             calls: boards::calls(&self.texts, &self.rows[..ROW * heading.calls]),
-            play: self.cards[..heading.cards]
-                .iter()
-                .map(|c| Card(*c))
-                .collect(),
+            play: boards::play(&self.cards[..heading.cards]),
         }
     }
 
     /// All texts, back to back: the names, title, room and board, header, then
-    /// the bid and the annotation of each call.
-    pub fn texts(&self) -> &[u8] {
-        &self.texts
+    /// the bid and the annotation of each call. All of them are UTF-8.
+    ///
+    /// # Panics
+    ///
+    /// If they are not UTF-8.
+    pub fn texts(&self) -> &str {
+        shown(&self.texts)
     }
 }
 
 /// The board of a record; refusal 1 if its texts together are too long, 8 for a
-/// level, a card or a number outside its range, 6 for a text that is not UTF-8,
-/// and 7 if the texts made are longer than any output takes.
+/// level or a number outside its range, and 7 if the texts made are longer than
+/// any output takes.
 ///
 /// ```
 /// use lin_host_rust::{pbn::{self, Record}, writer, Refusal};
 ///
-/// let record = Record { id: Some(b"12"), number: Some(3), ..Record::default() };
+/// let record = Record { id: Some("12"), number: Some(3), ..Record::default() };
 /// let made = pbn::from_board(&record)?;
-/// assert_eq!(made.texts(), b"o12,BOARD 12Board 12");
+/// assert_eq!(made.texts(), "o12,BOARD 12Board 12");
 /// let text = writer::write_lin(&made.board())?;
-/// assert!(text.starts_with(b"mn||pn|,,,|qx|o12,BOARD 12|rh||ah|Board 12|md|1,,,|"));
+/// assert!(text.starts_with("mn||pn|,,,|qx|o12,BOARD 12|rh||ah|Board 12|md|1,,,|"));
 ///
 /// let record = Record { number: Some(65_536), ..Record::default() };
 /// assert_eq!(pbn::from_board(&record).err(), Some(Refusal::OutOfRange));
 /// # Ok::<(), Refusal>(())
 /// ```
+///
+/// # Panics
+///
+/// If the answer is none that document 01 has.
 pub fn from_board(record: &Record) -> Result<Made, Refusal> {
     let lent = Gathered::from(record);
     let lent = lent.lent();
@@ -351,7 +390,8 @@ pub fn from_board(record: &Record) -> Result<Made, Refusal> {
     })
 }
 
-/// The answer of the export that writes the text of a raw annotation.
+/// The answer of the export that writes the text of a raw annotation. Spans and
+/// words are raw: any are taken, and those out of range are refused.
 pub fn annotation_numbers(
     text: &[u8],
     raw: Span,
@@ -378,7 +418,8 @@ impl LinAnnotation {
     ///
     /// # Panics
     ///
-    /// If the numbers have no meaning: see `LinAnswer::read`.
+    /// If the numbers have no meaning: see
+    /// [`LinAnswer::read`](crate::LinAnswer::read).
     pub fn read(self) -> Result<Option<u64>, Refusal> {
         let len = self.answer.read()?;
         assert!(flag(self.present) || len == 0, "neither a text nor none");
@@ -387,23 +428,23 @@ impl LinAnnotation {
 }
 
 /// The text of a raw annotation, not cleaned, or none where no part of it has a
-/// word; refusal 1 if it is too long together with the notes, 6 if one of them
-/// is not UTF-8, and 7 if the text is longer than any output takes.
+/// word; refusal 1 if it is too long together with the notes, and 7 if the text
+/// is longer than any output takes.
 ///
 /// ```
 /// use lin_host_rust::pbn::{self, Notes};
 ///
-/// let notes: Notes = [(1, &b"weak"[..])].into();
-/// assert_eq!(pbn::annotation_text(b"=1=$2z", &notes)?.as_deref(), Some("weak ?"));
-/// assert_eq!(pbn::annotation_text(b"=2=!?", &notes)?.as_deref(), Some("=2= !?"));
-/// assert_eq!(pbn::annotation_text(b"=1 z", &notes)?, None);
+/// let notes: Notes = [(1, "weak")].into();
+/// assert_eq!(pbn::annotation_text("=1=$2z", &notes)?.as_deref(), Some("weak ?"));
+/// assert_eq!(pbn::annotation_text("=2=!?", &notes)?.as_deref(), Some("=2= !?"));
+/// assert_eq!(pbn::annotation_text("=1 z", &notes)?, None);
 /// # Ok::<(), lin_host_rust::Refusal>(())
 /// ```
 ///
 /// # Panics
 ///
-/// If the text is not UTF-8.
-pub fn annotation_text(raw: &[u8], notes: &Notes) -> Result<Option<String>, Refusal> {
+/// If what was written is not UTF-8, which no such text is.
+pub fn annotation_text(raw: &str, notes: &Notes) -> Result<Option<String>, Refusal> {
     let mut text = Vec::new();
     let LinText { start, len, .. } = gather_some(&mut text, Some(raw));
     let notes = gather_notes(&mut text, notes);
@@ -415,5 +456,5 @@ pub fn annotation_text(raw: &[u8], notes: &Notes) -> Result<Option<String>, Refu
     };
     let mut out = vec![0; usize::try_from(needed).map_or(LIMIT, |n| n.min(LIMIT))];
     write(&mut out).read()?;
-    Ok(Some(String::from_utf8(out).expect("UTF-8")))
+    Ok(Some(written(out)))
 }

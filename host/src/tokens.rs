@@ -4,52 +4,73 @@
 //! use lin_host_rust::tokens::{self, Tokens};
 //!
 //! let mut all = Tokens::open(b"mb|1C|an|16+|\nx")?;
-//! assert_eq!(all.next(), Some((&b"mb"[..], &b"1C"[..])));
-//! assert_eq!(all.next(), Some((&b"an"[..], &b"16+"[..])));
+//! assert_eq!(all.next(), Some(("mb", "1C")));
+//! assert_eq!(all.next(), Some(("an", "16+")));
 //! assert_eq!(all.next(), None);
-//! assert_eq!(all.trailing(), b"\nx");
+//! assert_eq!(all.trailing(), "\nx");
 //!
-//! let text = tokens::document(&[(b"mb", b"1C"), (b"an", b"16+")], b"\nx")?;
-//! assert_eq!(text, b"mb|1C|an|16+|\nx");
+//! let text = tokens::document(&[("mb", "1C"), ("an", "16+")], "\nx")?;
+//! assert_eq!(text, "mb|1C|an|16+|\nx");
 //! # Ok::<(), lin_host_rust::Refusal>(())
 //! ```
 
 use crate::{
     ffi,
-    gathered::{fitted, gather},
+    gathered::{fitted, gather, shown},
     Refusal,
 };
 
 pub use ffi::{LinPart as Part, LinStep as Step};
 
 impl Part {
-    /// This part of the text, or nothing of it if the text ends before.
+    /// This part of the text, or none if the text ends before.
+    pub fn get(self, text: &[u8]) -> Option<&[u8]> {
+        let start = usize::try_from(self.start).ok()?;
+        let len = usize::try_from(self.len).ok()?;
+        text.get(start..start.checked_add(len)?)
+    }
+
+    /// This part of the text.
+    ///
+    /// # Panics
+    ///
+    /// If the text ends before.
     pub fn of(self, text: &[u8]) -> &[u8] {
-        let start = usize::try_from(self.start).unwrap_or(usize::MAX);
-        let len = usize::try_from(self.len).unwrap_or(usize::MAX);
-        let end = start.saturating_add(len);
-        text.get(start..end).unwrap_or_default()
+        self.get(text).expect("a part of this text")
     }
 }
 
 /// A part of a text in 32 bits, as the rows to write have it.
 #[derive(Debug, Clone, Copy, PartialEq, Eq, Default)]
 pub struct Span {
+    /// The place of its first byte.
     pub start: u32,
+    /// How many bytes it has.
     pub len: u32,
 }
 
 impl Span {
+    /// The span of this start and this length.
     pub fn new(start: u32, len: u32) -> Span {
         Span { start, len }
     }
 
+    /// This part of the text.
+    ///
+    /// # Panics
+    ///
+    /// If the text ends before.
     pub fn of(self, text: &[u8]) -> &[u8] {
-        let part = Part {
-            start: self.start.into(),
-            len: self.len.into(),
-        };
-        part.of(text)
+        Part::from(self).of(text)
+    }
+}
+
+impl From<Span> for Part {
+    fn from(span: Span) -> Part {
+        Part {
+            start: span.start.into(),
+            len: span.len.into(),
+        }
     }
 }
 
@@ -65,7 +86,9 @@ impl TryFrom<Part> for Span {
 /// The places of a token's two pieces.
 #[derive(Debug, Clone, Copy, PartialEq, Eq)]
 pub struct Token {
+    /// The piece before the first pipe.
     pub command: Part,
+    /// The piece between the pipes.
     pub value: Part,
 }
 
@@ -83,11 +106,13 @@ impl Cursor {
         Ok(Cursor { at: answer.read()? })
     }
 
-    /// A cursor at any place.
+    /// A cursor at any place. What it shows from there is bytes: it may stand
+    /// within a character, and steps over any text.
     pub fn from_place(at: u64) -> Cursor {
         Cursor { at }
     }
 
+    /// The place where it stands.
     pub fn place(self) -> u64 {
         self.at
     }
@@ -122,7 +147,8 @@ impl Cursor {
     }
 }
 
-/// The tokens of a text, each a command and a value as they stand there.
+/// The tokens of a text, each a command and a value as they stand there. The
+/// text was found to be UTF-8 when it was opened, and pipes cut no character.
 #[derive(Debug, Clone)]
 pub struct Tokens<'a> {
     text: &'a [u8],
@@ -138,18 +164,25 @@ impl<'a> Tokens<'a> {
 
     /// What follows the tokens that were given: after the last, the trailing
     /// text.
-    pub fn trailing(&self) -> &'a [u8] {
-        self.cursor.trailing(self.text).of(self.text)
+    ///
+    /// # Panics
+    ///
+    /// If a character is cut, which no text that opens has.
+    pub fn trailing(&self) -> &'a str {
+        shown(self.cursor.trailing(self.text).of(self.text))
     }
 }
 
 impl<'a> Iterator for Tokens<'a> {
-    type Item = (&'a [u8], &'a [u8]);
+    type Item = (&'a str, &'a str);
 
     fn next(&mut self) -> Option<Self::Item> {
         let (next, token) = self.cursor.next(self.text);
         self.cursor = next;
-        token.map(|token| (token.command.of(self.text), token.value.of(self.text)))
+        token.map(|token| {
+            let piece = |part: Part| shown(part.of(self.text));
+            (piece(token.command), piece(token.value))
+        })
     }
 }
 
@@ -208,9 +241,13 @@ pub fn write_document(
 }
 
 /// A document of commands and values and what trails them, as a text; refusal 1
-/// if they are too long together, 6 for a part that is not UTF-8, and 7 if the
-/// text is longer than any output takes.
-pub fn document(pairs: &[(&[u8], &[u8])], trailing: &[u8]) -> Result<Vec<u8>, Refusal> {
+/// if they are too long together, and 7 if the text is longer than any output
+/// takes.
+///
+/// # Panics
+///
+/// If what was written is not UTF-8, which no document of such parts is.
+pub fn document(pairs: &[(&str, &str)], trailing: &str) -> Result<String, Refusal> {
     let mut text = Vec::new();
     let mut rows = Vec::with_capacity(4 * pairs.len());
     for (command, value) in pairs {

@@ -2,17 +2,18 @@
 //! upstream has them.
 
 use crate::{
-    boards::{calls, Board, Call, Card, Deal, Heading, LinText, Seat, Vulnerability},
+    boards::{calls, Board, Call, Card, Deal, Heading, LinText, Rank, Seat, Suit, Vulnerability},
     tokens::Span,
     writer::Lent,
 };
 use crate::{model, pbn};
 use oracle::{
-    bridge_types::{self, AnnotatedCall, Direction, Hand, Rank, Suit},
+    bridge_types::{self, AnnotatedCall, Direction, Hand},
     lin::{BidWithAnnotation, LinData},
     pbn::{Record, STRAINS},
 };
 
+/// A seat as upstream has it.
 pub fn direction(seat: Seat) -> Direction {
     match seat {
         Seat::South => Direction::South,
@@ -42,41 +43,38 @@ fn vulnerability(from: bridge_types::Vulnerability) -> Vulnerability {
 
 /// Upstream's suits and ranks stand in the order of document 01's numbers.
 pub fn card(from: &bridge_types::Card) -> Card {
-    Card(13 * from.suit as u8 + from.rank as u8)
+    Card::of(Suit::ALL[from.suit as usize], Rank::ALL[from.rank as usize])
 }
 
 /// The card of a number below 52.
 pub fn card_of(number: u8) -> bridge_types::Card {
     let [suit, rank] = [number / 13, number % 13].map(usize::from);
-    bridge_types::Card::new(Suit::ALL[suit], Rank::ALL[rank])
+    bridge_types::Card::new(bridge_types::Suit::ALL[suit], bridge_types::Rank::ALL[rank])
 }
 
 fn call(from: &BidWithAnnotation) -> Call<'_> {
     Call {
-        bid: from.bid.as_bytes(),
+        bid: &from.bid,
         alerted: from.alert,
-        annotation: from.annotation.as_deref().map(str::as_bytes),
+        annotation: from.annotation.as_deref(),
     }
 }
 
 /// An upstream board as the host has it, its hands by counts.
 pub fn board(from: &LinData) -> Board<'_> {
-    fn bytes(text: &Option<String>) -> Option<&[u8]> {
-        text.as_deref().map(str::as_bytes)
-    }
     let mut deal = Deal::new();
     for seat in Seat::ALL {
         let hand = from.deal.hand(direction(seat));
         hand.cards().iter().for_each(|c| deal.add(seat, card(c)));
     }
     let heading = Heading {
-        names: [0, 1, 2, 3].map(|n| from.player_names[n].as_bytes()),
+        names: [0, 1, 2, 3].map(|n| from.player_names[n].as_str()),
         dealer: seat(from.dealer),
         deal,
         vulnerability: vulnerability(from.vulnerability),
-        title: bytes(&from.title),
-        room_board: bytes(&from.room_board),
-        board_header: bytes(&from.board_header),
+        title: from.title.as_deref(),
+        room_board: from.room_board.as_deref(),
+        board_header: from.board_header.as_deref(),
         claim: from.claim,
         ..Heading::default()
     };
@@ -102,11 +100,7 @@ pub fn hand(counts: &[u32]) -> Hand {
 ///
 /// If a refusal meets it.
 pub fn data(lent: Lent) -> LinData {
-    let string = |bytes: &[u8]| String::from_utf8(bytes.to_vec()).expect("UTF-8");
-    let text = |t: LinText| {
-        let part = Span::new(t.start, t.len).of(lent.text);
-        (t.present != 0).then(|| string(part))
-    };
+    let text = |t: LinText| some_string(t, lent.text);
     let board = lent.board;
     let mut deal = bridge_types::Deal::new();
     for seat in Seat::ALL {
@@ -114,9 +108,9 @@ pub fn data(lent: Lent) -> LinData {
         deal.set_hand(direction(seat), hand(&board.counts[from..from + 52]));
     }
     let bid = |call: Call| BidWithAnnotation {
-        bid: string(call.bid),
+        bid: call.bid.to_string(),
         alert: call.alerted,
-        annotation: call.annotation.map(string),
+        annotation: call.annotation.map(str::to_string),
     };
     LinData {
         player_names: [0, 2, 4, 6].map(|n| {
@@ -189,6 +183,12 @@ fn string(bytes: &[u8]) -> String {
     String::from_utf8(bytes.to_vec()).expect("UTF-8")
 }
 
+/// The text that is there, or none; the places of an absent one are any.
+fn some_string(place: LinText, text: &[u8]) -> Option<String> {
+    let part = || Span::new(place.start, place.len).of(text);
+    (place.present != 0).then(|| string(part()))
+}
+
 /// The record of what is lent.
 ///
 /// # Panics
@@ -196,10 +196,7 @@ fn string(bytes: &[u8]) -> String {
 /// If a refusal meets it.
 pub fn record(lent: pbn::Lent) -> Record {
     let board = lent.board;
-    let text = |t: LinText| {
-        let part = Span::new(t.start, t.len).of(lent.text);
-        (t.present != 0).then(|| string(part))
-    };
+    let text = |t: LinText| some_string(t, lent.text);
     let calls = lent.calls.chunks_exact(6);
     let notes = model::pbn::note_texts(lent.text, lent.notes).into_iter();
     Record {
@@ -233,9 +230,6 @@ pub fn made(lent: pbn::Lent) -> LinData {
 
 /// A record of upstream's as the host has it.
 pub fn pbn_record(from: &Record) -> pbn::Record<'_> {
-    fn bytes(text: &Option<String>) -> Option<&[u8]> {
-        text.as_deref().map(str::as_bytes)
-    }
     let mut deal = Deal::new();
     for seat in Seat::ALL {
         let hand = from.deal.hand(direction(seat));
@@ -254,20 +248,20 @@ pub fn pbn_record(from: &Record) -> pbn::Record<'_> {
     };
     let calls = from.calls.iter().map(|c| pbn::Call {
         bid: call(c),
-        annotation: bytes(&c.annotation),
+        annotation: c.annotation.as_deref(),
     });
     let notes = from.notes.iter();
     pbn::Record {
-        names: [0, 1, 2, 3].map(|n| bytes(&from.names[n])),
-        event: bytes(&from.event),
-        date: bytes(&from.date),
-        id: bytes(&from.id),
+        names: [0, 1, 2, 3].map(|n| from.names[n].as_deref()),
+        event: from.event.as_deref(),
+        date: from.date.as_deref(),
+        id: from.id.as_deref(),
         number: from.number,
         dealer: from.dealer.map(seat),
         deal,
         vulnerability: vulnerability(from.vulnerable),
         calls: calls.collect(),
-        notes: notes.map(|(n, text)| (*n, text.as_bytes())).collect(),
+        notes: notes.map(|(n, text)| (*n, text.as_str())).collect(),
         play: from.play.iter().map(|c| c.as_ref().map(card)).collect(),
         result: from.result,
     }

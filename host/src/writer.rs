@@ -3,25 +3,26 @@
 //!
 //! ```
 //! use lin_host_rust::{
-//!     boards::{Board, Call, Card, Heading, Seat},
+//!     boards::{Board, Call, Card, Heading, Rank, Seat, Suit},
 //!     files,
 //!     writer::{self, Appender},
 //!     Refusal,
 //! };
 //!
+//! let ace = Card::of(Suit::Spades, Rank::Ace);
 //! let mut heading = Heading {
-//!     names: [b"Ann", b"Bob", b"Cleo, jr", b""],
+//!     names: ["Ann", "Bob", "Cleo, jr", ""],
 //!     dealer: Seat::South,
 //!     claim: Some(9),
 //!     ..Heading::default()
 //! };
-//! heading.deal.add(Seat::South, Card(12));
+//! heading.deal.add(Seat::South, ace);
 //! let bid = Call {
-//!     bid: b"1C",
+//!     bid: "1C",
 //!     alerted: true,
-//!     annotation: Some(b"16|more"),
+//!     annotation: Some("16|more"),
 //! };
-//! let board = Board::new(heading, vec![bid], vec![Card(12)]);
+//! let board = Board::new(heading, vec![bid], vec![ace]);
 //!
 //! let text = writer::write_lin(&board)?;
 //! let lines = [
@@ -31,7 +32,7 @@
 //!     "mc|9|pg||",
 //!     "",
 //! ];
-//! assert_eq!(text, lines.join("\n").as_bytes());
+//! assert_eq!(text, lines.join("\n"));
 //!
 //! // a file is boards appended one after another
 //! let mut file = Appender::new(300);
@@ -47,13 +48,15 @@
 use crate::{
     boards::{flag, Board, Call, Card, LinBoard, ROW},
     ffi,
-    gathered::{fitted, gather, gather_some},
+    gathered::{fitted, gather, gather_some, shown},
     LinAnswer, Refusal,
 };
 
 /// A board as the exports are lent it: a text, and what stands in it by spans.
+/// Its numbers are raw: any are taken, and those out of range are refused.
 #[derive(Debug, Clone, Copy, PartialEq, Eq)]
 pub struct Lent<'a> {
+    /// The text.
     pub text: &'a [u8],
     /// As a heading gives it. The places of absent texts and the number of an
     /// absent claim are not looked at.
@@ -155,13 +158,18 @@ impl Lent<'_> {
 /// A board with its texts gathered into one.
 #[derive(Debug, Clone, PartialEq, Eq)]
 pub struct Gathered {
+    /// The texts, back to back.
     pub text: Vec<u8>,
+    /// The board with its places in them.
     pub board: LinBoard,
+    /// Six words for each call.
     pub rows: Vec<u32>,
+    /// A byte for each card of the play.
     pub cards: Vec<u8>,
 }
 
 impl Gathered {
+    /// What is lent to the exports.
     pub fn lent(&self) -> Lent<'_> {
         Lent {
             text: &self.text,
@@ -217,26 +225,29 @@ impl From<&Board<'_>> for Gathered {
 }
 
 fn numbers(play: &[Card]) -> Vec<u8> {
-    play.iter().map(|card| card.0).collect()
+    play.iter().map(|card| card.number()).collect()
 }
 
-/// A board as LIN; refusal 1 if its texts together are too long, 8 for a card
-/// that is none, 6 for a text that is not UTF-8, and 7 if more would be
-/// written than any output takes.
+/// A board as LIN; refusal 1 if its texts together are too long, and 7 if more
+/// would be written than any output takes.
 ///
 /// ```
 /// use lin_host_rust::{boards::{self, Board}, writer};
 ///
 /// let fresh = writer::write_lin(&Board::default())?;
-/// assert_eq!(fresh, b"mn||pn|,,,|qx||rh||md|3,,,|sv|0|\nsa|0|pg||\n");
+/// assert_eq!(fresh, "mn||pn|,,,|qx||rh||md|3,,,|sv|0|\nsa|0|pg||\n");
 ///
 /// // what was read is written in one layout
 /// let read = boards::board(b"sv|All|mb|1C!!|md|3SAK|")?;
 /// let text = writer::write_lin(&read)?;
-/// assert_eq!(text, b"mn||pn|,,,|qx||rh||md|3SAKHDC,,,|sv|b|\nsa|0|mb|1C!|pg||\n");
+/// assert_eq!(text, "mn||pn|,,,|qx||rh||md|3SAKHDC,,,|sv|b|\nsa|0|mb|1C!|pg||\n");
 /// # Ok::<(), lin_host_rust::Refusal>(())
 /// ```
-pub fn write_lin(board: &Board) -> Result<Vec<u8>, Refusal> {
+///
+/// # Panics
+///
+/// If what was written is not UTF-8, which no written board is.
+pub fn write_lin(board: &Board) -> Result<String, Refusal> {
     let board = Gathered::from(board);
     fitted(|out| board.lent().write(out))
 }
@@ -251,7 +262,7 @@ pub fn write_lin(board: &Board) -> Result<Vec<u8>, Refusal> {
 /// assert_eq!(file.append(&Board::default()), Ok(43));
 /// assert_eq!(file.append(&Board::default()), Err(Refusal::OutputTooSmall(43)));
 /// assert_eq!(file.used(), 43);
-/// assert_eq!(file.bytes(), b"mn||pn|,,,|qx||rh||md|3,,,|sv|0|\nsa|0|pg||\n");
+/// assert_eq!(file.text(), "mn||pn|,,,|qx||rh||md|3,,,|sv|0|\nsa|0|pg||\n");
 /// ```
 #[derive(Debug, Clone, PartialEq, Eq)]
 pub struct Appender {
@@ -270,13 +281,13 @@ impl Appender {
         Appender { out, used: 0 }
     }
 
-    /// Adds a board and gives the new used count; a refusal, as of
-    /// `write_lin`, changes nothing.
+    /// Adds a board and gives the new used count; a refusal, 1 or 7 as of
+    /// [`write_lin`], changes nothing.
     pub fn append(&mut self, board: &Board) -> Result<u64, Refusal> {
         self.append_lent(Gathered::from(board).lent())
     }
 
-    /// The same of a board that is lent with its text.
+    /// The same of a board that is lent with its text; refusals 1, 8, 5, 6 and 7.
     ///
     /// ```
     /// use lin_host_rust::{boards, writer::{Appender, Lent}};
@@ -288,7 +299,7 @@ impl Appender {
     ///
     /// let mut file = Appender::new(1_000);
     /// file.append_lent(lent)?;
-    /// assert!(file.bytes().starts_with(b"mn||pn|,,,|qx|o1|rh||md|3SAKHDC,"));
+    /// assert!(file.text().starts_with("mn||pn|,,,|qx|o1|rh||md|3SAKHDC,"));
     /// # Ok::<(), lin_host_rust::Refusal>(())
     /// ```
     pub fn append_lent(&mut self, lent: Lent) -> Result<u64, Refusal> {
@@ -307,44 +318,51 @@ impl Appender {
         &self.out[..self.used as usize]
     }
 
-    /// All bytes of the output.
+    /// The used bytes as a text: nothing but written boards, which are UTF-8.
+    ///
+    /// # Panics
+    ///
+    /// If they are not UTF-8.
+    pub fn text(&self) -> &str {
+        shown(self.bytes())
+    }
+
+    /// All bytes of the output, the used ones first.
     pub fn output(&self) -> &[u8] {
         &self.out
     }
 }
 
-/// The answer of the export that writes the cards of a play by tricks.
+/// The answer of the export that writes the cards of a play by tricks. The cards
+/// are raw: any bytes are taken, and one that is no card is refused.
 pub fn play_text_numbers(cards: &[u8], out: &mut [u8]) -> LinAnswer {
     // SAFETY: each pointer and length are those of one slice, and `out`, being
     // borrowed alone, overlaps no other.
     unsafe { ffi::lin_play_text(cards.as_ptr(), cards.len(), out.as_mut_ptr(), out.len()) }
 }
 
-/// The cards by tricks; refusal 8 for a card that is none, and 7 if the text
-/// is longer than any output takes.
+/// The cards by tricks; refusal 7 if the text is longer than any output takes.
 ///
 /// ```
-/// use lin_host_rust::{boards::Card, writer, Refusal};
+/// use lin_host_rust::{boards::Card, writer};
 ///
-/// let play: Vec<Card> = (0..6).map(Card).collect();
+/// let play: Vec<Card> = Card::all().take(6).collect();
 /// assert_eq!(writer::play_text(&play)?, "S2 S3 S4 S5|S6 S7");
-/// assert_eq!(writer::play_text(&[Card(52)]), Err(Refusal::OutOfRange));
-/// # Ok::<(), Refusal>(())
+/// # Ok::<(), lin_host_rust::Refusal>(())
 /// ```
 ///
 /// # Panics
 ///
-/// If the text is not UTF-8.
+/// If what was written is not UTF-8, which no play text is.
 pub fn play_text(play: &[Card]) -> Result<String, Refusal> {
     let cards = numbers(play);
-    let text = fitted(|out| play_text_numbers(&cards, out).read())?;
-    Ok(String::from_utf8(text).expect("letters"))
+    fitted(|out| play_text_numbers(&cards, out).read())
 }
 
 /// Whether a board equals another, as upstream's `LinData` compares: each card
 /// of its hands is looked for in the other's, so repeated cards can make it
-/// differ from the same question the other way round. Refusals 1, 8 and 6 as
-/// of `write_lin`, each of both boards before the next.
+/// differ from the same question the other way round. Refusal 1 if the texts of
+/// either are too long together.
 ///
 /// ```
 /// use lin_host_rust::{boards, writer};

@@ -22,9 +22,13 @@ fn heading(text: &str) -> Heading<'_> {
     board(text).heading
 }
 
+fn card(number: u8) -> Card {
+    Card::new(number).unwrap()
+}
+
 /// The cards of a seat, as often as it holds them.
 fn hand(heading: &Heading, seat: Seat) -> String {
-    let card = |n: usize| Card(n as u8).to_string();
+    let card = |n: usize| card(n as u8).to_string();
     let counts = heading.deal.hand(seat).iter().enumerate();
     let cards: Vec<String> = counts
         .map(|(n, count)| card(n).repeat(*count as usize))
@@ -48,7 +52,7 @@ fn nothing_read() {
             calls,
             play,
         } = board(text);
-        assert_eq!(heading.names, [b""; 4]);
+        assert_eq!(heading.names, [""; 4]);
         assert_eq!(heading.dealer, Seat::North);
         assert_eq!(lengths(&heading), [0; 4]);
         assert_eq!(heading.vulnerability, Vulnerability::None);
@@ -92,9 +96,9 @@ fn cases_of_claims() {
 #[test]
 fn cases_of_play() {
     // C8
-    assert_eq!(board("pc|SA|pc|S|pc|!SA|").play, [Card(12)]);
+    assert_eq!(board("pc|SA|pc|S|pc|!SA|").play, [card(12)]);
     let play = board("pc| s2 |pc|HA|pc|dT|pc|Ck|pc|S10|").play;
-    assert_eq!(play, [Card(0), Card(25), Card(34), Card(50)]);
+    assert_eq!(play, [0, 25, 34, 50].map(card));
     let shown: Vec<String> = play.iter().map(Card::to_string).collect();
     assert_eq!(shown, ["S2", "HA", "DT", "CK"]);
 }
@@ -122,7 +126,7 @@ fn cases_of_vulnerability() {
 #[test]
 fn cases_of_calls() {
     let call = |bid: &'static str, alerted| Call {
-        bid: bid.as_bytes(),
+        bid,
         alerted,
         annotation: None,
     };
@@ -145,7 +149,7 @@ fn cases_of_calls() {
 fn annotations_of_calls() {
     let made = board("an|early|mb|1N|an|one|an|15-17|mb|p|pc|SA|an||mb|d|").calls;
     let annotations: Vec<_> = made.iter().map(|c| c.annotation).collect();
-    assert_eq!(annotations, [Some(&b"15-17"[..]), Some(b""), None]);
+    assert_eq!(annotations, [Some("15-17"), Some(""), None]);
 }
 
 #[test]
@@ -156,13 +160,13 @@ fn the_listed_board() {
         calls,
         play,
     } = board(text);
-    assert_eq!(heading.room_board, Some(&b"o1"[..]));
+    assert_eq!(heading.room_board, Some("o1"));
     assert_eq!(heading.dealer, Seat::North);
     assert_eq!(lengths(&heading), [2, 2, 2, 0]);
     assert_eq!(hand(&heading, Seat::West), "SJSQ");
     assert_eq!(heading.claim, Some(9));
-    assert_eq!((calls.len(), calls[0].bid), (1, &b"1C"[..]));
-    assert_eq!(play, [Card(12)]);
+    assert_eq!((calls.len(), calls[0].bid), (1, "1C"));
+    assert_eq!(play, [card(12)]);
     // a part of the caller's text, not a copy
     assert_eq!(calls[0].bid.as_ptr(), text[25..].as_ptr());
 }
@@ -171,7 +175,7 @@ fn the_listed_board() {
 
 #[test]
 fn names() {
-    let read = |text| heading(text).names.map(|n| String::from_utf8_lossy(n));
+    let read = |text| heading(text).names;
     assert_eq!(read("pn|a, b,é|"), ["a", " b", "é", ""]);
     assert_eq!(read("pn|a,b,c,d|pn||"), ["", "b", "c", "d"]);
     assert_eq!(read("pn|a,b,c,d,e|pn|f,|"), ["f", "", "c", "d"]);
@@ -184,17 +188,13 @@ fn names() {
 fn texts_and_their_absence() {
     let read = |text| {
         let h = heading(text);
-        [h.title, h.room_board, h.board_header].map(|t| t.map(String::from_utf8_lossy))
+        [h.title, h.room_board, h.board_header]
     };
     let absent = [None, None, None];
-    let empty_header = [None, None, Some("".into())];
+    let empty_header = [None, None, Some("")];
     assert_eq!(read("mn|a|qx|b|mn||qx||"), absent);
     assert_eq!(read("ah|c|ah||"), empty_header);
-    let kept = [
-        Some(" a\n".into()),
-        Some("o1".into()),
-        Some("Board+7".into()),
-    ];
+    let kept = [Some(" a\n"), Some("o1"), Some("Board+7")];
     assert_eq!(read("mn| a\n|qx|o1|ah|Board+7|"), kept);
 
     let numbers = boards::heading_numbers(b"mn|ab|ah||").board;
@@ -208,7 +208,7 @@ fn texts_and_their_absence() {
 fn commands_in_any_dress() {
     let dressed = heading("\r\nMD|1|\u{3000}mN\u{85}|a|\u{FEFF}qx|b|");
     assert_eq!(dressed.dealer, Seat::South);
-    assert_eq!(dressed.title, Some(&b"a"[..]));
+    assert_eq!(dressed.title, Some("a"));
     assert_eq!(dressed.room_board, None);
 }
 
@@ -392,12 +392,16 @@ fn texts_at_the_limit() {
 
 #[test]
 fn cards_as_letters() {
-    for n in 0..52 {
-        let text = Card(n).to_string();
-        assert_eq!(text.parse(), Ok(Card(n)));
-        assert_eq!(text.to_lowercase().parse(), Ok(Card(n)));
-        assert_eq!(board(&format!("pc|{text}|")).play, [Card(n)]);
+    for (n, card) in (0..52).zip(Card::all()) {
+        assert_eq!((card.number(), Card::new(n)), (n, Some(card)));
+        assert_eq!(Card::of(card.suit(), card.rank()), card);
+        let text = card.to_string();
+        assert_eq!(text.parse(), Ok(card));
+        assert_eq!(text.to_lowercase().parse(), Ok(card));
+        assert_eq!(board(&format!("pc|{text}|")).play, [card]);
     }
+    assert_eq!(Card::all().count(), 52);
+    assert!((52..=255).all(|n| Card::new(n).is_none()));
     for text in ["", "S", "A", "SAK", "S1", "AS", "Ś2", "SÁ", " SA", "S10"] {
         assert!(text.parse::<Card>().is_err(), "{text}");
     }
@@ -410,5 +414,5 @@ fn cards_of_a_hand() {
     let south: Vec<_> = deal.cards(Seat::South).map(|c| c.to_string()).collect();
     assert_eq!(south, ["SA", "S2", "S2", "HK"]);
     assert_eq!(deal.cards(Seat::West).count(), 0);
-    assert_eq!(heading("pn|a,b|").name(Seat::West), b"b");
+    assert_eq!(heading("pn|a,b|").name(Seat::West), "b");
 }

@@ -6,9 +6,9 @@ mod clock;
 
 use clock::milliseconds;
 use lin_host_rust::{
-    boards::{Call, Seat},
+    boards::{Call, Seat, ROW},
     compare,
-    files::{self, BoardCursor, Boards},
+    files::{self, BoardCursor, Boards, Section, Sections},
     model, samples, Refusal, RowKind, LIMIT,
 };
 use oracle::{random::Rng, records, texts};
@@ -29,9 +29,7 @@ fn count(text: &str) -> u64 {
 fn parts(text: &str) -> Vec<&str> {
     compared(text.as_bytes());
     let boards = Boards::open(text.as_bytes()).unwrap();
-    boards
-        .map(|b| std::str::from_utf8(b.text).unwrap())
-        .collect()
+    boards.map(|b| b.text).collect()
 }
 
 // Document 01's examples
@@ -46,7 +44,7 @@ fn cases_of_files() {
     assert_eq!((read(0).dealer, read(0).room_board), (Seat::South, None));
     assert_eq!(
         (read(1).dealer, read(1).room_board),
-        (Seat::West, Some(&b"a"[..]))
+        (Seat::West, Some("a"))
     );
     // C14
     assert_eq!(count("qx|a|"), 0);
@@ -147,7 +145,7 @@ fn lines() {
     let text = "a|b\nqx|c|d|";
     assert_eq!(parts(text), ["a|b", "qx|c|d|"]);
     let second = files::file_heading(text.as_bytes(), 1).unwrap();
-    assert_eq!(second.room_board, Some(&b"c"[..]));
+    assert_eq!(second.room_board, Some("c"));
     for one in ["a\rb", "a\u{85}b", "a\u{2028}b", "a\u{B}b"] {
         assert_eq!(count(one), 1, "{one:?}");
     }
@@ -183,8 +181,8 @@ fn an_annotation_stays_in_its_part() {
         alerted: false,
         annotation,
     };
-    assert_eq!(calls(0), [call(&b"p"[..], None)]);
-    assert_eq!(calls(1), [call(&b"d"[..], Some(&b"y"[..]))]);
+    assert_eq!(calls(0), [call("p", None)]);
+    assert_eq!(calls(1), [call("d", Some("y"))]);
 }
 
 #[test]
@@ -196,7 +194,7 @@ fn a_part_of_the_text() {
         (1, text[5..].as_ptr())
     );
     let name = second.heading().unwrap().names[0];
-    assert_eq!((name, name.as_ptr()), (&b"Ann"[..], text[8..].as_ptr()));
+    assert_eq!((name, name.as_ptr()), ("Ann", text[8..].as_ptr()));
 }
 
 // The cursor
@@ -230,21 +228,213 @@ fn sections_follow_one_another() {
         let text = samples::file(rng, 20);
         let bytes = text.as_bytes();
         let mut cursor = BoardCursor::open(bytes).unwrap();
-        assert_eq!((cursor.at, cursor.number), (0, 0));
-        let mut last = 0;
+        assert_eq!((cursor.place(), cursor.number()), (0, 0));
         loop {
-            let step = cursor.step(bytes);
-            if step.found == 0 {
-                assert_eq!(cursor.after(step), cursor);
+            let (after, section) = cursor.next(bytes);
+            let Some(Section { part, board }) = section else {
+                assert_eq!(after, cursor);
                 break;
-            }
-            let gap = u64::from(cursor.lines);
-            assert_eq!((step.start, step.next_at), (last, step.stop + gap));
-            assert!(cursor.at < step.next_at);
-            last = step.next_at;
-            cursor = cursor.after(step);
+            };
+            let gap = u64::from(cursor.sections() == Sections::Lines);
+            assert_eq!(part.start, cursor.place());
+            assert_eq!(after.place(), part.start + part.len + gap);
+            assert!(cursor.place() < after.place());
+            assert_eq!(
+                board,
+                (after.number() > cursor.number()).then_some(cursor.number())
+            );
+            cursor = after;
         }
-        assert_eq!(files::count_boards(bytes), Ok(cursor.number));
+        assert_eq!(files::count_boards(bytes), Ok(cursor.number()));
+    }
+}
+
+// The step that reads
+
+/// The answer with so many words and places lent, which are compared with the
+/// model's too: refused, or the number of the board and the cursor after it, or
+/// none.
+fn read(
+    text: &[u8],
+    cursor: BoardCursor,
+    lent: [usize; 2],
+) -> Result<Option<(u64, BoardCursor)>, Refusal> {
+    let lines = u32::from(cursor.sections() == Sections::Lines);
+    let standing = (cursor.place(), cursor.number(), lines);
+    compare::read_board(text, standing, lent).unwrap();
+    let (mut rows, mut cards) = (vec![7; lent[0]], vec![8; lent[1]]);
+    let (after, board) = cursor.read(text, &mut rows, &mut cards)?;
+    if board.is_none() {
+        assert_eq!(after, cursor);
+    }
+    Ok(board.map(|b| (b.number, after)))
+}
+
+fn parts_from(at: u64, number: u64) -> BoardCursor {
+    BoardCursor::from_place(at, number, Sections::Parts)
+}
+
+fn lines_from(at: u64, number: u64) -> BoardCursor {
+    BoardCursor::from_place(at, number, Sections::Lines)
+}
+
+/// Refused so from both kinds of cursor, whatever is lent, and nothing is stored.
+fn not_read(text: &[u8], at: u64, refusal: Refusal) {
+    for lines in [0, 1] {
+        for lent in [[0, 0], [12, 3]] {
+            compare::read_board(text, (at, 5, lines), lent).unwrap();
+            let (mut rows, mut cards) = (vec![7; lent[0]], vec![8; lent[1]]);
+            let got = files::read_board_numbers(text, at, 5, lines, &mut rows, &mut cards);
+            assert_eq!(got.answer.read(), Err(refusal), "{:?}", text.escape_ascii());
+            let numbers = [got.number, got.start, got.stop, got.calls, got.cards];
+            assert_eq!((got.found, numbers, got.heading()), (0, [0; 5], None));
+            assert_eq!((got.next_at, got.next_number), (at, 5));
+            assert_eq!(got.board, model::fresh_board());
+            assert_eq!((rows, cards), (vec![7; lent[0]], vec![8; lent[1]]));
+        }
+    }
+}
+
+#[test]
+fn refused_by_2() {
+    not_read(b"\xFF", 0, Refusal::NotUtf8(0));
+    not_read(b"mb|\xFF|", 0, Refusal::NotUtf8(3));
+    // the place is counted from the text's start
+    not_read(b"mb|\xFF|", 2, Refusal::NotUtf8(3));
+    not_read(b"mb|\xFF|", 3, Refusal::NotUtf8(3));
+    not_read("é".as_bytes(), 1, Refusal::NotUtf8(1));
+    // and nothing before the step's place is looked at
+    not_read(b"\xFFa\xFF", 0, Refusal::NotUtf8(0));
+    not_read(b"\xFFa\xFF", 1, Refusal::NotUtf8(2));
+    let told = Refusal::NotUtf8(2).to_string();
+    assert_eq!(told, "the bytes read are UTF-8 only up to place 2");
+    // there are no bytes beyond the end
+    for at in [6, 9, u64::MAX] {
+        assert_eq!(read(b"mb|\xFF|", parts_from(at, 1), [0, 0]), Ok(None));
+        assert_eq!(read(b"mb|\xFF|", lines_from(at, 1), [0, 0]), Ok(None));
+    }
+}
+
+#[test]
+fn sections_that_are_no_boards_are_passed() {
+    let text = b"mb|p|qx|a|md|1|";
+    let (number, after) = read(text, parts_from(0, 0), [0, 0]).unwrap().unwrap();
+    assert_eq!((number, after), (0, parts_from(15, 1)));
+    assert_eq!(read(text, after, [0, 0]), Ok(None));
+    let text = b" \n\n\t\r\nmb|p|\n \n";
+    let (number, after) = read(text, lines_from(0, 3), [6, 0]).unwrap().unwrap();
+    assert_eq!((number, after), (3, lines_from(12, 4)));
+    assert_eq!(read(text, after, [0, 0]), Ok(None));
+    let end = files::read_board_numbers(text, 12, 4, 1, &mut [], &mut []);
+    assert_eq!((end.answer.read(), end.heading()), (Ok(0), None));
+    // the last number stays
+    let last = lines_from(0, u64::MAX);
+    let (number, after) = read(text, last, [6, 0]).unwrap().unwrap();
+    assert_eq!((number, after), (u64::MAX, lines_from(12, u64::MAX)));
+}
+
+#[test]
+fn a_later_board_that_is_not_utf8() {
+    let text = b"qx|a|md|1|mb|p|qx|b|md|2|qx|c|md|3|mb|\xFF|qx|d|md|4|";
+    assert_eq!(files::count_boards(text), Err(Refusal::NotUtf8(38)));
+    let first = parts_from(0, 0);
+    let (_, second) = read(text, first, [6, 0]).unwrap().unwrap();
+    let (_, third) = read(text, second, [6, 0]).unwrap().unwrap();
+    assert_eq!((second, third), (parts_from(15, 1), parts_from(25, 2)));
+    // the cursor stands, and 2 comes before 3
+    for lent in [[0, 0], [6, 1]] {
+        assert_eq!(read(text, third, lent), Err(Refusal::NotUtf8(38)));
+    }
+    // behind the fault the reading can go on
+    let (number, end) = read(text, parts_from(40, 3), [0, 0]).unwrap().unwrap();
+    assert_eq!((number, read(text, end, [0, 0])), (3, Ok(None)));
+
+    let text = b"md|1|\nmb|p|\n\xC3\xA9\xC3\nx";
+    let (_, second) = read(text, lines_from(0, 0), [0, 0]).unwrap().unwrap();
+    let (_, third) = read(text, second, [6, 0]).unwrap().unwrap();
+    assert_eq!(third, lines_from(12, 2));
+    assert_eq!(read(text, third, [6, 0]), Err(Refusal::NotUtf8(14)));
+}
+
+#[test]
+fn bytes_after_the_last_board() {
+    let text = b"md|1|qx|b|md|2|\xFFx";
+    let (_, second) = read(text, parts_from(0, 0), [0, 0]).unwrap().unwrap();
+    let (_, end) = read(text, second, [0, 0]).unwrap().unwrap();
+    assert_eq!(end, parts_from(15, 2));
+    assert_eq!(read(text, end, [0, 0]), Err(Refusal::NotUtf8(15)));
+    // a section that is no board is looked at with the board behind it
+    let text = b"mb|\xFF|qx|b|md|2|";
+    assert_eq!(
+        read(text, parts_from(0, 0), [6, 0]),
+        Err(Refusal::NotUtf8(3))
+    );
+}
+
+#[test]
+fn refused_by_3_and_made_again() {
+    let text = b"qx||md|1|mb|p|pc|SA|mb|1C!|an|x|qx||md|2|";
+    let first = parts_from(0, 0);
+    let few = |kind, n| Err(Refusal::TooFewRows(kind, n));
+    for (lent, answer) in [
+        ([0, 0], few(RowKind::Calls, 2)),
+        ([11, 9], few(RowKind::Calls, 2)),
+        ([12, 0], few(RowKind::Cards, 1)),
+    ] {
+        assert_eq!(read(text, first, lent), answer, "{lent:?}");
+    }
+    let (mut rows, mut cards) = ([7; 13], [8; 2]);
+    let (second, board) = first.read(text, &mut rows, &mut cards).unwrap();
+    let board = board.unwrap();
+    assert_eq!(board.board(), files::file_board(text, 0).unwrap());
+    assert_eq!((board.rows().len(), board.cards()), (12, &[12][..]));
+    assert_eq!((rows[12], cards[1]), (7, 8));
+    // only that board's rows are asked for
+    assert_eq!(read(text, second, [0, 0]), Ok(Some((1, parts_from(41, 2)))));
+}
+
+#[test]
+fn too_long_is_refused_first() {
+    let mut long = vec![b' '; LIMIT + 1];
+    not_read(&long, 0, Refusal::TextTooLong);
+    not_read(&long, u64::MAX, Refusal::TextTooLong);
+    long[0] = 0xFF;
+    not_read(&long, 0, Refusal::TextTooLong);
+    not_read(&long[..LIMIT], 0, Refusal::NotUtf8(0));
+    assert_eq!(read(&long[1..], lines_from(0, 0), [0, 0]), Ok(None));
+}
+
+/// A walk gives the boards that the file has by number.
+#[test]
+fn walks_are_the_boards_by_number() {
+    let rng = &mut Rng::new(36);
+    for _ in 0..2_000 {
+        let text = samples::file(rng, 20);
+        let bytes = text.as_bytes();
+        let mut cursor = BoardCursor::open(bytes).unwrap();
+        let most = bytes.len() / 4;
+        let (mut rows, mut cards) = (vec![0; ROW * most], vec![0; most]);
+        for number in 0.. {
+            let (after, board) = cursor.read(bytes, &mut rows, &mut cards).unwrap();
+            let want = files::file_board(bytes, number);
+            let Some(board) = board else {
+                assert_eq!(want, Err(Refusal::NoBoard(number)));
+                break;
+            };
+            assert_eq!((board.number, Ok(board.board())), (number, want));
+            assert_eq!(board.text().as_bytes(), board.part.of(bytes));
+            // the spans are those of the whole text
+            let (mut again, mut places) = (vec![0; ROW * most], vec![0; most]);
+            let numbers = files::file_board_numbers(bytes, number, &mut again, &mut places);
+            let lines = u32::from(cursor.sections() == Sections::Lines);
+            let (at, from) = (cursor.place(), cursor.number());
+            let read = files::read_board_numbers(bytes, at, from, lines, &mut rows, &mut cards);
+            assert_eq!(read.heading(), Some(numbers));
+            let (calls, played) = (ROW * numbers.calls as usize, numbers.cards as usize);
+            assert_eq!(rows[..calls], again[..calls]);
+            assert_eq!(cards[..played], places[..played]);
+            cursor = after;
+        }
     }
 }
 
@@ -368,12 +558,12 @@ fn walk(text: &[u8]) -> (u64, u64) {
     assert!(read.eq(0..boards));
     let mut cursor = BoardCursor::open(text).unwrap();
     for sections in 0.. {
-        let step = cursor.step(text);
-        if step.found == 0 {
-            assert_eq!(cursor.number, boards);
+        let (after, section) = cursor.next(text);
+        if section.is_none() {
+            assert_eq!(cursor.number(), boards);
             return (boards, sections);
         }
-        cursor = cursor.after(step);
+        cursor = after;
     }
     unreachable!()
 }
@@ -405,6 +595,90 @@ fn grows(unit: &str, times: usize, boards: u64, sections: u64) {
         seen.push((short, long));
     }
     panic!("{unit:?}: {seen:?}");
+}
+
+/// A walk by the step that reads in which each board is asked for with no rows
+/// first, and the last step again and again: the boards, and how it ends.
+fn asked_twice(text: &[u8], lines: u32, rows: &mut [u32]) -> (u64, Result<u64, Refusal>) {
+    let (mut at, mut number) = (0, 0);
+    loop {
+        let few = files::read_board_numbers(text, at, number, lines, &mut [], &mut []);
+        let read = files::read_board_numbers(text, at, number, lines, rows, &mut []);
+        assert!(few.found == 0 || read.calls == 0);
+        if read.found == 0 {
+            assert_eq!((read.next_at, read.next_number), (at, number));
+            for _ in 0..100 {
+                let again = files::read_board_numbers(text, at, number, lines, rows, &mut []);
+                assert_eq!(again.answer, read.answer);
+            }
+            return (number, read.answer.read());
+        }
+        (at, number) = (read.next_at, read.next_number);
+    }
+}
+
+/// Such a walk over a text of the limit's length, with an end of its own, takes at
+/// most three times as long as over half of it.
+fn asked_grows(unit: &str, lines: u32, end: &[u8], boards: u64, ends: Result<u64, Refusal>) {
+    let text = |len: usize| {
+        let mut text = unit.repeat((len - end.len()) / unit.len()).into_bytes();
+        text.extend(end);
+        text
+    };
+    let (half, whole) = (text(LIMIT / 2), text(LIMIT));
+    let mut rows = vec![0; ROW * 8];
+    assert_eq!(asked_twice(&whole, lines, &mut rows), (boards, ends));
+    let mut time = |text: &[u8]| {
+        let mut once = || {
+            let start = milliseconds();
+            let _ = asked_twice(text, lines, &mut rows);
+            milliseconds() - start
+        };
+        (0..3).map(|_| once()).fold(f64::INFINITY, f64::min)
+    };
+    let mut seen = Vec::new();
+    for _ in 0..4 {
+        let (short, long) = (time(&half), time(&whole));
+        assert!(long < 5000.0, "{long:?}");
+        if long <= 3.0 * short + 2.0 {
+            return;
+        }
+        seen.push((short, long));
+    }
+    panic!("{unit:?}: {seen:?}");
+}
+
+#[test]
+fn growth_of_steps_that_are_refused_or_end() {
+    let limit = LIMIT as u64;
+    // each board is refused by 3 first
+    asked_grows("qx||md||mb||", 0, b"", limit / 12, Ok(0));
+    asked_grows("mb|p|\n", 1, b"", limit / 6, Ok(0));
+    // most sections are no boards
+    asked_grows("qx||", 0, b"qx||md||mb|p|", 1, Ok(0));
+    asked_grows(
+        "qx||qx||qx||qx||qx||qx||qx||qx||md||",
+        0,
+        b"",
+        limit / 36,
+        Ok(0),
+    );
+    asked_grows("\n\n\n\n\n\n\n\nx\n", 1, b"", limit / 10, Ok(0));
+    // the last step is refused by 2
+    asked_grows(
+        "qx||md||mb||",
+        0,
+        b"\xFF",
+        (limit - 1) / 12,
+        Err(Refusal::NotUtf8((limit - 1) / 12 * 12)),
+    );
+    asked_grows(
+        "mb|p|\n",
+        1,
+        b"x\xFF",
+        (limit - 2) / 6,
+        Err(Refusal::NotUtf8((limit - 2) / 6 * 6 + 1)),
+    );
 }
 
 #[test]

@@ -5,7 +5,7 @@ use lin_host_rust::{
     boards::{Card, Seat, ROW},
     compare::{self, Sizes},
     model,
-    pbn::{self, Bid, Call, Gathered, LinConverted, NoteWords, Notes, Record, Strain},
+    pbn::{self, Bid, Call, Gathered, LinConverted, NoteWords, Notes, Record, Strain, GAP},
     samples::pbn as samples,
     tokens::Span,
     upstream, Refusal, RowKind, LIMIT,
@@ -19,8 +19,8 @@ fn holds(subject: &dyn std::fmt::Debug, outcome: compare::Same) {
 }
 
 fn text(raw: &str, notes: &[(u8, &str)]) -> Option<String> {
-    let notes: Notes = notes.iter().map(|(n, t)| (*n, t.as_bytes())).collect();
-    pbn::annotation_text(raw.as_bytes(), &notes).unwrap()
+    let notes: Notes = notes.iter().copied().collect();
+    pbn::annotation_text(raw, &notes).unwrap()
 }
 
 // Annotations
@@ -147,12 +147,12 @@ fn made(record: &Record) -> pbn::Made {
 fn nothing_given() {
     let made = made(&Record::default());
     assert_eq!(made.board(), Default::default());
-    assert_eq!(made.texts(), b"");
+    assert_eq!(made.texts(), "");
 }
 
 #[test]
 fn titles_and_labels() {
-    fn head<'a>(event: &'a [u8], date: &'a [u8], id: &'a [u8], number: u32) -> Record<'a> {
+    fn head<'a>(event: &'a str, date: &'a str, id: &'a str, number: u32) -> Record<'a> {
         Record {
             event: Some(event),
             date: Some(date),
@@ -161,18 +161,18 @@ fn titles_and_labels() {
             ..Record::default()
         }
     }
-    let texts = |record: &Record| String::from_utf8(made(record).texts().to_vec()).unwrap();
-    assert_eq!(texts(&head(b"Cup", b"", b"", 7)), "Cupo7,BOARD 7Board 7");
+    let texts = |record: &Record| made(record).texts().to_string();
+    assert_eq!(texts(&head("Cup", "", "", 7)), "Cupo7,BOARD 7Board 7");
     assert_eq!(
-        texts(&head(b"", b"May", b"a|", 7)),
+        texts(&head("", "May", "a|", 7)),
         " - Mayoa/,BOARD a/Board a/"
     );
     assert_eq!(
-        texts(&head(b"C\n", b"M,", b"1-1", 7)),
+        texts(&head("C\n", "M,", "1-1", 7)),
         "C  - M,o1-1,BOARD 1-1Board 1-1"
     );
     let dealer = |record: &Record| made(record).board().heading.dealer;
-    let seats = [1, 2, 3, 4].map(|n| dealer(&head(b"", b"", b"x", n)));
+    let seats = [1, 2, 3, 4].map(|n| dealer(&head("", "", "x", n)));
     assert_eq!(seats, [Seat::North, Seat::East, Seat::South, Seat::West]);
     let given = Record {
         dealer: Some(Seat::West),
@@ -184,15 +184,14 @@ fn titles_and_labels() {
 
 #[test]
 fn spellings_are_kept() {
-    let names = ["é", "e\u{301}", "", "e,\u{301}"].map(|n| Some(n.as_bytes()));
+    let names = ["é", "e\u{301}", "", "e,\u{301}"].map(Some);
     let record = Record {
         names,
         ..Record::default()
     };
     let made = made(&record);
     let board = made.board();
-    let kept = board.heading.names.map(|n| std::str::from_utf8(n).unwrap());
-    assert_eq!(kept, ["é", "e\u{301}", "", "e\u{301}"]);
+    assert_eq!(board.heading.names, ["é", "e\u{301}", "", "e\u{301}"]);
 }
 
 #[test]
@@ -207,23 +206,22 @@ fn calls_play_and_claim() {
     ];
     let call = |bid| Call {
         bid,
-        annotation: Some(b"=1=".as_slice()),
+        annotation: Some("=1="),
     };
     let mut record = Record {
         calls: bids.map(call).to_vec(),
-        notes: [(1, b"a|b".as_slice())].into(),
-        play: vec![Some(Card(0)), None, Some(Card(51))],
+        notes: [(1, "a|b")].into(),
+        play: vec![Card::new(0), None, Card::new(51)],
         result: Some(256),
         ..Record::default()
     };
     let board = made(&record);
     let board = board.board();
     let texts: Vec<_> = board.calls.iter().map(|c| (c.bid, c.annotation)).collect();
-    let note = Some(b"a/b".as_slice());
-    let want: [&[u8]; 4] = [b"7N", b"d", b"r", b"p"];
-    assert_eq!(texts, want.map(|bid| (bid, note)));
+    let note = Some("a/b");
+    assert_eq!(texts, ["7N", "d", "r", "p"].map(|bid| (bid, note)));
     assert!(board.calls.iter().all(|c| !c.alerted));
-    assert_eq!(board.play, [Card(0), Card(51)]);
+    assert_eq!(board.play, [0, 51].map(|n| Card::new(n).unwrap()));
     assert_eq!(board.heading.claim, None);
     for (result, claim) in [(0, Some(0)), (255, Some(255)), (-1, None), (i32::MIN, None)] {
         record.result = Some(result);
@@ -283,11 +281,11 @@ fn sample() -> Gathered {
     };
     let dropped = |bid| Call {
         bid,
-        annotation: Some(b"z".as_slice()),
+        annotation: Some("z"),
     };
     Gathered::from(&Record {
-        names: [Some("é".as_bytes()), None, None, None],
-        id: Some(b"a"),
+        names: [Some("é"), None, None, None],
+        id: Some("a"),
         number: Some(7),
         calls: vec![
             call(Bid::Level(1, Strain::Clubs)),
@@ -295,7 +293,7 @@ fn sample() -> Gathered {
             dropped(Bid::Blank),
             call(Bid::Pass),
         ],
-        play: vec![Some(Card(12)), None, Some(Card(51))],
+        play: vec![Card::new(12), None, Card::new(51)],
         ..Record::default()
     })
 }
@@ -365,20 +363,49 @@ fn codes_outside_their_range() {
     assert_eq!(refusal(&lent, ENOUGH), None);
 }
 
+/// Every level and every number that the safe types can hold: those outside
+/// their range are refused, and no gap is made of a card.
+#[test]
+fn the_safe_types() {
+    for level in 0..=255 {
+        let record = Record {
+            calls: vec![Bid::Level(level, Strain::Clubs).into()],
+            ..Record::default()
+        };
+        let refusal = (!(1..=7).contains(&level)).then_some(Refusal::OutOfRange);
+        assert_eq!(pbn::from_board(&record).err(), refusal, "{level}");
+    }
+    for number in [0, 1, 65_535, 65_536, 65_537, 1 << 31, u32::MAX] {
+        let record = Record {
+            number: Some(number),
+            ..Record::default()
+        };
+        let refusal = (!(1..=65_535).contains(&number)).then_some(Refusal::OutOfRange);
+        assert_eq!(pbn::from_board(&record).err(), refusal, "{number}");
+    }
+    assert_eq!(Card::new(GAP), None);
+    let play: Vec<Card> = Card::all().collect();
+    let record = Record {
+        play: play.iter().copied().map(Some).collect(),
+        ..Record::default()
+    };
+    assert_eq!(made(&record).board().play, play);
+}
+
 #[test]
 fn the_room_of_a_long_output() {
-    let half = vec![b'a'; LIMIT / 2];
-    let lent = |more: &'static [u8]| {
+    let half = "a".repeat(LIMIT / 2);
+    let lent = |more: &'static str| {
         let mut lent = Gathered::from(&Record {
-            names: [Some(half.as_slice()), None, Some(more), None],
+            names: [Some(half.as_str()), None, Some(more), None],
             ..Record::default()
         });
         // the same half again
         lent.board.west = lent.board.south;
         lent
     };
-    let got = answer(&lent(b""), [LIMIT + 2, 0, 0]);
+    let got = answer(&lent(""), [LIMIT + 2, 0, 0]);
     assert_eq!(got.len, LIMIT as u64);
     let small = Some(Refusal::OutputTooSmall(LIMIT as u64 + 1));
-    assert_eq!(refusal(&lent(b"b"), [LIMIT + 2, 0, 0]), small);
+    assert_eq!(refusal(&lent("b"), [LIMIT + 2, 0, 0]), small);
 }

@@ -38,7 +38,7 @@ fn fresh() -> Gathered {
 /// A board as a text, which is compared with upstream's too.
 fn text(board: &Board) -> String {
     compared(&Gathered::from(board));
-    String::from_utf8(writer::write_lin(board).unwrap()).unwrap()
+    writer::write_lin(board).unwrap()
 }
 
 fn headed(heading: Heading) -> String {
@@ -74,14 +74,14 @@ fn a_fresh_board() {
 fn texts_are_cleaned() {
     let line = |heading| headed(heading).lines().next().unwrap().to_string();
     let names = Heading {
-        names: [b"a|b", b"c,d|", b"\r\n", b",,"],
+        names: ["a|b", "c,d|", "\r\n", ",,"],
         ..Heading::default()
     };
     assert_eq!(line(names), "mn||pn|a/b,cd/,  ,|qx||rh||md|3,,,|sv|0|");
     let others = Heading {
-        title: Some(b"one, two|"),
-        room_board: Some(b"o1,BOARD 1\r"),
-        board_header: Some(b""),
+        title: Some("one, two|"),
+        room_board: Some("o1,BOARD 1\r"),
+        board_header: Some(""),
         vulnerability: Vulnerability::EastWest,
         ..Heading::default()
     };
@@ -99,16 +99,16 @@ fn calls_play_and_claim() {
         annotation,
     };
     let calls = vec![
-        call(b"1C", true, None),
-        call(b"1C!", true, Some(&b"a|b\n"[..])),
-        call(b"!", false, Some(b"")),
-        call(b"", false, None),
+        call("1C", true, None),
+        call("1C!", true, Some("a|b\n")),
+        call("!", false, Some("")),
+        call("", false, None),
     ];
     let heading = Heading {
         claim: Some(255),
         ..Heading::default()
     };
-    let board = Board::new(heading, calls, (0..5).map(Card).collect());
+    let board = Board::new(heading, calls, Card::all().take(5).collect());
     let written = text(&board);
     let lines: Vec<&str> = written.lines().skip(1).collect();
     assert_eq!(
@@ -360,32 +360,25 @@ fn equality_checks_both_boards_before_the_next() {
 
 #[test]
 fn wrappers_refuse() {
-    let board = |heading, play| Board::new(heading, vec![], play);
-    let none = board(Heading::default(), vec![Card(52)]);
-    assert_eq!(writer::write_lin(&none), Err(Refusal::OutOfRange));
-    let ill = Heading {
-        title: Some(b"\xFF"),
-        ..Heading::default()
-    };
-    let ill = board(ill, vec![]);
-    assert_eq!(writer::write_lin(&ill), Err(Refusal::SpanNotUtf8));
-    assert_eq!(writer::same_board(&ill, &none), Err(Refusal::OutOfRange));
-    let long = vec![b' '; LIMIT + 1];
-    let long = Heading {
-        title: Some(&long),
-        ..Heading::default()
-    };
-    let long = board(long, vec![]);
-    assert_eq!(writer::write_lin(&long), Err(Refusal::TextTooLong));
+    fn titled(title: &str) -> Board<'_> {
+        let heading = Heading {
+            title: Some(title),
+            ..Heading::default()
+        };
+        Board::new(heading, vec![], vec![])
+    }
+    let long = " ".repeat(LIMIT + 1);
+    let long = titled(&long);
+    let refused = Refusal::TextTooLong;
+    assert_eq!(writer::write_lin(&long), Err(refused));
+    assert_eq!(writer::same_board(&long, &long), Err(refused));
+    assert_eq!(writer::same_board(&titled(""), &long), Err(refused));
     let mut file = Appender::new(200);
-    assert_eq!(file.append(&none), Err(Refusal::OutOfRange));
-    assert_eq!((file.used(), file.output()), (0, &[0; 200][..]));
-    let full = vec![b' '; LIMIT - 42];
-    let full = Heading {
-        title: Some(&full),
-        ..Heading::default()
-    };
-    let full = board(full, vec![]);
+    assert_eq!(file.append(&long), Err(refused));
+    assert_eq!((file.used(), file.text()), (0, ""));
+    assert_eq!(file.output(), [0; 200]);
+    let full = " ".repeat(LIMIT - 42);
+    let full = titled(&full);
     let needed = Refusal::OutputTooSmall(LIMIT as u64 + 1);
     assert_eq!(writer::write_lin(&full), Err(needed));
 }
@@ -394,10 +387,7 @@ fn wrappers_refuse() {
 
 #[test]
 fn play_texts() {
-    let shown = |cards: &[u8]| {
-        let play: Vec<Card> = cards.iter().map(|c| Card(*c)).collect();
-        writer::play_text(&play).unwrap()
-    };
+    let shown = |cards: &[u8]| writer::play_text(&boards::play(cards)).unwrap();
     assert_eq!(shown(&[]), "");
     assert_eq!(
         shown(&[26, 38, 30, 29, 1, 0, 10, 12]),
@@ -573,7 +563,7 @@ fn every_claim_and_every_card() {
         assert!(headed(heading).ends_with(&format!("mc|{claim}|pg||\n")));
     }
     for seat in Seat::ALL {
-        for card in (0..52).map(Card) {
+        for card in Card::all() {
             let mut heading = Heading::default();
             heading.deal.add(seat, card);
             headed(heading);
@@ -626,7 +616,7 @@ fn settled_boards() {
         let want = upstream::board(&settled);
         for board in [&board, &settled] {
             let text = writer::write_lin(&upstream::board(board)).unwrap();
-            assert_eq!(boards::board(&text), Ok(want.clone()));
+            assert_eq!(boards::board(text.as_bytes()), Ok(want.clone()));
         }
         assert_eq!(upstream::board(&log::settled(&settled)), want);
     }

@@ -35,7 +35,6 @@ pub enum Call {
     FromBoard,
     SameBoard,
     ReadBoard,
-    ReadStep,
 }
 
 #[derive(Default)]

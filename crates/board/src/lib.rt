@@ -3,9 +3,7 @@ mod reader;
 
 pub use reader::board_at;
 pub use reader::heading_at;
-pub use reader::heading_of;
 pub use reader::names_at;
 pub use reader::parse_lin;
 pub use reader::parse_lin_heading;
 pub use reader::put_cards;
-pub use reader::roomy;

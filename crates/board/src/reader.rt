@@ -47,7 +47,7 @@ pub fn put_cards(cards: &mut [u8], text: &[u8], at: usize) -> usize
 }
 
 // A heading that was read, with dealer and deal.
-pub fn heading_of(text: &[u8], h: Head) -> Heading
+fn heading_of(text: &[u8], h: Head) -> Heading
     requires { ⌜ length (now text) < 2 ^ 32 ⌝ }
     ensures { λ r. ⌜ r ≡ headOf (now (text .entry)) h ⌝ }
 {
@@ -96,7 +96,7 @@ pub fn names_at(text: &[u8], at: usize) -> [Span; 4]
 }
 
 // Tests for places enough for any board of the text from a place on. Promised is what its callers need: where it says true, there are.
-pub fn roomy(text: &[u8], at: usize, rows: &[u32], cards: &[u8]) -> bool
+fn roomy(text: &[u8], at: usize, rows: &[u32], cards: &[u8]) -> bool
     requires { ⌜ at ≤ length (now text) ⌝ }
     ensures { λ r. ⌜ (r ≡ true → Places (length (now (text .entry)) - at) (now (rows .entry)) (now (cards .entry))) ⌝ }
 {

@@ -50,7 +50,7 @@ pub struct Head {
 }
 
 // The heading after one token more, whose command has the number k.
-pub fn step(text: &[u8], h: Head, k: u8, v: Span) -> Head
+pub(crate) fn step(text: &[u8], h: Head, k: u8, v: Span) -> Head
     requires { ⌜ (endOf v ≤ length (now text)) × (length (now text) < 2 ^ 32) × (h .calls < 2 ^ 32) × (h .cards < 2 ^ 32) ⌝ }
     ensures { λ r. ⌜ Stepped (now (text .entry)) h k v r ⌝ }
 {
@@ -84,7 +84,7 @@ pub fn step(text: &[u8], h: Head, k: u8, v: Span) -> Head
 }
 
 // A heading before the first token.
-pub fn fresh_head() -> Head
+pub(crate) fn fresh_head() -> Head
     ensures { λ r. ⌜ r ≡ freshHead ⌝ }
 {
     let none = Span { start: 0, len: 0 };

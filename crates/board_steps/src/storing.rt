@@ -48,7 +48,7 @@ fn put_call(rows: &mut [u32], at: usize, c: Call) -> usize
 }
 
 // Stores the call of an mb value in the row i, and gives the number of the next row.
-pub fn put_bid(rows: &mut [u32], i: usize, text: &[u8], v: Span) -> usize
+fn put_bid(rows: &mut [u32], i: usize, text: &[u8], v: Span) -> usize
     requires { ⌜ (endOf v ≤ length (now text)) × Room (now rows) (i * 6) (bidWords (now text) v) ⌝ }
     ensures { λ r. ⌜ (r ≡ i + 1) × (now (rows .exit) ≡ overlay (now (rows .entry)) (i * 6) (bidWords (now (text .entry)) v)) ⌝ }
 {
@@ -68,7 +68,7 @@ fn put_note(rows: &mut [u32], at: usize, v: Span) -> usize
 }
 
 // Stores an annotation in the last of i rows, if there is one.
-pub fn put_last(rows: &mut [u32], i: usize, v: Span)
+fn put_last(rows: &mut [u32], i: usize, v: Span)
     requires { ⌜ i * 6 ≤ length (now rows) ⌝ }
     ensures { λ _. ⌜ now (rows .exit) ≡ noted (now (rows .entry)) i v ⌝ }
 {
@@ -78,7 +78,7 @@ pub fn put_last(rows: &mut [u32], i: usize, v: Span)
 }
 
 // Stores the card of a pc, if its value is one.
-pub fn put_card(cards: &mut [u8], at: usize, text: &[u8], v: Span) -> usize
+fn put_card(cards: &mut [u8], at: usize, text: &[u8], v: Span) -> usize
     requires { ⌜ Room (now cards) at (cardOf (now text) v) ⌝ }
     ensures { λ r. ⌜ Put (now (cards .entry)) at (cardOf (now (text .entry)) v) (now (cards .exit)) r ⌝ }
 {

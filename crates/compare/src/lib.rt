@@ -1,4 +1,4 @@
 // Whether two texts have the same bytes. (01: equality; names)
-mod bytes;
+mod sixteens;
 
-pub use bytes::same_bytes;
+pub use sixteens::same_bytes;

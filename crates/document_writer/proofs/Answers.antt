@@ -17,7 +17,7 @@ use Rattle.lin_spec.specs.declared.Span.{Span}
 use Rattle.lin_spec.specs.declared.Refusal.the-variants.{TextTooLong, SpanPastEnd, SpanNotUtf8, OutputTooSmall}
 use Rattle.output.specs.Put.{Put}
 use Rattle.document_writer.specs.Rows.{Looked}
-use Rattle.document_writer.specs.declared.writer.Look.{Look}
+use Rattle.document_writer.specs.declared.documents.Look.{Look}
 
 -- write_document
 module _ (s ws : List ℕ) (tr : Span) (o : List ℕ) where

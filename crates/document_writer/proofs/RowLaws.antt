@@ -17,7 +17,7 @@ use Rattle.lin_spec.proofs.Base.{or-none}
 use Rattle.lin_spec.proofs.Records.{part-length}
 use Rattle.text.proofs.ListLaws.{next-word}
 use Rattle.output.proofs.Laws.{Left}
-use Rattle.document_writer.specs.declared.writer.Row.{Row}
+use Rattle.document_writer.specs.declared.documents.Row.{Row}
 use Rattle.document_writer.specs.Rows.{rowAt, rowOf, rowText}
 
 -- one row off the front

@@ -14,8 +14,8 @@ use Rattle.lin_spec.specs.Document.{documentText}
 use Rattle.lin_spec.specs.declared.Span.{Span}
 use Rattle.lin_spec.proofs.Base.{and-left, and-right}
 use Rattle.output.proofs.Laws.{Left}
-use Rattle.document_writer.specs.declared.writer.Row.{Row}
-use Rattle.document_writer.specs.declared.writer.Run.{Run}
+use Rattle.document_writer.specs.declared.documents.Row.{Row}
+use Rattle.document_writer.specs.declared.documents.Run.{Run}
 use Rattle.document_writer.specs.Rows.{rowAt, rowOf, rowText, Stands, runText, RunAt}
 use Rattle.document_writer.proofs.RowLaws.{rowTextAt, text-cons}
 

@@ -10,10 +10,10 @@ use Rattle.lin_spec.specs.Refusals.{sat, passesEnd, illSpan}
 use Rattle.lin_spec.specs.Document.{Row as RowAt, rowsIn, spansOf, documentText}
 use Rattle.lin_spec.specs.declared.Span.{Span}
 use Rattle.output.specs.Put.{joined}
-use Rattle.document_writer.specs.declared.writer.Row.{Row}
-use Rattle.document_writer.specs.declared.writer.Run.{Run}
-use Rattle.document_writer.specs.declared.writer.Look.{Look}
-use Rattle.document_writer.specs.declared.writer.Look.the-variants.{Past, Torn, Need}
+use Rattle.document_writer.specs.declared.documents.Row.{Row}
+use Rattle.document_writer.specs.declared.documents.Run.{Run}
+use Rattle.document_writer.specs.declared.documents.Look.{Look}
+use Rattle.document_writer.specs.declared.documents.Look.the-variants.{Past, Torn, Need}
 
 -- the row of the four words from i on
 abbrev pub rowAt : (ws : List ℕ) (i : ℕ) → RowAt

@@ -1,4 +1,4 @@
 // A document written from spans: its rows and its trailing text. (01: Tokens, `to_lin`; upstream's document.rs)
-mod writer;
+mod documents;
 
-pub use writer::write_document;
+pub use documents::write_document;

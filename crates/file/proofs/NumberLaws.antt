@@ -17,7 +17,7 @@ use Rattle.lin_spec.specs.Fresh.{refusedHeading}
 use Rattle.lin_spec.specs.Document.{openText}
 use Rattle.lin_spec.specs.Board.{BoardOf}
 use Rattle.lin_spec.specs.Reading.{headingOf, headed, fewRows, Reading, stored}
-use Rattle.lin_spec.specs.File.{Section as Part, section, holds, Standing, visit, openBoards, sections, boardsOf, boardIn, fileSpans, noBoard, numbered, countBoards, fileHeading, fileBoard}
+use Rattle.lin_spec.specs.File.{Section as Part, section, holds, Standing, visit, openBoards, sections, boardsOf, boardIn, fileSpans, noBoard, numbered, countBoards, fileHeading, fileBoard, remaining}
 use Rattle.lin_spec.specs.declared.Span.{Span}
 use Rattle.lin_spec.specs.declared.Refusal.{Refusal}
 use Rattle.lin_spec.specs.declared.Refusal.the-variants.{NoBoard}
@@ -25,7 +25,7 @@ use Rattle.lin_spec.specs.declared.Heading.{Heading}
 use Rattle.lin_spec.proofs.Base.{and-left, and-right, split}
 use Rattle.lin_spec.proofs.Checks.{unless-same, unless-refused, unless-passed}
 use Rattle.lin_spec.proofs.Document.{opened}
-use Rattle.lin_spec.proofs.File.{remaining, Found, Visited, visits, all-remain}
+use Rattle.lin_spec.proofs.File.{Found, all-remain}
 use Rattle.lin_spec.proofs.FileMeaning.{getD-map}
 use Rattle.board_steps.specs.Head.{boardAt}
 use Rattle.sections.specs.Sections.{sectionOf, standingOf, openedOf, visitOf}
@@ -36,10 +36,6 @@ use Rattle.sections.specs.declared.sections.BoardStep.{BoardStep}
 use Rattle.sections.specs.declared.sections.OpenedBoards.{OpenedBoards}
 use Rattle.sections.specs.declared.sections.OpenedBoards.the-variants.{At, Refused}
 use Rattle.file.specs.declared.numbers.Numbered.{Numbered}
-
--- what a step that was called for and taken apart says
-pub seen : (s : List ℕ) (c : BoardCursor) (r v : BoardStep) → visitOf r ≡ visit s (standingOf c) → r ≡ v → Visited s (standingOf c) (visitOf v)
-seen s c r v e f = visits s (standingOf c) (visitOf v) (sym e ∙ ap visitOf f)
 
 -- A cursor on its way: the boards passed and those that remain are all
 

@@ -1,34 +1,48 @@
 -- A step that reads, as lin_spec's, and what its parts ask. (01: File)
-use Prim.Native.Nat.{ℕ, _-_, _≤_, _<_, _^_}
-use mathlib.Core.Path.{_≡_}
-use mathlib.Core.Bool.{false}
+use Prim.Native.Nat.{ℕ, _≤_, _<_, _^_}
 use mathlib.Core.List.{List}
+use mathlib.Core.Option.{Option, none, some}
 use lib.ListN.{length}
-use Rattle.lin_spec.specs.Records.{limit}
-use Rattle.lin_spec.specs.Refusals.{unless}
-use Rattle.lin_spec.specs.Reading.{fewRows, Reading, stored}
-use Rattle.lin_spec.specs.File.{Section, boardIn, ReadStep}
-use Rattle.board.specs.Reader.{Places}
-use Rattle.sections.specs.Sections.{visitOf}
-use Rattle.sections.specs.declared.sections.BoardCursor.{BoardCursor}
+use Rattle.lin_spec.specs.Refusals.{Answer}
+use Rattle.lin_spec.specs.Refusals.Answer.{refused, accepted}
+use Rattle.lin_spec.specs.Fresh.{freshBoard}
+use Rattle.lin_spec.specs.File.{Section, Standing, Visit, ReadStep}
+use Rattle.lin_spec.specs.File.Visit.{found, ended}
+use Rattle.lin_spec.specs.declared.Refusal.{Refusal}
+use Rattle.lin_spec.specs.declared.Verdict.{Verdict}
+use Rattle.lin_spec.specs.declared.Verdict.the-variants.{Accepted, Refused}
+use Rattle.sections.specs.Sections.{sectionOf, standingOf}
+use Rattle.file_reader.specs.declared.steps.NextBoard.{NextBoard}
+use Rattle.file_reader.specs.declared.steps.NextBoard.the-variants.{Found, Ended, Refused as Met}
 use Rattle.file_reader.specs.declared.steps.BoardRead.{BoardRead}
 
+-- one check, by its verdict
+abbrev pub checkOf : Verdict → Option Refusal
+checkOf Accepted = none
+checkOf (Refused r) = some r
+
+-- a step's answer, and the cursor that it hands back
+abbrev pub nextOf : NextBoard → Answer Visit
+nextOf (Found n p d) = accepted (found n (sectionOf p) (standingOf d))
+nextOf (Ended c) = accepted (ended (standingOf c))
+nextOf (Met r c) = refused r
+
+abbrev pub cursorOf : NextBoard → Standing
+cursorOf (Found n p d) = standingOf d
+cursorOf (Ended c) = standingOf c
+cursorOf (Met r c) = standingOf c
+
 abbrev pub readOf : BoardRead → (rows cards : List ℕ) → ReadStep
-readOf r rows cards = record { step = visitOf (r .step); reading = record { heading = r .heading; rows = rows; cards = cards } }
+readOf r rows cards =
+    record { answer = nextOf (r .next); cursor = cursorOf (r .next); board = r .board; calls = r .calls; play = r .cards; rows = rows; cards = cards }
 
--- a section read by its bounds
-abbrev pub readSection : (s : List ℕ) → Section → (rows cards : List ℕ) → Reading
-readSection s p rows cards = let b = boardIn s p in stored (unless (fewRows b rows cards) b) rows cards
+-- a step without a board
+abbrev pub unreadOf : NextBoard → BoardRead
+unreadOf v = record { next = v; board = freshBoard; calls = 0; cards = 0 }
 
--- a section within a text of 32-bit places
-pub record Inside (s : List ℕ) (p : Section) : Type 0 where
+-- a section at or after a place, within a text of 32-bit places
+pub record Inside (s : List ℕ) (at : ℕ) (p : Section) : Type 0 where
+  pub starts : at ≤ p .start
   pub begins : p .start ≤ p .stop
   pub stops : p .stop ≤ length s
   pub short : length s < 2 ^ 32
-
--- a cursor over parts of a text within the limit, with places for any board of it
-pub record Ready (s : List ℕ) (c : BoardCursor) (rows cards : List ℕ) : Type 0 where
-  pub parts : c .lines ≡ false
-  pub within : c .at ≤ length s
-  pub short : length s ≤ limit
-  pub places : Places (length s - c .at) rows cards

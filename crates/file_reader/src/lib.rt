@@ -1,6 +1,6 @@
-// A section of a file found and read at once: the board cursor's step that reads. (01: File; Board)
-mod parts;
+// The step of the board cursor that reads the next board. (01: File; Board)
 mod steps;
 
 pub use steps::BoardRead;
+pub use steps::NextBoard;
 pub use steps::read_board;

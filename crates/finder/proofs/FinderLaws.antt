@@ -14,12 +14,12 @@ use Rattle.lin_spec.specs.Refusals.{unless}
 use Rattle.lin_spec.specs.Refusals.Answer.{refused, accepted}
 use Rattle.lin_spec.specs.Reading.{stream}
 use Rattle.lin_spec.specs.Board.{BoardOf}
-use Rattle.lin_spec.specs.File.{Section as Part, holds, Standing, sections, boardsOf, boardIn, fileSpans, sameName, hasName, findName}
+use Rattle.lin_spec.specs.File.{Section as Part, holds, Standing, sections, boardsOf, boardIn, fileSpans, sameName, hasName, findName, remaining}
 use Rattle.lin_spec.specs.declared.Span.{Span}
 use Rattle.lin_spec.specs.declared.Refusal.the-variants.{TextTooLong, NotUtf8}
 use Rattle.lin_spec.proofs.Base.{picked}
 use Rattle.lin_spec.proofs.Utf8.{short, whole-text}
-use Rattle.lin_spec.proofs.File.{remaining, Found, all-remain}
+use Rattle.lin_spec.proofs.File.{Found, all-remain}
 use Rattle.board_steps.specs.Head.{boardAt}
 use Rattle.sections.specs.Sections.{sectionOf, standingOf}
 use Rattle.file.specs.Numbers.{Ready, Finds}

@@ -21,9 +21,10 @@ use Rattle.lin_spec.specs.declared.Vulnerability.{Vulnerability}
 use Rattle.lin_spec.specs.declared.Vulnerability.the-variants.{None, NorthSouth, EastWest, Both}
 use Rattle.lin_spec.specs.declared.Board.{Board}
 use Rattle.host_numbers.specs.Boards.{vulnerabilityNumber, placeNumbers, textNumbers, claimFlag, claimNumber, boardNumbers}
-use Rattle.host_numbers.specs.Codes.{seatOf, vulnerabilityOf, spansOf, textOf, claimOf, boardOf, badGiven, badCodes}
+use Rattle.host_numbers.specs.Codes.{vulnerabilityOf, spansOf, textOf, claimOf, boardOf, badGiven, badCodes}
 use Rattle.lin_spec.specs.Board.{Present as Holds}
 use Rattle.lin_spec.specs.Lent.{claimOf as claimIn}
+use Rattle.lin_spec.proofs.Seats.{seat-back}
 
 -- the spans of eight words
 
@@ -42,12 +43,6 @@ eight (a ∷ b ∷ c ∷ d ∷ e ∷ f ∷ g ∷ i ∷ []) h = refl
 eight (a ∷ b ∷ c ∷ d ∷ e ∷ f ∷ g ∷ i ∷ x ∷ ws) h = absurd (omega arith)
 
 -- There and back: a board that a reading gives can be lent again
-
-seat-back : (x : Seat) → seatOf (seatNumber x) ≡ x
-seat-back South = refl
-seat-back West = refl
-seat-back North = refl
-seat-back East = refl
 
 vulnerability-back : (v : Vulnerability) → vulnerabilityOf (vulnerabilityNumber v) ≡ v
 vulnerability-back None = refl

@@ -5,13 +5,12 @@ use mathlib.Core.List.{List, [], _∷_}
 use lib.Dec.{eqb, ltb}
 use Rattle.lin_spec.specs.Base.{pick}
 use Rattle.lin_spec.specs.Records.{span}
+use Rattle.lin_spec.specs.Letters.{seatAt}
 use Rattle.lin_spec.specs.declared.Span.{Span}
 use Rattle.lin_spec.specs.declared.MaybeSpan.{MaybeSpan}
 use Rattle.lin_spec.specs.declared.MaybeSpan.the-variants.{Absent, Present}
 use Rattle.lin_spec.specs.declared.MaybeClaim.{MaybeClaim}
 use Rattle.lin_spec.specs.declared.MaybeClaim.the-variants.{Absent as NoClaim, Claimed}
-use Rattle.lin_spec.specs.declared.Seat.{Seat}
-use Rattle.lin_spec.specs.declared.Seat.the-variants.{South, West, North, East}
 use Rattle.lin_spec.specs.declared.Vulnerability.{Vulnerability}
 use Rattle.lin_spec.specs.declared.Vulnerability.the-variants.{None, NorthSouth, EastWest, Both}
 use Rattle.lin_spec.specs.declared.Board.{Board}
@@ -19,9 +18,6 @@ use Rattle.host_numbers.specs.declared.boards.LinText.{LinText}
 use Rattle.host_numbers.specs.declared.boards.LinBoard.{LinBoard}
 
 -- The board. A code outside its range, with which the call is refused, counts as the last seat, as both sides, as a text that is there, or as no claim.
-
-abbrev pub seatOf : ℕ → Seat
-seatOf n = pick (eqb n 0) South (pick (eqb n 1) West (pick (eqb n 2) North East))
 
 abbrev pub vulnerabilityOf : ℕ → Vulnerability
 vulnerabilityOf n = pick (eqb n 0) None (pick (eqb n 1) NorthSouth (pick (eqb n 2) EastWest Both))
@@ -44,7 +40,7 @@ unfoldable pub boardOf : LinBoard → Board
 boardOf b =
     record {
       names = spansOf (b .names);
-      dealer = seatOf (b .dealer);
+      dealer = seatAt (b .dealer);
       deal = record { counts = b .counts };
       vulnerability = vulnerabilityOf (b .vulnerability);
       title = textOf (b .title);

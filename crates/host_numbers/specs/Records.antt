@@ -4,6 +4,7 @@ use mathlib.Core.Bool.{Bool, _||_}
 use lib.IntN.{ℤ}
 use lib.Dec.{eqb, ltb}
 use Rattle.lin_spec.specs.Base.{pick}
+use Rattle.lin_spec.specs.Letters.{seatAt}
 use Rattle.lin_spec.specs.declared.MaybeNumber.{MaybeNumber}
 use Rattle.lin_spec.specs.declared.MaybeNumber.the-variants.{Absent as NoNumber, Number}
 use Rattle.lin_spec.specs.declared.MaybeSeat.{MaybeSeat}
@@ -11,7 +12,7 @@ use Rattle.lin_spec.specs.declared.MaybeSeat.the-variants.{Absent as NoSeat, Gi
 use Rattle.lin_spec.specs.declared.MaybeResult.{MaybeResult}
 use Rattle.lin_spec.specs.declared.MaybeResult.the-variants.{Absent as NoResult, Tricks}
 use Rattle.lin_spec.specs.declared.PbnBoard.{PbnBoard}
-use Rattle.host_numbers.specs.Codes.{seatOf, vulnerabilityOf, textOf, badThree, badGiven}
+use Rattle.host_numbers.specs.Codes.{vulnerabilityOf, textOf, badThree, badGiven}
 use Rattle.host_numbers.specs.declared.records.LinPbn.{LinPbn}
 
 -- The record. A code outside its range, with which the call is refused, counts as the last seat, as both sides, or as given.
@@ -20,7 +21,7 @@ abbrev pub boardNumberOf : (given number : ℕ) → MaybeNumber
 boardNumberOf t n = pick (eqb t 0) NoNumber (Number n)
 
 abbrev pub dealerOf : (given dealer : ℕ) → MaybeSeat
-dealerOf t n = pick (eqb t 0) NoSeat (Given (seatOf n))
+dealerOf t n = pick (eqb t 0) NoSeat (Given (seatAt n))
 
 abbrev pub resultOf : (given : ℕ) (result : ℤ) → MaybeResult
 resultOf t n = pick (eqb t 0) NoResult (Tricks n)

@@ -128,7 +128,7 @@ fn verdict_numbers(v: Verdict) -> LinAnswer
     }
 }
 
-fn board_numbers(b: Board) -> LinBoard
+pub fn board_numbers(b: Board) -> LinBoard
     ensures { λ r. ⌜ r ≡ boardNumbers b ⌝ }
 {
     let names = b.names;

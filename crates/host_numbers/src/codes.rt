@@ -9,20 +9,9 @@ use lin_spec::Span;
 use lin_spec::Vulnerability;
 ghost use mathlib.Core.Path.{_≡_};
 ghost use Rattle.lent.specs.Heads.{headOf};
-ghost use Rattle.host_numbers.specs.Codes.{seatOf, vulnerabilityOf, spansOf, textOf, claimOf, boardOf, badThree, badGiven, badCodes};
+ghost use Rattle.host_numbers.specs.Codes.{vulnerabilityOf, spansOf, textOf, claimOf, boardOf, badThree, badGiven, badCodes};
 
 // The parts of a board, each for any number.
-
-pub(crate) fn seat_of(code: u32) -> Seat
-    ensures { λ r. ⌜ r ≡ seatOf code ⌝ }
-{
-    match code {
-        0 => Seat::South,
-        1 => Seat::West,
-        2 => Seat::North,
-        _ => Seat::East,
-    }
-}
 
 pub(crate) fn vulnerability_of(code: u32) -> Vulnerability
     ensures { λ r. ⌜ r ≡ vulnerabilityOf code ⌝ }
@@ -94,7 +83,7 @@ pub fn head_of(b: LinBoard) -> Head
     let names = names_of(words);
     Head {
         names,
-        dealer: seat_of(b.dealer),
+        dealer: Seat::at(b.dealer as usize),
         vulnerability: vulnerability_of(b.vulnerability),
         title: text_of(title),
         room_board: text_of(room_board),

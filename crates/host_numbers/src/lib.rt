@@ -10,6 +10,7 @@ pub use answers::written;
 pub use boards::LinBoard;
 pub use boards::LinHeading;
 pub use boards::LinText;
+pub use boards::board_numbers;
 pub use boards::heading_numbers;
 pub use codes::bad_codes;
 pub use codes::head_of;

@@ -2,7 +2,6 @@
 use crate::boards::LinText;
 use crate::codes::bad_given;
 use crate::codes::bad_three;
-use crate::codes::seat_of;
 use crate::codes::text_of;
 use crate::codes::vulnerability_of;
 use lin_spec::Deal;
@@ -10,6 +9,7 @@ use lin_spec::MaybeNumber;
 use lin_spec::MaybeResult;
 use lin_spec::MaybeSeat;
 use lin_spec::PbnBoard;
+use lin_spec::Seat;
 ghost use mathlib.Core.Path.{_≡_};
 ghost use Rattle.host_numbers.specs.Records.{boardNumberOf, dealerOf, resultOf, recordOf, badNames, badRecord};
 
@@ -55,7 +55,7 @@ fn dealer_of(given: u32, dealer: u32) -> MaybeSeat
     if given == 0 {
         return MaybeSeat::Absent;
     }
-    let seat = seat_of(dealer);
+    let seat = Seat::at(dealer as usize);
     MaybeSeat::Given(seat)
 }
 

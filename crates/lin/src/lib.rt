@@ -38,6 +38,7 @@ pub use file::count_boards;
 pub use file::file_board;
 pub use file::file_heading;
 pub use file_reader::BoardRead;
+pub use file_reader::NextBoard;
 pub use file_reader::read_board;
 pub use finder::find_name;
 pub use sections::BoardCursor;

@@ -9,7 +9,8 @@ use Rattle.lin_spec.specs.Reading.{flag}
 use Rattle.lin_spec.specs.File.{Standing, Visit, ReadStep}
 use Rattle.lin_spec.specs.File.Visit.{found, ended}
 use Rattle.host_numbers.specs.Answers.{numbersOf}
-use Rattle.host_numbers.specs.Boards.{headingNumbers}
+use Rattle.host_numbers.specs.Boards.{boardNumbers}
+use Rattle.host_numbers.specs.declared.answers.LinAnswer.{LinAnswer}
 use Rattle.lin_host.specs.declared.files.LinBoards.{LinBoards}
 use Rattle.lin_host.specs.declared.files.LinRead.{LinRead}
 use Rattle.lin_host.specs.declared.files.LinSection.{LinSection}
@@ -46,16 +47,39 @@ visitNumbers (ended c) =
       «next_number» = c .number;
     }
 
--- a step that reads, and the rows and cards afterwards
+-- a step that reads: the answer 0, or the refusal
+abbrev pub stepAnswer : Answer Visit → LinAnswer
+stepAnswer (accepted v) = numbersOf (accepted 0)
+stepAnswer (refused r) = numbersOf (refused r)
+
+-- what it gives as a step: a refusal gives none, with the cursor handed back
+abbrev pub stepVisit : Answer Visit → Standing → Visit
+stepVisit (accepted v) c = v
+stepVisit (refused r) c = ended c
+
 pub record StepRead : Type 0 where
   pub read : LinRead
   pub rows : List ℕ
   pub cards : List ℕ
 
-abbrev pub readNumbers : ReadStep → StepRead
+-- with the board, and the rows and cards afterwards
+unfoldable pub readNumbers : ReadStep → StepRead
 readNumbers r =
+    let v = visitNumbers (stepVisit (r .answer) (r .cursor)) in
     record {
-      read = record { section = visitNumbers (r .step); heading = headingNumbers (r .reading .heading) };
-      rows = r .reading .rows;
-      cards = r .reading .cards;
+      read =
+          record {
+            answer = stepAnswer (r .answer);
+            found = v .found;
+            number = v .number;
+            start = v .start;
+            stop = v .stop;
+            «next_at» = v .«next_at»;
+            «next_number» = v .«next_number»;
+            board = boardNumbers (r .board);
+            calls = r .calls;
+            cards = r .play;
+          };
+      rows = r .rows;
+      cards = r .cards;
     }

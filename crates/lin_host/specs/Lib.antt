@@ -3,3 +3,4 @@ pub mod Files
 pub mod Writing
 pub mod Annotations
 pub mod Converting
+pub mod Mixed

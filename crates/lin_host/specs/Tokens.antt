@@ -1,5 +1,5 @@
 -- A step of the cursor and a remainder as numbers. (01: Tokens)
-use Prim.Native.Nat.{ℕ}
+use Prim.Native.Nat.{ℕ, min}
 use mathlib.Core.List.{List}
 use lib.ListN.{length}
 use Rattle.lin_spec.specs.Cursor.{Step, remainder}
@@ -27,6 +27,6 @@ stepNumbers (ended n) =
       next = n;
     }
 
--- the remainder from a place on, as a part of the text
+-- the remainder from a place on, as a part of the text: "nothing beyond the end"
 abbrev pub restNumbers : List ℕ → (at : ℕ) → LinPart
-restNumbers s at = record { start = at; len = length (remainder s at) }
+restNumbers s at = record { start = min at (length s); len = length (remainder s at) }

@@ -3,10 +3,13 @@ use file::Counted;
 use file::count_boards;
 use file::file_board;
 use file::file_heading;
+use file_reader::NextBoard;
 use file_reader::read_board;
 use finder::find_name;
 use host_numbers::LinAnswer;
+use host_numbers::LinBoard;
 use host_numbers::LinHeading;
+use host_numbers::board_numbers;
 use host_numbers::heading_numbers;
 use host_numbers::refusal;
 use sections::BoardCursor;
@@ -20,7 +23,8 @@ ghost use Rattle.file.specs.Numbers.{countedOf};
 ghost use Rattle.sections.specs.Sections.{openedOf, visitOf};
 ghost use Rattle.host_numbers.specs.Answers.{numbersOf};
 ghost use Rattle.host_numbers.specs.Boards.{headingNumbers, Reading, readingNumbers};
-ghost use Rattle.lin_host.specs.Files.{standing, openedNumbers, visitNumbers, StepRead, readNumbers};
+ghost use Rattle.file_reader.specs.Steps.{nextOf, cursorOf};
+ghost use Rattle.lin_host.specs.Files.{standing, openedNumbers, visitNumbers, stepAnswer, stepVisit, StepRead, readNumbers};
 
 // The verdict and the cursor: the place of the next part or line, the number of the next board, lines 0 or 1. An accepted call has the value 0; a refusal
 // has the cursor 0, 0, 0.
@@ -45,11 +49,20 @@ pub struct LinSection {
     pub next_number: u64,
 }
 
-// A step of the board cursor, and the heading of its section; without a section, that of none of the text.
+// A step that reads. answer: the value 0, or the refusal. found 1: a board by its number, from start up to stop, the cursor after it, and how many calls
+// and cards it has. found 0: none, the cursor where it stood, and a fresh board.
 #[repr(C)]
 pub struct LinRead {
-    pub section: LinSection,
-    pub heading: LinHeading,
+    pub answer: LinAnswer,
+    pub found: u32,
+    pub number: u64,
+    pub start: u64,
+    pub stop: u64,
+    pub next_at: u64,
+    pub next_number: u64,
+    pub board: LinBoard,
+    pub calls: u64,
+    pub cards: u64,
 }
 
 // The answers as numbers.
@@ -124,6 +137,34 @@ fn section_numbers(s: BoardStep) -> LinSection
     }
 }
 
+fn next_answer(next: NextBoard) -> LinAnswer
+    ensures { λ r. ⌜ r ≡ stepAnswer (nextOf next) ⌝ }
+{
+    match next {
+        NextBoard::Found(_, _, _) => LinAnswer {
+            refusal: 0,
+            kind: 0,
+            value: 0,
+        },
+        NextBoard::Ended(_) => LinAnswer {
+            refusal: 0,
+            kind: 0,
+            value: 0,
+        },
+        NextBoard::Refused(r, _) => refusal(r),
+    }
+}
+
+fn next_step(next: NextBoard) -> BoardStep
+    ensures { λ r. ⌜ visitOf r ≡ stepVisit (nextOf next) (cursorOf next) ⌝ }
+{
+    match next {
+        NextBoard::Found(n, p, d) => BoardStep::Found(n, p, d),
+        NextBoard::Ended(c) => BoardStep::Ended(c),
+        NextBoard::Refused(_, c) => BoardStep::Ended(c),
+    }
+}
+
 // The exports.
 
 #[no_mangle]
@@ -180,7 +221,8 @@ pub extern "C" fn lin_next_board(text: &[u8], at: u64, number: u64, lines: u32) 
     section_numbers(cursor.next(text))
 }
 
-// The same, and its part or line read as a board. Rows and cards are as for lin_parse_lin. 1 and 3 refuse the reading; 2 is looked for by lin_open_boards.
+// The next board from a cursor of any numbers, read; parts or lines that are none are passed. Rows and cards are as for lin_parse_lin. 1, 2 and 3 refuse
+// the step, and 2 looks at the bytes from the cursor's place to the board's end.
 #[no_mangle]
 pub extern "C" fn lin_read_board(
     text: &[u8],
@@ -198,10 +240,19 @@ pub extern "C" fn lin_read_board(
         lines: lines != 0,
     };
     let read = read_board(text, cursor, rows, cards);
-    let step = read.step;
-    let heading = read.heading;
+    let next = read.next;
+    let board = read.board;
+    let v = section_numbers(next_step(next));
     LinRead {
-        section: section_numbers(step),
-        heading: heading_numbers(heading),
+        answer: next_answer(next),
+        found: v.found,
+        number: v.number,
+        start: v.start,
+        stop: v.stop,
+        next_at: v.next_at,
+        next_number: v.next_number,
+        board: board_numbers(board),
+        calls: read.calls as u64,
+        cards: read.cards as u64,
     }
 }

@@ -93,11 +93,15 @@ pub extern "C" fn lin_next(text: &[u8], at: u64) -> LinStep
     stepped(cursor.next(text))
 }
 
-// The part of the text from the cursor's place on.
+// The part of the text from the cursor's place on; beyond the end, the empty part at the end.
 #[no_mangle]
 pub extern "C" fn lin_trailing(text: &[u8], at: u64) -> LinPart
     ensures { λ r. ⌜ r ≡ restNumbers (now (text .entry)) at ⌝ }
 {
+    let end = text.len() as u64;
+    if end < at {
+        return LinPart { start: end, len: 0 };
+    }
     let rest = trailing(text, Cursor { at: at as usize });
     LinPart {
         start: at,

@@ -77,6 +77,13 @@ module _ (s : List ℕ) where
       go true h = refl
       go false h = absurd (false≢true (sym h))
 
+  pub none-ill : (xs : List Span) → any (illSpan s) xs ≡ false → All (λ (x : Span). Utf8 (bytesAt s x)) xs
+  none-ill xs h = go xs (none-any (illSpan s) xs h)
+    where
+      go : (ys : List Span) → All Well ys → All (λ (x : Span). Utf8 (bytesAt s x)) ys
+      go [] k = tt
+      go (x ∷ ys) k = (well-utf8 x (k .0), go ys (k .1))
+
   well-names : (xs : List Span) → All Well xs → All Utf8 (map (bytesAt s) xs)
   well-names [] h = tt
   well-names (x ∷ xs) h = (well-utf8 x (h .0), well-names xs (h .1))

@@ -7,14 +7,14 @@ use mathlib.Core.Bool.{Bool, true, false, _&&_, _||_, not, false≢true}
 use mathlib.Core.List.{List, [], _∷_, _++_, append-assoc}
 use mathlib.Core.Option.{Option, none, some}
 use Prim.Native.Char.{code}
-use lib.ListN.{length, take, drop, getD, length-drop, take-append-drop}
+use lib.ListN.{length, take, drop, getD, length-drop, take-append-drop, List·getD-eq-default}
 use lib.Seq.{take-suc, take-length}
 use lib.Dec.{eqb, leb}
 use borrow.Author.Tests.{eqb-true, leb-true}
 use Rattle.lin_spec.specs.Base.{pick, All, concat, eqList, joinBy, ascii}
 use Rattle.lin_spec.specs.Utf8.{Utf, first, utfStep, utf, utf8}
 use Rattle.lin_spec.specs.Utf8.Utf.{whole, needs, ill}
-use Rattle.lin_spec.specs.Records.{span, bytesAt}
+use Rattle.lin_spec.specs.Records.{span, bytesAt, part}
 use Rattle.lin_spec.specs.Board.{isDigit, numberIn, Present}
 use Rattle.lin_spec.specs.Annotation.{noteOf, noteSpans, run, isMark, charBytes, partLength, partsUpTo, annotationParts, nagWord, noteText, noteWord, isClosed, between, partWord, wordsOf, joinedWords, annotationText}
 use Rattle.lin_spec.specs.declared.Span.{Span}
@@ -188,19 +188,24 @@ note-later a b c ws n =
     let z = at (suc n * 3 + 2) (n * 3 + 2) (omega arith) in
     λ i. pick (eqb (x i) 0) none (some (span (y i) (z i)))
 
-pub note-named : (P : Span → Type 0) (k : ℕ) (ws : List ℕ) → length ws ≡ k * 3 → All P (noteSpans ws) → (n : ℕ) → Present P (noteOf ws n)
+-- a list that ends within a note has no byte of its text there
+note-short : (P : Span → Type 0) → ((a : ℕ) → P (span a 0)) → (ws : List ℕ) → length ws ≤ 2 → (n : ℕ) → Present P (noteOf ws n)
+unfolding noteOf
+note-short P nil ws l n =
+    let z : getD ws (n * 3 + 2) 0 ≡ 0 = List·getD-eq-default ws 0 (let k : length ws ≤ n * 3 + 2 = omega arith in k) in
+    picked (Present P) (eqb (getD ws (n * 3) 0) 0) (λ _. tt) (λ _. subst (λ (k : ℕ). P (span (getD ws (n * 3 + 1) 0) k)) (sym z) (nil (getD ws (n * 3 + 1) 0)))
+
+pub note-named : (P : Span → Type 0) → ((a : ℕ) → P (span a 0)) → (ws : List ℕ) → All P (noteSpans ws) → (n : ℕ) → Present P (noteOf ws n)
 unfolding noteSpans
-note-named P zero [] l h n = unfold noteOf in tt
-note-named P zero (a ∷ ws) l h n = absurd (let z : ⊥ = omega arith in z)
-note-named P (suc k) [] l h n = absurd (let z : ⊥ = omega arith in z)
-note-named P (suc k) (a ∷ []) l h n = absurd (let z : ⊥ = omega arith in z)
-note-named P (suc k) (a ∷ b ∷ []) l h n = absurd (let z : ⊥ = omega arith in z)
-note-named P (suc k) (a ∷ b ∷ c ∷ ws) l h zero = unfold noteOf in go (eqb a 0) h
+note-named P nil [] h n = note-short P nil [] (omega arith) n
+note-named P nil (a ∷ []) h n = note-short P nil (a ∷ []) (omega arith) n
+note-named P nil (a ∷ b ∷ []) h n = note-short P nil (a ∷ b ∷ []) (omega arith) n
+note-named P nil (a ∷ b ∷ c ∷ ws) h zero = unfold noteOf in go (eqb a 0) h
   where
     go : (t : Bool) → All P (pick t (noteSpans ws) (span b c ∷ noteSpans ws)) → Present P (pick t none (some (span b c)))
     go true k = tt
     go false k = k .0
-note-named P (suc k) (a ∷ b ∷ c ∷ ws) l h (suc n) = subst (Present P) (sym (note-later a b c ws n)) (note-named P k ws (omega arith) (go (eqb a 0) h) n)
+note-named P nil (a ∷ b ∷ c ∷ ws) h (suc n) = subst (Present P) (sym (note-later a b c ws n)) (note-named P nil ws (go (eqb a 0) h) n)
   where
     go : (t : Bool) → All P (pick t (noteSpans ws) (span b c ∷ noteSpans ws)) → All P (noteSpans ws)
     go true k = k
@@ -218,10 +223,10 @@ nag-utf8 p =
     picked Utf8 (eqList p (ascii "$5")) (λ _. refl) λ _.
     picked Utf8 (eqList p (ascii "$6")) (λ _. refl) (λ _. refl)
 
-module _ (s ws : List ℕ) (k : ℕ) (l : length ws ≡ k * 3) (notes : All (λ (x : Span). Utf8 (bytesAt s x)) (noteSpans ws)) where
+module _ (s ws : List ℕ) (notes : All (λ (x : Span). Utf8 (bytesAt s x)) (noteSpans ws)) where
   note-utf8 : (p : List ℕ) → Utf8 p → (o : Option ℕ) → Utf8 (noteWord s ws p o)
   note-utf8 p h none = h
-  note-utf8 p h (some n) = go (noteOf ws n) (note-named (λ (x : Span). Utf8 (bytesAt s x)) k ws l notes n)
+  note-utf8 p h (some n) = go (noteOf ws n) (note-named (λ (x : Span). Utf8 (bytesAt s x)) (λ a. unfold part in utf8-ascii [] tt) ws notes n)
     where
       go : (o : Option Span) → Present (λ (x : Span). Utf8 (bytesAt s x)) o → Utf8 (noteText s p o)
       go none g = h

@@ -5,8 +5,8 @@ use native.Mathlib.Omega.{arith}
 use mathlib.Core.Path.{_≡_, refl, ap, sym, subst, _∙_}
 use mathlib.Core.Bool.{Bool, true, false, not, false≢true}
 use mathlib.Core.List.{List, [], _∷_, _++_, append-assoc}
-use lib.ListN.{length, take, drop, length-append, length-drop}
-use lib.Seq.{take-append-le, take-append-add, take-nil}
+use lib.ListN.{length, take, drop, getD, length-append, length-drop}
+use lib.Seq.{take-append-le, take-append-add, take-nil, getD-drop, getD-append-seam}
 use lib.Dec.{eqb, ltb, leb}
 use borrow.Author.Tests.{lt-ltb, le-ltb, le-leb, lt-leb, ltb-true, ltb-false}
 use Rattle.lin_spec.specs.Base.{pick, any, keep, null, ascii}
@@ -17,7 +17,7 @@ use Rattle.lin_spec.specs.Tokens.Pieces.{end, piece}
 use Rattle.lin_spec.specs.Tokens.TokenOf.{token}
 use Rattle.lin_spec.specs.Cards.{field}
 use Rattle.lin_spec.specs.Reading.{placed, stream}
-use Rattle.lin_spec.specs.File.{Section, section, holds, leads, partAt, partsFrom, linesFrom, sections, Standing, Visit, firstOf, after, visit, openBoards}
+use Rattle.lin_spec.specs.File.{Section, section, holds, leads, partAt, partsFrom, linesFrom, linesAt, partsAt, sections, Standing, Visit, remaining, firstOf, after, visit, openBoards}
 use Rattle.lin_spec.specs.Refusals.{sat, tooLong, notUtf8}
 use Rattle.lin_spec.specs.Refusals.Answer.{accepted}
 use Rattle.lin_spec.specs.File.Visit.{found, ended}
@@ -31,13 +31,17 @@ use Rattle.lin_spec.proofs.Checks.{unless-same}
 
 pub data Chain (s : List ℕ) : (at : ℕ) → Type 0 where
   done : {at : ℕ} → stream s at ≡ [] → Chain s at
-  more : {at : ℕ} (c : List ℕ) (v : Span) → stream s at ≡ token c v ∷ stream s (endOf v + 1) → at < endOf v + 1 → endOf v + 1 ≤ length s → Chain s (endOf v + 1) → Chain s at
+  more : {at : ℕ} (c : List ℕ) (v : Span) → stream s at ≡ token c v ∷ stream s (endOf v + 1) → at < endOf v + 1 → endOf v + 1 ≤ length s → getD s (endOf v) 0 ≡ pipe → Chain s (endOf v + 1) → Chain s at
 
 -- two pieces end within the text
 after-two : (s : List ℕ) (at : ℕ) (x y t : List ℕ) → drop at s ≡ x ++ pipe ∷ (y ++ pipe ∷ t) → at + (length x + 1) + (length y + 1) ≤ length s
 after-two s at x y t e =
     let l : length s - at ≡ length x + suc (length y + suc (length t)) = sym (length-drop at s) ∙ ap length e ∙ simp length-append in
     omega arith
+
+-- the byte that ends a piece
+piece-end : (c : ℕ) (s : List ℕ) (at : ℕ) (x t : List ℕ) → drop at s ≡ x ++ c ∷ t → getD s (at + length x) 0 ≡ c
+piece-end c s at x t e = sym (getD-drop at s (length x) 0) ∙ ap (λ (l : List ℕ). getD l (length x) 0) e ∙ getD-append-seam x c t 0
 
 chain-by : (s : List ℕ) (at : ℕ) (p : Pieces) → drop at s ≡ joined pipe p → Whole pipe p → Chain s at
 unfolding joined Whole stream placed
@@ -47,7 +51,7 @@ chain-by s at (piece x (piece y r)) e w =
     let d = after-piece pipe s at x _ e in
     let n = after-piece pipe s (at + (length x + 1)) y _ d in
     let q : at + (length x + 1) + length y + 1 ≡ at + (length x + 1) + (length y + 1) = omega arith in
-    more {at = at} x (span (at + (length x + 1)) (length y)) (simp (e, cut-joined pipe (piece x (piece y r)) w, q, n, cut-joined pipe r (w .1 .1))) (omega arith) (rw q (after-two s at x y _ e))
+    more {at = at} x (span (at + (length x + 1)) (length y)) (simp (e, cut-joined pipe (piece x (piece y r)) w, q, n, cut-joined pipe r (w .1 .1))) (omega arith) (rw q (after-two s at x y _ e)) (piece-end pipe s (at + (length x + 1)) y _ d)
     (rw q (chain-by s (at + (length x + 1) + (length y + 1)) r n (w .1 .1)))
 
 pub chain : (s : List ℕ) (at : ℕ) → Chain s at
@@ -64,36 +68,7 @@ partEnd begin back at (token c v ∷ ts) =
     let next = endOf v + 1 in
     pick (isCommand c (ascii "qx")) (pick (ltb begin back) back (partEnd begin next next ts)) (partEnd begin (pick (leads c) back next) next ts)
 
-line-first : (at : ℕ) (p : Pieces) → firstOf (linesFrom at p) ≡ section at (at + length (field 0 p)) (not (blank (field 0 p)))
-unfolding linesFrom field
-line-first at (end x) = refl
-line-first at (piece x r) = refl
-
-part-first : (s : List ℕ) (begin back at : ℕ) (ts : List (TokenOf Span)) → firstOf (partsFrom s begin back at ts) ≡ partAt s begin (partEnd begin back at ts)
-unfolding partsFrom partEnd
-part-first s begin back at [] = refl
-part-first s begin back at (token c v ∷ ts) = go (isCommand c (ascii "qx")) (ltb begin back) (λ b k. part-first s b k (endOf v + 1) ts)
-  where
-    go : (q t : Bool) → ((b k : ℕ) → firstOf (partsFrom s b k (endOf v + 1) ts) ≡ partAt s b (partEnd b k (endOf v + 1) ts))
-        → firstOf (pick q (pick t (partAt s begin back ∷ partsFrom s back (endOf v + 1) (endOf v + 1) ts) (partsFrom s begin (endOf v + 1) (endOf v + 1) ts)) (partsFrom s begin (pick (leads c) back (endOf v + 1)) (endOf v + 1) ts))
-        ≡ partAt s begin (pick q (pick t back (partEnd begin (endOf v + 1) (endOf v + 1) ts)) (partEnd begin (pick (leads c) back (endOf v + 1)) (endOf v + 1) ts))
-    go true true ih = refl
-    go true false ih = ih begin (endOf v + 1)
-    go false t ih = ih begin (pick (leads c) back (endOf v + 1))
-
-pub visit-is : (s : List ℕ) (c : Standing) → visit s c
-    ≡ pick (c .lines) (pick (ltb (length s) (c .at)) (ended c) (after c (lineAt s (c .at)) (lineAt s (c .at) .stop + 1)))
-    (pick (null (stream s (c .at))) (ended c) (after c (partAt s (c .at) (partEnd (c .at) (c .at) (c .at) (stream s (c .at)))) (partEnd (c .at) (c .at) (c .at) (stream s (c .at)))))
-unfolding visit
-visit-is s c =
-    let a = c .at in
-    let f : Section → Section → Visit = λ p q. pick (c .lines) (pick (ltb (length s) a) (ended c) (after c p (p .stop + 1))) (pick (null (stream s a)) (ended c) (after c q (q .stop))) in
-    ap (λ (p : Section). f p (firstOf (partsFrom s a a a (stream s a)))) (line-first a (cut 0x0A (drop a s))) ∙ ap (f (lineAt s a)) (part-first s a a a (stream s a))
-
 -- The parts from a place on where one begins
-
-unfoldable pub partsAt : (s : List ℕ) (at : ℕ) → List Section
-partsAt s at = pick (null (stream s at)) [] (partsFrom s at at at (stream s at))
 
 -- the mn and pn tokens from `back` to `at` change nothing: a part that begins at `back` is read on from `at`
 pub record Led (s : List ℕ) (back at : ℕ) : Type 0 where
@@ -113,7 +88,7 @@ Here s begin back at = partsFrom s begin back at (stream s at) ≡ partAt s begi
 part-here : (s : List ℕ) (at : ℕ) → Chain s at → (begin back : ℕ) → Led s back at → Here s begin back at
 unfolding partsFrom partEnd partsAt
 part-here s at (done e) begin back l = simp e
-part-here s at (more c v e m z r) begin back l = go (isCommand c (ascii "qx")) refl (ltb begin back) refl (leads c) refl (part-here s (endOf v + 1) r)
+part-here s at (more c v e m z u r) begin back l = go (isCommand c (ascii "qx")) refl (ltb begin back) refl (leads c) refl (part-here s (endOf v + 1) r)
   where
     again : isCommand c (ascii "qx") ≡ true → partsAt s back ≡ partsFrom s back (endOf v + 1) (endOf v + 1) (stream s (endOf v + 1))
     again q = simp (l .there (ap null e)) (l .same ∙ simp (e, q, le-ltb back back (omega arith)))
@@ -131,9 +106,6 @@ pub next-part : (s : List ℕ) (at : ℕ) → null (stream s at) ≡ false
 next-part s at h = (let z : partsAt s at ≡ partsFrom s at at at (stream s at) = unfold partsAt in simp h in z) ∙ part-here s at (chain s at) at at (led-here s at)
 
 -- The lines from a place on where one begins
-
-unfoldable pub linesAt : (s : List ℕ) (at : ℕ) → List Section
-linesAt s at = pick (ltb (length s) at) [] (linesFrom at (cut 0x0A (drop at s)))
 
 pub next-line : (s : List ℕ) (at : ℕ) → at ≤ length s → linesAt s at ≡ lineAt s at ∷ linesAt s (lineAt s at .stop + 1)
 unfolding linesAt linesFrom joined Whole field
@@ -255,7 +227,7 @@ part-ends : (s : List ℕ) (at : ℕ) → Chain s at → (begin back : ℕ) → 
     → (begin < partEnd begin back at (stream s at)) × (partEnd begin back at (stream s at) ≤ length s)
 unfolding partEnd
 part-ends s at (done e) begin back h k l = simp e (h, l)
-part-ends s at (more c v e m z r) begin back h k l = go (isCommand c (ascii "qx")) refl (ltb begin back) refl (leads c) refl (part-ends s (endOf v + 1) r)
+part-ends s at (more c v e m z u r) begin back h k l = go (isCommand c (ascii "qx")) refl (ltb begin back) refl (leads c) refl (part-ends s (endOf v + 1) r)
   where
     go : (q : Bool) → isCommand c (ascii "qx") ≡ q → (t : Bool) → ltb begin back ≡ t → (w : Bool) → leads c ≡ w
         → ((b d : ℕ) → b < endOf v + 1 → d ≤ endOf v + 1 → endOf v + 1 ≤ length s → (b < partEnd b d (endOf v + 1) (stream s (endOf v + 1))) × (partEnd b d (endOf v + 1) (stream s (endOf v + 1)) ≤ length s))
@@ -271,27 +243,101 @@ part-later s at h = go (chain s at)
   where
     go : Chain s at → (at < partEnd at at at (stream s at)) × (partEnd at at at (stream s at) ≤ length s)
     go (done e) = absurd (false≢true (sym h ∙ ap null e))
-    go (more c v e m z r) = step (isCommand c (ascii "qx")) refl (leads c) refl
+    go (more c v e m z u r) = step (isCommand c (ascii "qx")) refl (leads c) refl
       where
         step : (q : Bool) → isCommand c (ascii "qx") ≡ q → (w : Bool) → leads c ≡ w → (at < partEnd at at at (stream s at)) × (partEnd at at at (stream s at) ≤ length s)
         step true q w u = simp (e, q, le-ltb at at (omega arith)) (part-ends s (endOf v + 1) r at (endOf v + 1) m (omega arith) z)
         step false q true u = simp (e, q, u) (part-ends s (endOf v + 1) r at at m (omega arith) z)
         step false q false u = simp (e, q, u) (part-ends s (endOf v + 1) r at (endOf v + 1) m (omega arith) z)
 
+-- and after a pipe
+
+part-pipe : (s : List ℕ) (at : ℕ) → Chain s at → (begin back : ℕ) → (begin < back → getD s (back - 1) 0 ≡ pipe) → getD s (at - 1) 0 ≡ pipe
+    → getD s (partEnd begin back at (stream s at) - 1) 0 ≡ pipe
+unfolding partEnd
+part-pipe s at (done e) begin back k l = simp e l
+part-pipe s at (more c v e m z u r) begin back k l = go (isCommand c (ascii "qx")) refl (ltb begin back) refl (leads c) refl (part-pipe s (endOf v + 1) r)
+  where
+    here : getD s (endOf v + 1 - 1) 0 ≡ pipe
+    here = let q : endOf v + 1 - 1 ≡ endOf v = omega arith in ap (λ (i : ℕ). getD s i 0) q ∙ u
+
+    go : (q : Bool) → isCommand c (ascii "qx") ≡ q → (t : Bool) → ltb begin back ≡ t → (w : Bool) → leads c ≡ w
+        → ((b d : ℕ) → (b < d → getD s (d - 1) 0 ≡ pipe) → getD s (endOf v + 1 - 1) 0 ≡ pipe → getD s (partEnd b d (endOf v + 1) (stream s (endOf v + 1)) - 1) 0 ≡ pipe)
+        → getD s (partEnd begin back at (stream s at) - 1) 0 ≡ pipe
+    go true q true t w x ih = simp (e, q, t) (k (ltb-true begin back t))
+    go true q false t w x ih = simp (e, q, t) (ih begin (endOf v + 1) (λ h. here) here)
+    go false q t y true x ih = simp (e, q, x) (ih begin back k here)
+    go false q t y false x ih = simp (e, q, x) (ih begin (endOf v + 1) (λ h. here) here)
+
+part-cut : (s : List ℕ) (at : ℕ) → null (stream s at) ≡ false → getD s (partEnd at at at (stream s at) - 1) 0 ≡ pipe
+unfolding partEnd
+part-cut s at h = go (chain s at)
+  where
+    go : Chain s at → getD s (partEnd at at at (stream s at) - 1) 0 ≡ pipe
+    go (done e) = absurd (false≢true (sym h ∙ ap null e))
+    go (more c v e m z u r) = step (isCommand c (ascii "qx")) refl (leads c) refl
+      where
+        here : getD s (endOf v + 1 - 1) 0 ≡ pipe
+        here = let q : endOf v + 1 - 1 ≡ endOf v = omega arith in ap (λ (i : ℕ). getD s i 0) q ∙ u
+
+        step : (q : Bool) → isCommand c (ascii "qx") ≡ q → (w : Bool) → leads c ≡ w → getD s (partEnd at at at (stream s at) - 1) 0 ≡ pipe
+        step true q w x = simp (e, q, le-ltb at at (omega arith)) (part-pipe s (endOf v + 1) r at (endOf v + 1) (λ l. here) here)
+        step false q true x = simp (e, q, x) (part-pipe s (endOf v + 1) r at at (λ l. absurd (let y : ⊥ = omega arith in y)) here)
+        step false q false x = simp (e, q, x) (part-pipe s (endOf v + 1) r at (endOf v + 1) (λ l. here) here)
+
+-- a line ends with the text or before an LF
+line-cut : (s : List ℕ) (at : ℕ) → at ≤ length s → lineAt s at .stop < length s → getD s (lineAt s at .stop) 0 ≡ 0x0A
+unfolding field joined
+line-cut s at l = go (cut 0x0A (drop at s)) (sym (joined-cut 0x0A (drop at s)))
+  where
+    go : (p : Pieces) → drop at s ≡ joined 0x0A p → at + length (field 0 p) < length s → getD s (at + length (field 0 p)) 0 ≡ 0x0A
+    go (end x) e h = absurd (let n : length s - at ≡ length x = sym (length-drop at s) ∙ ap length e in let z : ⊥ = omega arith in z)
+    go (piece x r) e h = piece-end 0x0A s at x (joined 0x0A r) e
+
 -- What a board cursor visits
 
--- the sections from a standing on
-abbrev pub remaining : (s : List ℕ) → Standing → List Section
-remaining s c = pick (c .lines) (linesAt s (c .at)) (partsAt s (c .at))
+-- a step by the tests of its code: the line or the part at the cursor, if there is one
+abbrev pub lineStep : (s : List ℕ) → Standing → Visit
+lineStep s c = pick (ltb (length s) (c .at)) (ended c) (found (c .number) (lineAt s (c .at)) (after c (lineAt s (c .at))))
+
+abbrev pub partFrom : (s : List ℕ) (at : ℕ) → Section
+partFrom s at = partAt s at (partEnd at at at (stream s at))
+
+abbrev pub partStep : (s : List ℕ) → Standing → Visit
+partStep s c = pick (null (stream s (c .at))) (ended c) (found (c .number) (partFrom s (c .at)) (after c (partFrom s (c .at))))
+
+pub visit-is : (s : List ℕ) (c : Standing) → visit s c ≡ pick (c .lines) (lineStep s c) (partStep s c)
+unfolding visit linesAt partsAt
+visit-is s c = go (c .lines)
+  where
+    lines : (t : Bool) → ltb (length s) (c .at) ≡ t → firstOf c (linesAt s (c .at)) ≡ pick t (ended c) (found (c .number) (lineAt s (c .at)) (after c (lineAt s (c .at))))
+    lines true e = simp e
+    lines false e = ap (firstOf c) (next-line s (c .at) (ltb-false (length s) (c .at) e))
+
+    parts : (t : Bool) → null (stream s (c .at)) ≡ t → firstOf c (partsAt s (c .at)) ≡ pick t (ended c) (found (c .number) (partFrom s (c .at)) (after c (partFrom s (c .at))))
+    parts true e = simp e
+    parts false e = ap (firstOf c) (next-part s (c .at) e)
+
+    go : (t : Bool) → firstOf c (pick t (linesAt s (c .at)) (partsAt s (c .at))) ≡ pick t (lineStep s c) (partStep s c)
+    go true = lines (ltb (length s) (c .at)) refl
+    go false = parts (null (stream s (c .at))) refl
+
+-- where a section may end: a line with the text or before an LF, a part after a pipe
+abbrev pub Cut : (s : List ℕ) (lines : Bool) (stop : ℕ) → Type 0
+Cut s true e = e < length s → getD s e 0 ≡ 0x0A
+Cut s false e = getD s (e - 1) 0 ≡ pipe
 
 pub record Found (s : List ℕ) (c : Standing) (n : ℕ) (p : Section) (d : Standing) : Type 0 where
   pub number : n ≡ c .number
-  pub front : remaining s c ≡ p ∷ remaining s d
+  pub cursor : d ≡ after c p
   pub next : d .number ≡ pick (p .board) (sat (c .number + 1)) (c .number)
+  pub front : remaining s c ≡ p ∷ remaining s d
   pub later : c .at < d .at
   pub within : d .at ≤ length s + 1
   pub begins : p .start ≤ p .stop
   pub stops : p .stop ≤ length s
+  pub starts : p .start ≡ c .at
+  pub ends : Cut s (c .lines) (p .stop)
 
 abbrev pub Visited : (s : List ℕ) (c : Standing) → Visit → Type 0
 Visited s c (found n p d) = Found s c n p d
@@ -312,18 +358,20 @@ line-stops s at h =
 pub visited : (s : List ℕ) (c : Standing) → Visited s c (visit s c)
 visited s c = subst (Visited s c) (sym (visit-is s c)) (picked (Visited s c) (c .lines) (λ l. lines (ltb (length s) (c .at)) l refl) (λ l. parts (null (stream s (c .at))) l refl))
   where
-    lines : (t : Bool) → c .lines ≡ true → ltb (length s) (c .at) ≡ t → Visited s c (pick t (ended c) (after c (lineAt s (c .at)) (lineAt s (c .at) .stop + 1)))
+    lines : (t : Bool) → c .lines ≡ true → ltb (length s) (c .at) ≡ t → Visited s c (pick t (ended c) (found (c .number) (lineAt s (c .at)) (after c (lineAt s (c .at)))))
     lines true l e = (refl, (unfold linesAt in simp (l, e)))
     lines false l e =
         let h = ltb-false (length s) (c .at) e in
-        record { number = refl; front = simp l (next-line s (c .at) h); next = refl; later = omega arith; within = let w = line-stops s (c .at) h in omega arith; begins = omega arith; stops = line-stops s (c .at) h }
+        let w = line-stops s (c .at) h in
+        record { number = refl; cursor = refl; next = refl; front = simp l (next-line s (c .at) h); later = rw l (omega arith); within = rw l (omega arith); begins = omega arith; stops = w; starts = refl; ends = rw l (line-cut s (c .at) h) }
 
-    parts : (t : Bool) → c .lines ≡ false → null (stream s (c .at)) ≡ t
-        → Visited s c (pick t (ended c) (after c (partAt s (c .at) (partEnd (c .at) (c .at) (c .at) (stream s (c .at)))) (partEnd (c .at) (c .at) (c .at) (stream s (c .at)))))
+    parts : (t : Bool) → c .lines ≡ false → null (stream s (c .at)) ≡ t → Visited s c (pick t (ended c) (found (c .number) (partFrom s (c .at)) (after c (partFrom s (c .at)))))
     parts true l e = (refl, (unfold partsAt in simp (l, e)))
     parts false l e =
         let w = part-later s (c .at) e in
-        record { number = refl; front = simp l (next-part s (c .at) e); next = refl; later = w .0; within = let k = w .1 in omega arith; begins = let k = w .0 in omega arith; stops = w .1 }
+        let k = w .0 in
+        let m = w .1 in
+        record { number = refl; cursor = refl; next = refl; front = simp l (next-part s (c .at) e); later = rw l k; within = rw l (omega arith); begins = omega arith; stops = m; starts = refl; ends = rw l (part-cut s (c .at) e) }
 
 pub visits : (s : List ℕ) (c : Standing) (v : Visit) → visit s c ≡ v → Visited s c v
 visits s c v e = subst (Visited s c) e (visited s c)

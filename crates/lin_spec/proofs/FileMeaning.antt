@@ -107,17 +107,7 @@ file-out s = go (boardsOf (sections s))
     go [] = refl
     go (p ∷ ps) = simp (section-out s p, go ps)
 
--- A step that reads gives of the file's board number m what reading by that number gives, in a text that is UTF-8.
-
 pub getD-map : {A B : Type 0} (f : A → B) (l : List A) (n : ℕ) (d : A) → getD (map f l) n (f d) ≡ f (getD l n d)
 getD-map f [] n d = refl
 getD-map f (a ∷ l) zero d = refl
 getD-map f (a ∷ l) (suc n) d = getD-map f l n d
-
-pub step-reads : (s : List ℕ) (c : Standing) (n : ℕ) (p : Section) (d : Standing) → visit s c ≡ found n p d → notUtf8 s ≡ none
-    → (m : ℕ) → m < length (boardsOf (sections s)) → getD (boardsOf (sections s)) m (section 0 0 false) ≡ p → (rows cards : List ℕ) → readStep s c rows cards .reading ≡ fileBoard s m rows cards
-unfolding readStep fileBoard fileSpans unless
-step-reads s c n p d v u m l e rows cards =
-    let b : numbered s m ≡ boardIn s p = getD-map (boardIn s) (boardsOf (sections s)) m (section 0 0 false) ∙ ap (boardIn s) e in
-    let k : noBoard m (length (fileSpans s)) ≡ none = simp (lt-leb (length (fileSpans s)) m (let z = length-map (boardsOf (sections s)) (boardIn s) in omega arith)) in
-    rw (v, b, u, k) refl

@@ -8,9 +8,12 @@ pub mod Checks
 pub mod Document
 pub mod Cards
 pub mod Rules
+pub mod Seats
 pub mod Reading
 pub mod File
 pub mod FileMeaning
+pub mod Steps
+pub mod Walk
 pub mod Parts
 pub mod Decimal
 pub mod Listing
@@ -26,6 +29,9 @@ pub mod Settled
 pub mod RoundTrip
 pub mod Wellformed
 pub mod Accepted
+pub mod Lendable
 pub mod ThirdDemand
+pub mod Given
 pub mod Annotation
 pub mod Pbn
+pub mod BoardType

@@ -104,7 +104,7 @@ numbered-by : (s : List ℕ) (Q : ℕ → ℕ) (at : ℕ) → Chain s at → (be
     → partsFrom s begin back at (stream s at) ≡ bounded s begin (map Q (beginnings i last passed (stream s at))) (Q (i + length (stream s at)))
 unfolding partsFrom beginnings bounded placeOf
 numbered-by s Q at (done e) begin back i last passed t = simp e (ap (λ (x : ℕ). partAt s begin x ∷ []) (sym (t .places 0)))
-numbered-by s Q at (more c v e m z r) begin back i last passed t =
+numbered-by s Q at (more c v e m z y r) begin back i last passed t =
     go (isCommand c (ascii "qx")) refl (ltb begin back) refl (leads c) refl (numbered-by s Q (endOf v + 1) r)
   where
     last-end : Q (suc i + length (stream s (endOf v + 1))) ≡ Q (i + suc (length (stream s (endOf v + 1))))

@@ -1,20 +1,21 @@
 -- What `from_board` makes: the spans of its texts, back to back, are the texts; no text holds a pipe or a line break; and written and read back it is its
 -- settled form. (01: From PBN)
 -- Assumes nothing.
-use Prim.Native.Nat.{ℕ, _+_, _≤_, _<_}
+use Prim.Native.Nat.{ℕ, _+_, _-_, _≤_, _<_}
 use native.Mathlib.Omega.{arith}
 use mathlib.Core.Path.{_≡_, refl, ap, sym, subst, _∙_}
 use mathlib.Core.Bool.{Bool, true, false, _&&_, _||_, not, false≢true}
 use mathlib.Core.List.{List, [], _∷_, _++_, map, append-assoc, append-nil}
 use mathlib.Core.Option.{Option, none, some}
-use lib.ListN.{length, take, drop, getD}
+use lib.ListN.{length, take, drop, getD, length-append, length-drop}
 use lib.Seq.{take-append-seam, drop-at, drop-drop}
 use lib.IntN.ℤ.{pos, negsuc}
 use lib.Dec.{eqb, ltb, leb}
 use borrow.Author.Tests.{ltb-false, leb-true}
 use Rattle.lin_spec.specs.Base.{All, any, null, concat, ascii}
-use Rattle.lin_spec.specs.Records.{span, part, bytesAt, optionOf}
-use Rattle.lin_spec.specs.Refusals.{Answer}
+use Rattle.lin_spec.specs.Records.{span, part, bytesAt, optionOf, limit}
+use Rattle.lin_spec.specs.Utf8.{utf8}
+use Rattle.lin_spec.specs.Refusals.{Answer, refuseIf, unless, tooLong, passesEnd, pastEnd, illSpan, spanNotUtf8}
 use Rattle.lin_spec.specs.Refusals.Answer.{refused, accepted}
 use Rattle.lin_spec.specs.Reading.{Reading, stored}
 use Rattle.lin_spec.specs.ThirdDemand.{Gives}
@@ -32,6 +33,8 @@ use Rattle.lin_spec.specs.declared.PbnCall.{PbnCall}
 use Rattle.lin_spec.specs.declared.MaybeResult.{MaybeResult}
 use Rattle.lin_spec.specs.declared.MaybeResult.the-variants.{Absent as NoResult, Tricks}
 use Rattle.lin_spec.specs.declared.Span.{Span}
+use Rattle.lin_spec.specs.declared.Refusal.{Refusal}
+use Rattle.lin_spec.specs.declared.Refusal.the-variants.{TextTooLong, SpanPastEnd, SpanNotUtf8, OutOfRange}
 use Rattle.lin_spec.specs.declared.Verdict.the-variants.{Accepted}
 use Rattle.lin_spec.proofs.Base.{picked, or-none, and-left, and-right, allBelow, below, every, all-keep}
 use Rattle.lin_spec.proofs.White.{Visible}
@@ -42,8 +45,9 @@ use Rattle.lin_spec.proofs.Sound.{Valid, decimal-visible}
 use Rattle.lin_spec.proofs.RoundTrip.{Item, forms, round-trip}
 use Rattle.lin_spec.proofs.Wellformed.{Utf8, visible-utf8, utf8-clean, utf8-name}
 use Rattle.lin_spec.proofs.Annotation.{annotation-utf8}
-use Rattle.lin_spec.proofs.Accepted.{none-any, all-left, all-right}
-use Rattle.lin_spec.proofs.Checks.{unless-same}
+use Rattle.lin_spec.proofs.Accepted.{none-any, none-ill, all-left, all-right}
+use Rattle.lin_spec.proofs.Lendable.{Fine, Legal}
+use Rattle.lin_spec.proofs.Checks.{unmet, unless-same}
 use Rattle.lin_spec.proofs.ThirdDemand.{front-of, stored-gives}
 
 -- Back to back
@@ -56,6 +60,15 @@ module _ (t : List ℕ) (at : ℕ) (x r : List ℕ) (e : drop at t ≡ x ++ r) w
 
   after : drop (at + length x) t ≡ r
   after = sym (drop-drop (length x) at t) ∙ ap (drop (length x)) e ∙ drop-at x r (length x) refl
+
+  ends : at ≤ length t → at + length x ≤ length t
+  ends h =
+      let l : length t - at ≡ length x + length r = sym (length-drop at t) ∙ ap length e ∙ length-append x r in
+      omega arith
+
+  -- where it is UTF-8, neither 5 nor 6 refuses its span
+  fine : at ≤ length t → Utf8 x → Fine t (span at (length x))
+  fine h u = (ends h, ap utf8 here ∙ u)
 
 names-laid : (t : List ℕ) (at : ℕ) (ns : List (List ℕ)) (r : List ℕ) → drop at t ≡ concat ns ++ r → map (bytesAt t) (laidNames at ns) ≡ ns
 unfolding laidNames concat
@@ -102,10 +115,9 @@ laid-out b =
 
 -- What it makes
 
--- what the types of the parameters say: 208 counts, 256 notes of three words
+-- what the type of a record says: 208 counts
 pub record PbnTyped (x : Pbn) : Type 0 where
   pub counts : length (x .board .deal .counts) ≡ 208
-  pub notes : length (x .notes) ≡ 768
 
 module _ (x : Pbn) (sound : badPbn x ≡ false) where
   abbrev s : List ℕ
@@ -241,7 +253,7 @@ made-read p q f x t h =
 
 -- Its texts are UTF-8, if no span of the input is refused by 6
 
-module _ (p q : ℕ) (f : Fit p q) (x : Pbn) (typed : PbnTyped x) (well : All (λ (y : Span). Utf8 (bytesAt (x .text) y)) (pbnSpans x)) where
+module _ (p q : ℕ) (f : Fit p q) (x : Pbn) (well : All (λ (y : Span). Utf8 (bytesAt (x .text) y)) (pbnSpans x)) where
   abbrev W : Span → Type 0
   W y = Utf8 (bytesAt (x .text) y)
 
@@ -322,7 +334,7 @@ module _ (p q : ℕ) (f : Fit p q) (x : Pbn) (typed : PbnTyped x) (well : All (�
       go none k = tt
       go (some y) k =
           clean-present (annotationText (x .text) (x .notes) (bytesAt (x .text) y))
-          (annotation-utf8 (x .text) (x .notes) 256 (typed .notes) (all-right W (rawSpans (x .calls)) _ w₄) (bytesAt (x .text) y) (k .0))
+          (annotation-utf8 (x .text) (x .notes) (all-right W (rawSpans (x .calls)) _ w₄) (bytesAt (x .text) y) (k .0))
 
   pub made-utf8 : badPbn x ≡ false → EachText Utf8 (fromBoard p q x)
   unfolding fromBoard
@@ -340,23 +352,97 @@ module _ (p q : ℕ) (f : Fit p q) (x : Pbn) (typed : PbnTyped x) (well : All (�
       }
 
 -- What an accepted call stored, lent again: the texts in the output's first bytes, with the heading's board and as many rows and cards as it says, are
--- the board that `from_board` makes
+-- the board that `from_board` makes, and none of 8, 5 and 6 meets them
 
-module _ (p q : ℕ) (x : Pbn) (o rows cards : List ℕ) where
+names-fine : (t : List ℕ) (at : ℕ) (ns : List (List ℕ)) (r : List ℕ) → drop at t ≡ concat ns ++ r → at ≤ length t → All Utf8 ns → All (Fine t) (laidNames at ns)
+unfolding laidNames concat
+names-fine t at [] r e h u = tt
+names-fine t at (n ∷ ns) r e h u =
+    let d : drop at t ≡ n ++ (concat ns ++ r) = e ∙ append-assoc n (concat ns) r in
+    (fine t at n (concat ns ++ r) d h (u .0), names-fine t (at + length n) ns r (after t at n (concat ns ++ r) d) (ends t at n (concat ns ++ r) d h) (u .1))
+
+option-fine : (t : List ℕ) (at : ℕ) (o : Option (List ℕ)) (r : List ℕ) → drop at t ≡ orEmpty o ++ r → at ≤ length t → Present Utf8 o → Present (Fine t) (laidOption at o)
+option-fine t at none r e h u = tt
+option-fine t at (some s) r e h u = fine t at s r e h u
+
+calls-fine : (t : List ℕ) (at : ℕ) (cs : List (CallOf (List ℕ))) → drop at t ≡ callTexts cs → at ≤ length t → All (λ (c : CallOf (List ℕ)). Utf8 (c .bid) × Present Utf8 (c .annotation)) cs
+    → All (λ (c : CallOf Span). Fine t (c .bid) × Present (Fine t) (c .annotation)) (laidCalls at cs)
+unfolding laidCalls callTexts
+calls-fine t at [] e h u = tt
+calls-fine t at (c ∷ cs) e h u =
+    let r = callTexts cs in
+    let n = orEmpty (c .annotation) in
+    let d = after t at (c .bid) (n ++ r) e in
+    let k = ends t at (c .bid) (n ++ r) e h in
+    let a = at + length (c .bid) in
+    ((fine t at (c .bid) (n ++ r) e h (u .0 .0), option-fine t a (c .annotation) r d k (u .0 .1)), calls-fine t (a + length n) cs (after t a n r d) (ends t a n r d k) (u .1))
+
+laid-legal : (b : BoardOf (List ℕ)) → EachText Utf8 b → All (λ (c : ℕ). c < 52) (b .play) → Legal (boardTexts b) (laid b)
+unfolding laid boardTexts
+laid-legal b u c =
+    let t = boardTexts b in
+    let names = concat (b .names) in
+    let r₄ = callTexts (b .calls) in
+    let r₃ = orEmpty (b .header) ++ r₄ in
+    let r₂ = orEmpty (b .room) ++ r₃ in
+    let r₁ = orEmpty (b .title) ++ r₂ in
+    let a₁ = length names in
+    let a₂ = a₁ + length (orEmpty (b .title)) in
+    let a₃ = a₂ + length (orEmpty (b .room)) in
+    let e₁ : drop a₁ t ≡ r₁ = drop-at names r₁ a₁ refl in
+    let e₂ = after t a₁ (orEmpty (b .title)) r₂ e₁ in
+    let e₃ = after t a₂ (orEmpty (b .room)) r₃ e₂ in
+    let e₄ = after t a₃ (orEmpty (b .header)) r₄ e₃ in
+    let h₁ : a₁ ≤ length t = (let l = length-append names r₁ in omega arith) in
+    let h₂ = ends t a₁ (orEmpty (b .title)) r₂ e₁ h₁ in
+    let h₃ = ends t a₂ (orEmpty (b .room)) r₃ e₂ h₂ in
+    let h₄ = ends t a₃ (orEmpty (b .header)) r₄ e₃ h₃ in
+    record {
+      texts =
+          record {
+            names = names-fine t 0 (b .names) r₁ refl (omega arith) (u .names);
+            title = option-fine t a₁ (b .title) r₂ e₁ h₁ (u .title);
+            room = option-fine t a₂ (b .room) r₃ e₂ h₂ (u .room);
+            header = option-fine t a₃ (b .header) r₄ e₃ h₃ (u .header);
+            calls = calls-fine t (a₃ + length (orEmpty (b .header))) (b .calls) e₄ h₄ (u .calls);
+          };
+      cards = c;
+    }
+
+module _ (p q : ℕ) (f : Fit p q) (x : Pbn) (o rows cards : List ℕ) where
   abbrev stays : Conversion → Reading
   stays c = record { heading = c .heading; rows = c .rows; cards = c .cards }
 
   abbrev Back : Conversion → Type 0
   Back c = c .heading .verdict ≡ Accepted → Gives (take (c .len) (c .output)) (fromBoard p q x) (stays c)
 
-  back : (a : Answer (BoardOf Span)) → ((b : BoardOf Span) → a ≡ accepted b → laid (fromBoard p q x) ≡ b) → Back (converted a (boardTexts (fromBoard p q x)) rows cards o)
+  -- of a call that neither 8 nor 6 meets
+  made-legal : badPbn x ≡ false → any (illSpan (x .text)) (pbnSpans x) ≡ false → Legal (boardTexts (fromBoard p q x)) (laid (fromBoard p q x))
+  unfolding fromBoard
+  made-legal h k = laid-legal (fromBoard p q x) (made-utf8 p q f x (none-ill (x .text) (pbnSpans x) k) h) (kept-cards x h (x .plays) (plays-sound x h))
+
+  back : (a : Answer (BoardOf Span)) → ((b : BoardOf Span) → a ≡ accepted b → (laid (fromBoard p q x) ≡ b) × Legal (boardTexts (fromBoard p q x)) (laid (fromBoard p q x)))
+      → Back (converted a (boardTexts (fromBoard p q x)) rows cards o)
   back (refused r) h k = let z : _≡_ {A = ℕ} 0 1 = cc in absurd (omega arith)
   back (accepted b) h k =
       let t = boardTexts (fromBoard p q x) in
       let e = front-of o t (length t) refl in
-      let m : mapBoard (bytesAt t) b ≡ fromBoard p q x = ap (mapBoard (bytesAt t)) (sym (h b refl)) ∙ laid-out (fromBoard p q x) in
-      rw e (subst (λ (y : BoardOf (List ℕ)). Gives t y (stored (accepted b) rows cards)) m (stored-gives t b rows cards))
+      let l = h b refl in
+      let m : mapBoard (bytesAt t) b ≡ fromBoard p q x = ap (mapBoard (bytesAt t)) (sym (l .0)) ∙ laid-out (fromBoard p q x) in
+      rw e (subst (λ (y : BoardOf (List ℕ)). Gives t y (stored (accepted b) rows cards)) m (stored-gives t b (subst (Legal t) (l .0) (l .1)) rows cards))
+
+  -- what passed the checks, whichever follow them
+  made-passed : (other : Bool) (cs : List (Option Refusal)) (b : BoardOf Span)
+      → unless (tooLong (x .text) ∷ refuseIf (other || badPbn x) OutOfRange ∷ pastEnd (x .text) (pbnSpans x) ∷ spanNotUtf8 (x .text) (pbnSpans x) ∷ cs) (laid (fromBoard p q x)) ≡ accepted b
+      → (laid (fromBoard p q x) ≡ b) × Legal (boardTexts (fromBoard p q x)) (laid (fromBoard p q x))
+  made-passed other cs b e =
+      let y = laid (fromBoard p q x) in
+      let e₁ = unmet (ltb limit (length (x .text))) TextTooLong _ y b e in
+      let e₂ = unmet (other || badPbn x) OutOfRange _ y b (e₁ .1) in
+      let e₃ = unmet (any (passesEnd (x .text)) (pbnSpans x)) SpanPastEnd _ y b (e₂ .1) in
+      let e₄ = unmet (any (illSpan (x .text)) (pbnSpans x)) SpanNotUtf8 cs y b (e₃ .1) in
+      (unless-same cs y b (e₄ .1), made-legal (or-none other (badPbn x) (e₂ .0) .1) (e₄ .0))
 
   pub made-given : (other : Bool) → Back (convertBoard other p q x o rows cards)
   unfolding convertBoard
-  made-given other = back _ (unless-same _ (laid (fromBoard p q x)))
+  made-given other = back _ (made-passed other _)

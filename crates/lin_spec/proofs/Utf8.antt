@@ -9,7 +9,7 @@ use mathlib.Core.Bool.{Bool, true, false, _&&_, _||_, not, false≢true, or-true
 use mathlib.Core.List.{List, [], _∷_, _++_}
 use mathlib.Core.Logic.{_⊎_, inl, inr, ⊎-elim}
 use lib.ListN.{length, take, drop, length-append, length-drop}
-use lib.Seq.{take-length, take-add}
+use lib.Seq.{take-length, take-add, take-append-le, take-append-add}
 use lib.Dec.{eqb, leb, ltb, eqb·suc-zero}
 use borrow.Author.Tests.{eq-eqb, ne-eqb, eqb-true, eqb-false, le-leb, lt-leb, leb-true, ltb-true, ltb-false, lt-ltb, le-ltb}
 use Rattle.lin_spec.specs.Base.{pick, All, concat}
@@ -246,7 +246,7 @@ encode-utf8 c h =
         scalar-cases c h
         (λ k₁. split c 0x1000 (λ k₂. by 0xA0 0xBF (first-at a 0xE0 (omega arith)) (omega arith)) λ k₂.
         split c 0xD000 (λ k₃. by 0x80 0xBF (first-three a (omega arith) (omega arith) (λ e. omega arith)) (omega arith))
-        (λ k₃. by 0x80 0x9F (first-at a 0xED (omega arith)) (omega arith)))
+        (λ k₃. by 0x80 _ (first-at a 0xED (omega arith)) (omega arith)))
         (λ k₁ k₂. by 0x80 0xBF (first-three a (omega arith) (omega arith) (λ e. omega arith)) (omega arith))
 
     four : 0x10000 ≤ c → utf8 ((0xF0 + c / 262144) ∷ (0x80 + c / 4096 % 64) ∷ (0x80 + c / 64 % 64) ∷ (0x80 + c % 64) ∷ []) ≡ true
@@ -284,7 +284,7 @@ first-cases P a one more none =
     picked P (leb a 0x7F) (λ e. one (leb-true a 0x7F e)) λ e₁.
     picked P (leb 0xC2 a && leb a 0xDF) (λ e. let r = within 0xC2 0xDF a e in more 0 0x80 0xBF (omega arith)) λ e₂.
     picked P (eqb a 0xE0) (λ e. let r = eqb-true a 0xE0 e in more 1 0xA0 0xBF (omega arith, inl (omega arith))) λ e₃.
-    picked P (eqb a 0xED) (λ e. let r = eqb-true a 0xED e in more 1 0x80 0x9F (omega arith, inl (omega arith))) λ e₄.
+    picked P (eqb a 0xED) (λ e. let r = eqb-true a 0xED e in more 1 0x80 _ (omega arith, inl (omega arith))) λ e₄.
     picked P (leb 0xE1 a && leb a 0xEF)
     (λ e. let r = within 0xE1 0xEF a e in let q = eqb-false a 0xED e₄ in more 1 0x80 0xBF (omega arith, split a 0xED (λ k. inl (omega arith)) (λ k. inr (omega arith)))) λ e₅.
     picked P (eqb a 0xF0) (λ e. let r = eqb-true a 0xF0 e in more 2 0x90 0xBF (omega arith)) λ e₆.
@@ -456,3 +456,23 @@ utf8-cut x b y h = ap isWhole (utf-append whole x (b ∷ y)) ∙ go (utf whole x
     go whole s = simp (ascii-first b h)
     go (needs n lo hi) s = simp (lt-leb lo b (omega arith), utf-ill)
     go ill s = simp utf-ill
+
+-- after a text that is not UTF-8 a byte of ASCII, and whatever follows it, lengthens no well-formed start
+pub longest-cut : (x : List ℕ) (b : ℕ) (y : List ℕ) → Ascii b → utf8 x ≡ false → longest (x ++ b ∷ y) ≡ longest x
+longest-cut x b y a h =
+    let s = x ++ b ∷ y in
+    let n = length-append x (b ∷ y) in
+    let w = longest-within x in
+    let v = longest-within s in
+    let inside : longest s ≤ length x = split (length x) (longest s) (λ l. absurd (false≢true (sym h ∙ beyond (longest s) l v (longest-is s)))) (λ l. l) in
+    let front : (k : ℕ) → k ≤ length x → take k s ≡ take k x = λ k l. take-append-le k x (b ∷ y) l in
+    let more = longest-most s (longest x) (omega arith) (ap utf8 (front (longest x) w) ∙ longest-is x) in
+    let less = longest-most x (longest s) inside (sym (ap utf8 (front (longest s) inside)) ∙ longest-is s) in
+    omega arith
+  where
+    beyond : (k : ℕ) → length x < k → k ≤ length (x ++ b ∷ y) → utf8 (take k (x ++ b ∷ y)) ≡ true → utf8 x ≡ true
+    beyond k l m e =
+        let j = k - length x - 1 in
+        let q : k ≡ length x + suc j = omega arith in
+        let t : take k (x ++ b ∷ y) ≡ x ++ b ∷ take j y = ap (λ (i : ℕ). take i (x ++ b ∷ y)) q ∙ take-append-add x (b ∷ y) (suc j) in
+        and-left (utf8 x) _ (sym (utf8-cut x b (take j y) a) ∙ ap utf8 (sym t) ∙ e)

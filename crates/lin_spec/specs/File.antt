@@ -11,12 +11,16 @@ use Rattle.lin_spec.specs.White.{blank, isCommand}
 use Rattle.lin_spec.specs.Tokens.{Pieces, cut, TokenOf}
 use Rattle.lin_spec.specs.Tokens.Pieces.{end, piece}
 use Rattle.lin_spec.specs.Tokens.TokenOf.{token}
+use Rattle.lin_spec.specs.Utf8.{utf8, longest}
 use Rattle.lin_spec.specs.Refusals.{Answer, refuseIf, unless, tooLong, notUtf8, sat}
+use Rattle.lin_spec.specs.Refusals.Answer.{refused, accepted}
 use Rattle.lin_spec.specs.Board.{BoardOf, boardFrom}
+use Rattle.lin_spec.specs.Fresh.{freshBoard}
 use Rattle.lin_spec.specs.Reading.{spanText, stream, parseLin, headed, fewRows, Reading, stored}
 use Rattle.lin_spec.specs.declared.Span.{Span}
 use Rattle.lin_spec.specs.declared.Refusal.{Refusal}
-use Rattle.lin_spec.specs.declared.Refusal.the-variants.{NoBoard}
+use Rattle.lin_spec.specs.declared.Refusal.the-variants.{NotUtf8, NoBoard}
+use Rattle.lin_spec.specs.declared.Board.{Board}
 use Rattle.lin_spec.specs.declared.Heading.{Heading}
 
 -- a part of a file from one place up to another, and whether it is a board
@@ -83,36 +87,74 @@ pub data Visit : Type 0 where
   found : (number : ℕ) → Section → Standing → Visit
   ended : Standing → Visit
 
+-- the lines, and the parts, that begin at a place and after it
+unfoldable pub linesAt : (s : List ℕ) (at : ℕ) → List Section
+linesAt s a = pick (ltb (length s) a) [] (linesFrom a (cut 0x0A (drop a s)))
+
+unfoldable pub partsAt : (s : List ℕ) (at : ℕ) → List Section
+partsAt s a = pick (null (stream s a)) [] (partsFrom s a a a (stream s a))
+
+abbrev pub remaining : (s : List ℕ) → Standing → List Section
+remaining s c = pick (c .lines) (linesAt s (c .at)) (partsAt s (c .at))
+
+-- the cursor after a section; the LF after a line is passed
+abbrev pub after : Standing → Section → Standing
+after c p = record { at = pick (c .lines) (p .stop + 1) (p .stop); number = pick (p .board) (sat (c .number + 1)) (c .number); lines = c .lines }
+
 -- the first of some sections
-abbrev pub firstOf : List Section → Section
-firstOf [] = section 0 0 false
-firstOf (p ∷ ps) = p
+abbrev pub firstOf : Standing → List Section → Visit
+firstOf c [] = ended c
+firstOf c (p ∷ ps) = found (c .number) p (after c p)
 
-abbrev pub after : Standing → Section → (next : ℕ) → Visit
-after c p next = found (c .number) p (record { at = next; number = pick (p .board) (sat (c .number + 1)) (c .number); lines = c .lines })
-
--- a step over any bytes, from any place: the first of the lines, or of the parts, that begin there
+-- a step over any bytes, from any place
 unfoldable pub visit : (s : List ℕ) → Standing → Visit
-visit s c =
-    let a = c .at in
-    let line = firstOf (linesFrom a (cut 0x0A (drop a s))) in
-    let next = firstOf (partsFrom s a a a (stream s a)) in
-    pick (c .lines) (pick (ltb (length s) a) (ended c) (after c line (line .stop + 1))) (pick (null (stream s a)) (ended c) (after c next (next .stop)))
+visit s c = firstOf c (remaining s c)
 
--- a step that reads as well: the step, and what the tokens of its section give, board or none. Opening gave refusal 2, so that 1 and 3 are left.
+-- a step to the next board; sections that are none are passed
+unfoldable pub nextBoard : (s : List ℕ) → Standing → Visit
+nextBoard s c = firstOf c (boardsOf (remaining s c))
+
+-- A step that reads the next board. It looks at the bytes from the cursor's place to the board's end, or to the text's end where there is none.
+abbrev pub lookedAt : (s : List ℕ) → Standing → Visit → List ℕ
+lookedAt s c (found n p d) = part s (c .at) (p .stop - c .at)
+lookedAt s c (ended d) = drop (c .at) s
+
+-- 2 over the bytes from a place on: with the place, and the "length of the longest well-formed start"
+abbrev pub notUtf8From : (at : ℕ) (bytes : List ℕ) → Option Refusal
+notUtf8From a t = refuseIf (not (utf8 t)) (NotUtf8 (a + longest t))
+
+-- 3 over the board, if there is one
+abbrev pub fewIn : (s : List ℕ) → Visit → (rows cards : List ℕ) → List (Option Refusal)
+fewIn s (found n p d) rows cards = fewRows (boardIn s p) rows cards
+fewIn s (ended d) rows cards = []
+
+-- the answer and the cursor handed back; the board with the numbers of its calls and cards; rows and cards afterwards
 pub record ReadStep : Type 0 where
-  pub step : Visit
-  pub reading : Reading
+  pub answer : Answer Visit
+  pub cursor : Standing
+  pub board : Board
+  pub calls : ℕ
+  pub play : ℕ
+  pub rows : List ℕ
+  pub cards : List ℕ
 
--- the section of a step; without one, none of the text
-abbrev pub seen : Visit → Section
-seen (found n p d) = p
-seen (ended d) = section 0 0 false
+-- without a board there is a fresh one, and nothing is stored
+abbrev pub unread : Answer Visit → Standing → (rows cards : List ℕ) → ReadStep
+unread a c rows cards = record { answer = a; cursor = c; board = freshBoard; calls = 0; play = 0; rows = rows; cards = cards }
 
+-- a refusal hands the cursor back where it stood
+abbrev pub readBy : (s : List ℕ) → Standing → Answer Visit → (rows cards : List ℕ) → ReadStep
+readBy s c (refused r) rows cards = unread (refused r) c rows cards
+readBy s c (accepted (ended d)) rows cards = unread (accepted (ended d)) d rows cards
+readBy s c (accepted (found n p d)) rows cards =
+    let r = stored (accepted (boardIn s p)) rows cards in
+    record { answer = accepted (found n p d); cursor = d; board = r .heading .board; calls = r .heading .calls; play = r .heading .cards; rows = r .rows; cards = r .cards }
+
+-- "Reading: 1, 2, 4, 3."
 unfoldable pub readStep : (s : List ℕ) → Standing → (rows cards : List ℕ) → ReadStep
 readStep s c rows cards =
-    let b = boardIn s (seen (visit s c)) in
-    record { step = visit s c; reading = stored (unless (tooLong s ∷ fewRows b rows cards) b) rows cards }
+    let v = nextBoard s c in
+    readBy s c (unless (tooLong s ∷ notUtf8From (c .at) (lookedAt s c v) ∷ fewIn s v rows cards) v) rows cards
 
 -- opening one gives refusals 1 and 2; it then stands at the first byte
 unfoldable pub openBoards : List ℕ → Answer Standing

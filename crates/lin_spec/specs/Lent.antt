@@ -1,13 +1,14 @@
 -- A board that is lent to a call: its text, its record, its rows and its cards; what it means, and the checks that it is put to. (01: Records;
 -- Eight refusals)
 use Prim.Native.Nat.{ℕ}
-use mathlib.Core.Bool.{Bool, _||_, not}
+use mathlib.Core.Path.{_≡_}
+use mathlib.Core.Bool.{Bool, false, _||_, not}
 use mathlib.Core.List.{List, [], _∷_, _++_, map}
 use mathlib.Core.Option.{Option, none, some}
 use lib.Dec.{eqb, ltb}
 use Rattle.lin_spec.specs.Base.{pick, any}
 use Rattle.lin_spec.specs.Records.{span, bytesAt, optionOf}
-use Rattle.lin_spec.specs.Refusals.{refuseIf, tooLong, pastEnd, spanNotUtf8}
+use Rattle.lin_spec.specs.Refusals.{refuseIf, tooLong, passesEnd, illSpan, pastEnd, spanNotUtf8}
 use Rattle.lin_spec.specs.Board.{CallOf, BoardOf, mapBoard}
 use Rattle.lin_spec.specs.declared.Span.{Span}
 use Rattle.lin_spec.specs.declared.MaybeClaim.{MaybeClaim}
@@ -100,3 +101,9 @@ badNumber x = badCards (x .cards) || any badFlag (x .calls)
 unfoldable pub lentChecks : (other : Bool) → Lent → List (Option Refusal)
 lentChecks other x =
     tooLong (x .text) ∷ refuseIf (other || badNumber x) OutOfRange ∷ pastEnd (x .text) (lentSpans x) ∷ spanNotUtf8 (x .text) (lentSpans x) ∷ []
+
+-- what can be lent to a call: none of 8, 5 and 6 meets it, in the order of the checks
+pub record Lendable (x : Lent) : Type 0 where
+  pub numbers : badNumber x ≡ false
+  pub within : any (passesEnd (x .text)) (lentSpans x) ≡ false
+  pub texts : any (illSpan (x .text)) (lentSpans x) ≡ false

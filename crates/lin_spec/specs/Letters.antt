@@ -1,5 +1,5 @@
 -- Seats and vulnerability as letters and numbers. (01: Records; Program linlist; `encode_sv` of the Rust)
-use Prim.Native.Nat.{ℕ, _*_}
+use Prim.Native.Nat.{ℕ, zero, suc, _*_}
 use Prim.Native.Char.{code}
 use mathlib.Core.List.{List}
 use Rattle.lin_spec.specs.Records.{part}
@@ -15,6 +15,13 @@ seatNumber South = 0
 seatNumber West = 1
 seatNumber North = 2
 seatNumber East = 3
+
+-- the seat of a number in that order; a number that no seat has gives the last seat
+abbrev pub seatAt : ℕ → Seat
+seatAt zero = South
+seatAt (suc zero) = West
+seatAt (suc (suc zero)) = North
+seatAt (suc (suc (suc n))) = East
 
 -- "dealer letter"
 abbrev pub seatLetter : Seat → ℕ

@@ -19,6 +19,8 @@ use Rattle.lin_spec.specs.declared.MaybeClaim.the-variants.{Absent, Clai
 use Rattle.lin_spec.specs.declared.Span.{Span}
 use Rattle.lin_spec.specs.declared.Refusal.{Refusal}
 use Rattle.lin_spec.specs.declared.Refusal.the-variants.{TextTooLong}
+use Rattle.lin_spec.specs.declared.Verdict.{Verdict}
+use Rattle.lin_spec.specs.declared.Verdict.the-variants.{Accepted, Refused}
 use Rattle.lin_spec.specs.declared.Heading.{Heading}
 
 -- "Every line ends in LF."
@@ -56,6 +58,14 @@ boardLine k h =
 -- "A refusal prints one line, `refused`, a space and its number"
 unfoldable pub refusalLine : Refusal → List ℕ
 refusalLine r = line (joinBy (ascii " ") (ascii "refused" ∷ decimal (numberOf r) ∷ []))
+
+-- a heading's line: a board's, or where the heading was refused the refusal's
+abbrev pub lineBy : Verdict → (number : ℕ) → Heading → List ℕ
+lineBy Accepted k h = boardLine k h
+lineBy (Refused r) k h = refusalLine r
+
+abbrev pub headingLine : (number : ℕ) → Heading → List ℕ
+headingLine k h = lineBy (h .verdict) k h
 
 -- a line as an entry's answer: refused by 7, or from the first byte of the output on
 unfoldable pub writeLine : (text out : List ℕ) → Outcome

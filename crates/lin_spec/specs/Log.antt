@@ -1,7 +1,7 @@
 -- A list of append calls on one output, and the plain book that is kept of it. (01: Writer, "For the third demand the list of appends is kept by a plain
 -- book ..")
 use Prim.Native.Nat.{ℕ, _+_}
-use mathlib.Core.Bool.{Bool, false, _||_, not}
+use mathlib.Core.Bool.{Bool, true, false, _||_, not}
 use mathlib.Core.List.{List, [], _∷_, _++_}
 use lib.ListN.{length, take}
 use lib.Dec.{ltb}
@@ -10,39 +10,58 @@ use Rattle.lin_spec.specs.Records.{limit}
 use Rattle.lin_spec.specs.Refusals.{Answer, passesEnd, illSpan}
 use Rattle.lin_spec.specs.Refusals.Answer.{refused, accepted}
 use Rattle.lin_spec.specs.Board.{BoardOf}
-use Rattle.lin_spec.specs.Lent.{lentSpans, badNumber}
-use Rattle.lin_spec.specs.Append.{Filing, writtenForm, settledForm, appended}
+use Rattle.lin_spec.specs.Lent.{Lent, lentSpans, badNumber}
+use Rattle.lin_spec.specs.Append.{Filing, plain, writtenForm, settledForm, appended}
 
--- The program's side: append's own definition, call after call
+-- A call of the list: the board that it is to write, and whether another number of the call is outside its range, as in `appended`
+pub record Asked : Type 0 where
+  pub other : Bool
+  pub filing : Filing
+
+-- a call of `append`, which has no other number
+abbrev pub appending : Lent → Asked
+appending x = record { other = false; filing = plain x }
+
+-- The program's side
 
 -- the output, and "the used count last returned (0 if none was)"
 pub record State : Type 0 where
   pub output : List ℕ
   pub used : ℕ
 
+-- a call that gets the output and the used count as the call before left them, whether it is accepted, and what it leaves
+pub record Event : Type 0 where
+  pub before : State
+  pub accepted : Bool
+  pub next : State
+
+-- append's own definition, call after call
+
+abbrev pub accepts : {A : Type 0} → Answer A → Bool
+accepts (refused r) = false
+accepts (accepted a) = true
+
 abbrev pub usedAfter : Answer ℕ → (used : ℕ) → ℕ
 usedAfter (refused r) used = used
 usedAfter (accepted n) used = n
 
--- a call that gets the output and the used count as the call before left them, its answer, and what it leaves
-pub record Event : Type 0 where
-  pub before : State
-  pub call : Filing
-  pub answer : Answer ℕ
-  pub next : State
+unfoldable pub event : State → Asked → Event
+event st a =
+    let r = appended (a .other) (a .filing) (st .output) (st .used) in
+    record { before = st; accepted = accepts (r .answer); next = record { output = r .output; used = usedAfter (r .answer) (st .used) } }
 
-unfoldable pub event : State → Filing → Event
-event st f =
-    let r = appended false f (st .output) (st .used) in
-    record { before = st; call = f; answer = r .answer; next = record { output = r .output; used = usedAfter (r .answer) (st .used) } }
+-- calls one after the other, each by its own step
+unfoldable pub walk : {A : Type 0} → (step : State → A → Event) → State → List A → List Event
+walk f st [] = []
+walk f st (a ∷ cs) = let e = f st a in e ∷ walk f (e .next) cs
 
-unfoldable pub events : State → List Filing → List Event
-events st [] = []
-events st (f ∷ fs) = let e = event st f in e ∷ events (e .next) fs
+abbrev pub events : State → List Asked → List Event
+events st cs = walk event st cs
 
-unfoldable pub final : State → List Filing → State
+-- what the last call leaves
+unfoldable pub final : State → List Event → State
 final st [] = st
-final st (f ∷ fs) = final (event st f .next) fs
+final st (e ∷ es) = final (e .next) es
 
 -- "The used bytes are the output's first bytes, as many as the used count last returned"
 abbrev pub usedBytes : State → List ℕ
@@ -61,22 +80,22 @@ emptyLog = record { bytes = []; boards = [] }
 
 -- "A call is refused when a numbered refusal meets it": 1, 8, 5 and 6 by the call's inputs; "7 does, after the others, exactly when T and the board's
 -- written form (its bytes as above) together pass the room"
-unfoldable pub meets : (room : ℕ) → Log → Filing → Bool
-meets room k f =
-    let x = f .lent in
+unfoldable pub meets : (room : ℕ) → Log → Asked → Bool
+meets room k a =
+    let x = a .filing .lent in
     ltb limit (length (x .text))
-    || (badNumber x
-    || (any (passesEnd (x .text)) (lentSpans x) || (any (illSpan (x .text)) (lentSpans x) || ltb room (length (k .bytes) + length (writtenForm f)))))
+    || ((a .other || badNumber x)
+    || (any (passesEnd (x .text)) (lentSpans x) || (any (illSpan (x .text)) (lentSpans x) || ltb room (length (k .bytes) + length (writtenForm (a .filing))))))
 
 -- "T and L then stay. Any other call is accepted: its written form goes to the end of T, its settled form to the end of L."
-unfoldable pub entered : (room : ℕ) → Log → Filing → Log
-entered room k f = pick (meets room k f) k (record { bytes = k .bytes ++ writtenForm f; boards = k .boards ++ (settledForm f ∷ []) })
+unfoldable pub entered : (room : ℕ) → Log → Asked → Log
+entered room k a = pick (meets room k a) k (record { bytes = k .bytes ++ writtenForm (a .filing); boards = k .boards ++ (settledForm (a .filing) ∷ []) })
 
-unfoldable pub logOf : (room : ℕ) → Log → List Filing → Log
+unfoldable pub logOf : (room : ℕ) → Log → List Asked → Log
 logOf room k [] = k
-logOf room k (f ∷ fs) = logOf room (entered room k f) fs
+logOf room k (a ∷ cs) = logOf room (entered room k a) cs
 
 -- which calls are accepted
-unfoldable pub verdicts : (room : ℕ) → Log → List Filing → List Bool
+unfoldable pub verdicts : (room : ℕ) → Log → List Asked → List Bool
 verdicts room k [] = []
-verdicts room k (f ∷ fs) = not (meets room k f) ∷ verdicts room (entered room k f) fs
+verdicts room k (a ∷ cs) = not (meets room k a) ∷ verdicts room (entered room k a) cs

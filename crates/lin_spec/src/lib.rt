@@ -4,7 +4,7 @@ ghost use Rattle.lin_spec.specs.Fresh.{freshDeal, freshBoard, refusedHea
 ghost use Prim.Native.Nat.{_<_, min};
 ghost use Rattle.lin_spec.specs.Records.{limit};
 ghost use Rattle.lin_spec.specs.Refusals.{numberOf, kindOf, carriedOf};
-ghost use Rattle.lin_spec.specs.Letters.{seatNumber, seatLetter, svLetter};
+ghost use Rattle.lin_spec.specs.Letters.{seatNumber, seatAt, seatLetter, svLetter};
 
 // The bytes of the longest text, and the most of an output that is ever filled.
 pub const LIMIT: usize = 1_048_576;
@@ -112,6 +112,17 @@ pub enum Seat {
 }
 
 impl Seat {
+    // The seat of a number in the order of LIN, which is that of `Board::SEATS`; East for a number that no seat has.
+    pub fn at(number: usize) -> Self
+        ensures { λ r. ⌜ r ≡ seatAt number ⌝ }
+    {
+        let seats = Board::SEATS;
+        if number < 4 {
+            return seats[number];
+        }
+        Seat::East
+    }
+
     // Its place in the order of LIN.
     pub fn number(self) -> usize
         ensures { λ r. ⌜ (r ≡ seatNumber self) × (r < 4) ⌝ }

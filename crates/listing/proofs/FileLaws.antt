@@ -14,13 +14,13 @@ use Rattle.lin_spec.specs.Refusals.{unless, tooLong, notUtf8, sat}
 use Rattle.lin_spec.specs.Refusals.Answer.{refused, accepted}
 use Rattle.lin_spec.specs.Output.{Outcome, room}
 use Rattle.lin_spec.specs.Reading.{headingOf}
-use Rattle.lin_spec.specs.File.{Section as Part, Standing, openBoards, boardsOf, boardIn, fileSpans}
+use Rattle.lin_spec.specs.File.{Section as Part, Standing, openBoards, boardsOf, boardIn, fileSpans, remaining}
 use Rattle.lin_spec.specs.Listing.{header, boardLine, refusalLine, boardLines, overLimit, printed, listing, writeLine}
 use Rattle.lin_spec.specs.declared.Refusal.{Refusal}
 use Rattle.lin_spec.specs.declared.Refusal.the-variants.{TextTooLong, OutputTooSmall}
 use Rattle.lin_spec.specs.declared.Heading.{Heading}
 use Rattle.lin_spec.proofs.Checks.{unless-refused, unless-passed}
-use Rattle.lin_spec.proofs.File.{remaining, Found, all-remain}
+use Rattle.lin_spec.proofs.File.{Found, all-remain}
 use Rattle.board_steps.specs.Head.{boardAt}
 use Rattle.sections.specs.Sections.{sectionOf, standingOf, openedOf}
 use Rattle.file.specs.Numbers.{Ready}

@@ -279,8 +279,8 @@ unfolding stream
 taken s c =
     subst (Taken c) (sym (visit-is s c))
     (picked (Taken c) (c .lines)
-    (λ _. picked (Taken c) (ltb (length s) (c .at)) (λ _. tt) (λ _. record { starts = refl; stops = omega arith; two = λ h. let k = one-byte _ h in omega arith }))
-    (λ _. picked (Taken c) (null (stream s (c .at))) (λ _. tt) (λ _. record { starts = refl; stops = omega arith; two = part-two s (c .at) _ })))
+    (λ l. picked (Taken c) (ltb (length s) (c .at)) (λ _. tt) (λ _. record { starts = refl; stops = rw l (omega arith); two = λ h. let k = one-byte _ h in rw l (omega arith) }))
+    (λ l. picked (Taken c) (null (stream s (c .at))) (λ _. tt) (λ _. record { starts = refl; stops = rw l (omega arith); two = λ h. rw l (part-two s (c .at) _ h) })))
   where
     part-two : (s : List ℕ) (a e : ℕ) → holds (ascii "md") (tokensIn s a e) ≡ true → a + 2 ≤ e
     part-two s a e h =

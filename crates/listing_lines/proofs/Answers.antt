@@ -2,14 +2,16 @@
 -- Assumes nothing.
 use Prim.Native.Nat.{ℕ, _+_, _≤_, _<_}
 use native.Mathlib.Omega.{arith}
-use mathlib.Core.Path.{_≡_}
+use mathlib.Core.Path.{_≡_, ap}
 use mathlib.Core.List.{List}
 use lib.ListN.{length}
 use borrow.Author.Tests.{lt-ltb, le-ltb}
 use Rattle.lin_spec.specs.Refusals.{unless, sat}
 use Rattle.lin_spec.specs.Refusals.Answer.{refused, accepted}
 use Rattle.lin_spec.specs.Output.{Outcome, room, fill}
-use Rattle.lin_spec.specs.Listing.{writeLine}
+use Rattle.lin_spec.specs.Listing.{lineBy, headingLine, writeLine}
+use Rattle.lin_spec.specs.declared.Heading.{Heading}
+use Rattle.lin_spec.specs.declared.Verdict.{Verdict}
 use Rattle.lin_spec.specs.declared.Refusal.the-variants.{OutputTooSmall}
 use Rattle.output.specs.Put.{Room, Put}
 
@@ -29,3 +31,7 @@ module _ (t o : List ℕ) (need : ℕ) (en : need ≡ sat (length t)) (r : ℕ) 
       let z : length t ≤ room o = omega arith in
       let e : 0 + length t ≡ length t = omega arith in
       simp (le-ltb (room o) (length t) z, p .next, p .text, e)
+
+-- a heading's line, by its verdict
+pub by-verdict : (k : ℕ) (h : Heading) (o : List ℕ) {v : Verdict} → h .verdict ≡ v → writeLine (headingLine k h) o ≡ writeLine (lineBy v k h) o
+by-verdict k h o e = ap (λ (v : Verdict). writeLine (lineBy v k h) o) e

@@ -2,6 +2,7 @@
 // (01: Program linlist; refusal 7)
 use lin_spec::Heading;
 use lin_spec::Refusal;
+use lin_spec::Verdict;
 use lin_spec::Written;
 use lin_spec::room;
 use listing_words::claim_len;
@@ -21,7 +22,7 @@ ghost use mathlib.Core.Path.{_≡_};
 ghost use lib.ListN.{length};
 ghost use Rattle.lin_spec.specs.Refusals.{sat};
 ghost use Rattle.lin_spec.specs.Output.{Outcome, answerOf};
-ghost use Rattle.lin_spec.specs.Listing.{header, boardLine, refusalLine, writeLine};
+ghost use Rattle.lin_spec.specs.Listing.{header, boardLine, refusalLine, headingLine, writeLine};
 ghost use Rattle.output.specs.Put.{Room, Put};
 
 const HEADER: [u8; 43] = *b"board dealer vul S W N E calls cards claim\n";
@@ -99,8 +100,8 @@ pub fn header_line(out: &mut [u8]) -> Written
     Written::Length(n)
 }
 
-// The line of a board.
-pub fn board_line(number: u64, heading: Heading, out: &mut [u8]) -> Written
+// The line of a board that was read.
+fn accepted_line(number: u64, heading: Heading, out: &mut [u8]) -> Written
     ensures { λ r. ⌜ _≡_ {A = Outcome} (record { answer = answerOf r; output = now (out .exit) }) (writeLine (boardLine number heading) (now (out .entry))) ⌝ }
 {
     let need = board_line_len(number, heading);
@@ -121,4 +122,15 @@ pub fn refusal_line(refusal: Refusal, out: &mut [u8]) -> Written
     }
     let n = put_refusal_line(out, 0, refusal);
     Written::Length(n)
+}
+
+// The line of a heading: that of its board, or of the refusal.
+pub fn board_line(number: u64, heading: Heading, out: &mut [u8]) -> Written
+    ensures { λ r. ⌜ _≡_ {A = Outcome} (record { answer = answerOf r; output = now (out .exit) }) (writeLine (headingLine number heading) (now (out .entry))) ⌝ }
+{
+    let verdict = heading.verdict;
+    match verdict {
+        Verdict::Accepted => accepted_line(number, heading, out),
+        Verdict::Refused(r) => refusal_line(r, out),
+    }
 }

@@ -4,11 +4,12 @@ use lin_host::LinBoard;
 use lin_host::LinBoards;
 use lin_host::LinHeading;
 use lin_host::LinPart;
+use lin_host::LinRead;
 use lin_host::LinSection;
 use lin_host::LinStep;
 use replay_memory::ANSWER;
 use replay_memory::BOARD;
-use replay_memory::HIGH;
+use replay_memory::STEP;
 use replay_memory::WORDS;
 use replay_memory::high;
 use replay_memory::low;
@@ -16,14 +17,20 @@ use replay_memory::plus;
 use replay_memory::put_all;
 use replay_memory::set;
 
-// Lays eight numbers.
-fn lay(m: &mut [u32; WORDS], numbers: [u64; 8]) {
+// Lays eight numbers from a place on: their low words, then their high words.
+fn lay_at(m: &mut [u32; WORDS], at: usize, numbers: [u64; 8]) {
+    let above = plus(at, 8);
     let mut i = 0;
     while i < 8 {
-        set(m, plus(ANSWER, i), low(numbers[i]));
-        set(m, plus(HIGH, i), high(numbers[i]));
+        set(m, plus(at, i), low(numbers[i]));
+        set(m, plus(above, i), high(numbers[i]));
         i += 1;
     }
+}
+
+// Lays the eight numbers of an answer.
+fn lay(m: &mut [u32; WORDS], numbers: [u64; 8]) {
+    lay_at(m, ANSWER, numbers);
 }
 
 // Lays an answer, and three numbers after it.
@@ -91,6 +98,29 @@ fn lay_board(m: &mut [u32; WORDS], b: LinBoard) {
     put_all(m, BOARD + 16, &[header.present, header.start, header.len]);
     put_all(m, BOARD + 19, &[b.claimed, b.claim]);
     put_all(m, BOARD + 21, &b.counts);
+}
+
+// A board that was found and read: as a heading, and its step.
+pub fn lay_read(m: &mut [u32; WORDS], r: LinRead) {
+    let answer = r.answer;
+    let board = r.board;
+    let found = r.found as u64;
+    lay_with(m, answer, r.calls, r.cards, 0);
+    lay_board(m, board);
+    lay_at(
+        m,
+        STEP,
+        [
+            found,
+            r.number,
+            r.start,
+            r.stop,
+            r.next_at,
+            r.next_number,
+            0,
+            0,
+        ],
+    );
 }
 
 // A heading, and how many bytes its texts have in an output.

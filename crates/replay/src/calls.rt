@@ -3,6 +3,7 @@ use crate::answers::lay_answer;
 use crate::answers::lay_boards;
 use crate::answers::lay_heading;
 use crate::answers::lay_part;
+use crate::answers::lay_read;
 use crate::answers::lay_section;
 use crate::answers::lay_step;
 use crate::answers::lay_with;
@@ -122,7 +123,7 @@ fn file_board(m: &mut [u32; WORDS], text: &[u8]) {
     lay_lent(m, &rows, &cards);
 }
 
-// The same of the section at a cursor.
+// The next board from a cursor on, and its step.
 fn read_board(m: &mut [u32; WORDS], text: &[u8]) {
     let mut rows = [WORD; CALLS];
     let mut cards = [MARK; PLACES];
@@ -134,21 +135,8 @@ fn read_board(m: &mut [u32; WORDS], text: &[u8]) {
     let rows_lent = front_words(&mut rows, w);
     let cards_lent = front(&mut cards, p);
     let r = lin_read_board(text, n, second, lines, rows_lent, cards_lent);
-    let heading = r.heading;
-    lay_heading(m, heading, 0);
+    lay_read(m, r);
     lay_lent(m, &rows, &cards);
-}
-
-// The step that it was read by.
-fn read_step(m: &mut [u32; WORDS], text: &[u8]) {
-    let mut rows = [WORD; CALLS];
-    let mut cards = [MARK; PLACES];
-    let n = long(m, NUMBER);
-    let second = long(m, SECOND);
-    let lines = get(m, LINES);
-    let r = lin_read_board(text, n, second, lines, &mut rows, &mut cards);
-    let section = r.section;
-    lay_section(m, section);
 }
 
 fn document(m: &mut [u32; WORDS], text: &[u8], out: &mut [u8]) {
@@ -266,7 +254,6 @@ pub fn called(call: usize, m: &mut [u32; WORDS], bytes: &[u8; BYTES], out: &mut 
         9 => file_board(m, text),
         17 => same_board(m, text, cards, text2, cards2),
         18 => read_board(m, text),
-        19 => read_step(m, text),
         _ => writing(call, m, text, cards, out),
     }
 }

@@ -45,10 +45,8 @@ pub const LINES: usize = 36;
 
 pub const SPAN: usize = 38;
 
-// The answer: the low words of its eight numbers, the high words, and its board.
+// The answer: the low words of its eight numbers, then the high words; and its board.
 pub const ANSWER: usize = 64;
-
-pub const HIGH: usize = 72;
 
 pub const BOARD: usize = 80;
 
@@ -58,6 +56,9 @@ pub const LENT_BOARD: usize = 320;
 pub const LENT_BOARD2: usize = 576;
 
 pub const RECORD: usize = 832;
+
+// The step of the call that steps and reads: as an answer, the low words of eight numbers, and their high words.
+pub const STEP: usize = 1_072;
 
 // The notes that are lent.
 pub const NOTES: usize = 2_048;

@@ -8,7 +8,7 @@ use mathlib.Core.List.{List, [], _∷_}
 use lib.ListN.{length, take, drop}
 use lib.Dec.{eqb, ltb}
 use borrow.Author.Tests.{eq-eqb, ne-eqb, eqb-true, le-leb, lt-ltb, le-ltb}
-use Rattle.lin_spec.specs.Base.{pick, null, ascii, any}
+use Rattle.lin_spec.specs.Base.{pick, null, ascii, any, keep}
 use Rattle.lin_spec.specs.Records.{endOf, part}
 use Rattle.lin_spec.specs.Refusals.{unless, tooLong, notUtf8, sat}
 use Rattle.lin_spec.specs.Refusals.Answer.{refused, accepted}
@@ -23,15 +23,17 @@ use Rattle.lin_spec.specs.Tokens.{cut}
 use Rattle.lin_spec.specs.Cards.{field}
 use Rattle.lin_spec.specs.Cursor.{findFrom}
 use Rattle.lin_spec.specs.Reading.{stream}
-use Rattle.lin_spec.specs.File.{Section as Part, section, holds, leads, partAt, Standing, Visit, after, visit, openBoards}
-use Rattle.lin_spec.specs.File.Visit.{ended}
+use Rattle.lin_spec.specs.File.{Section as Part, section, holds, leads, partAt, boardsOf, Standing, Visit, remaining, firstOf, after, visit, nextBoard, openBoards}
+use Rattle.lin_spec.specs.File.Visit.{found, ended}
 use Rattle.lin_spec.specs.declared.Span.{Span}
 use Rattle.lin_spec.proofs.Base.{and-left, and-right, picked, split}
 use Rattle.lin_spec.proofs.Records.{part-length, part-rest}
 use Rattle.lin_spec.proofs.Cursor.{find-within, find-after, cut-at, cut-end}
-use Rattle.lin_spec.proofs.File.{lineAt, partEnd, visit-is, upTo, none-yet, stream-take}
-use Rattle.lin_spec.proofs.File.{line-stops, part-later}
-use Rattle.sections.specs.Sections.{sectionOf, standingOf}
+use Rattle.lin_spec.proofs.File.{lineAt, partEnd, partFrom, visit-is, upTo, none-yet, stream-take}
+use Rattle.lin_spec.proofs.File.{line-stops, part-later, Found, Visited, visits}
+use Rattle.lin_spec.proofs.Steps.{front-board, front-other, number-other, same-lines}
+use Rattle.sections.specs.Sections.{sectionOf, standingOf, visitOf, past}
+use Rattle.sections.specs.declared.sections.BoardStep.{BoardStep}
 use Rattle.sections.specs.declared.sections.Section.{Section}
 use Rattle.sections.specs.declared.sections.BoardCursor.{BoardCursor}
 use Rattle.commands.specs.Commands.{Marks}
@@ -191,41 +193,77 @@ null-nil : {A : Type 0} (l : List A) → null l ≡ true → l ≡ []
 null-nil [] h = refl
 null-nil (a ∷ l) h = absurd (false≢true h)
 
+-- with the place that follows a line, or a part
+line-past : (c : Standing) (p : Part) → c .lines ≡ true → past c p (p .stop + 1) ≡ found (c .number) p (after c p)
+line-past c p l = simp l
+
+part-past : (c : Standing) (p : Part) → c .lines ≡ false → past c p (p .stop) ≡ found (c .number) p (after c p)
+part-past c p l = simp l
+
 module _ (s : List ℕ) (c : BoardCursor) where
+  abbrev st : Standing
+  st = standingOf c
+
   module _ (l : c .lines ≡ true) where
-    pub line-ended : length s < c .at → ended (standingOf c) ≡ visit s (standingOf c)
-    unfolding visit
-    line-ended h =
-        picked (λ (x : Visit). ended (standingOf c) ≡ x) (c .lines)
-        (λ _. picked (λ (x : Visit). ended (standingOf c) ≡ x) (ltb (length s) (c .at)) (λ _. refl) (λ q. absurd (differ (lt-ltb (length s) (c .at) h) q)))
-        (λ q. absurd (differ l q))
+    pub line-ended : length s < c .at → ended st ≡ visit s st
+    line-ended h = sym (visit-is s st ∙ simp (l, lt-ltb (length s) (c .at) h))
 
-    pub line-passed : c .at ≤ length s → (p : Section) → sectionOf p ≡ lineAt s (c .at) → {r : Visit} → r ≡ after (standingOf c) (sectionOf p) (p .stop + 1) → r ≡ visit s (standingOf c)
-    line-passed h p e {r} f =
-        subst (λ (x : Visit). r ≡ x) (sym (visit-is s (standingOf c)))
-        (picked (λ (x : Visit). r ≡ x) (c .lines)
-        (λ _. picked (λ (x : Visit). r ≡ x) (ltb (length s) (c .at)) (λ q. absurd (differ q (le-ltb (length s) (c .at) h))) (λ _. f ∙ ap (λ (q : Part). after (standingOf c) q (q .stop + 1)) e))
-        (λ q. absurd (differ l q)))
+    pub line-passed : c .at ≤ length s → (p : Section) → sectionOf p ≡ lineAt s (c .at) → {r : Visit} → r ≡ past st (sectionOf p) (p .stop + 1) → r ≡ visit s st
+    line-passed h p e f =
+        f ∙ line-past st (sectionOf p) l ∙ ap (λ (q : Part). found (c .number) q (after st q)) e ∙ sym (visit-is s st ∙ simp (l, le-ltb (length s) (c .at) h))
 
-  module _ (l : c .lines ≡ false) (p : Section) (e : sectionOf p ≡ partAt s (c .at) (partEnd (c .at) (c .at) (c .at) (stream s (c .at)))) where
+  module _ (l : c .lines ≡ false) (p : Section) (e : sectionOf p ≡ partFrom s (c .at)) where
     stop-is : p .stop ≡ partEnd (c .at) (c .at) (c .at) (stream s (c .at))
     stop-is = ap (λ (q : Part). q .stop) e
 
-    pub part-ended : p .stop ≤ c .at → ended (standingOf c) ≡ visit s (standingOf c)
-    unfolding visit
-    part-ended h =
-        picked (λ (x : Visit). ended (standingOf c) ≡ x) (c .lines) (λ q. absurd (differ q l))
-        (λ _. picked (λ (x : Visit). ended (standingOf c) ≡ x) (null (stream s (c .at))) (λ _. refl) (λ q. absurd (let z = part-later s (c .at) q .0 in let y = stop-is in let x : ⊥ = omega arith in x)))
+    pub part-ended : p .stop ≤ c .at → ended st ≡ visit s st
+    part-ended h = go (null (stream s (c .at))) refl
+      where
+        go : (t : Bool) → null (stream s (c .at)) ≡ t → ended st ≡ visit s st
+        go true n = sym (visit-is s st ∙ simp (l, n))
+        go false n = absurd (let z = part-later s (c .at) n .0 in let y = stop-is in let x : ⊥ = omega arith in x)
 
-    pub part-passed : c .at < p .stop → {r : Visit} → r ≡ after (standingOf c) (sectionOf p) (p .stop) → r ≡ visit s (standingOf c)
+    pub part-passed : c .at < p .stop → {r : Visit} → r ≡ past st (sectionOf p) (p .stop) → r ≡ visit s st
     unfolding partEnd
-    part-passed h {r} f =
-        subst (λ (x : Visit). r ≡ x) (sym (visit-is s (standingOf c)))
-        (picked (λ (x : Visit). r ≡ x) (c .lines) (λ q. absurd (differ q l))
-        (λ _.
-        picked (λ (x : Visit). r ≡ x) (null (stream s (c .at)))
-        (λ q. absurd (let y : p .stop ≡ c .at = stop-is ∙ ap (partEnd (c .at) (c .at) (c .at)) (null-nil (stream s (c .at)) q) in let x : ⊥ = omega arith in x))
-        (λ _. f ∙ ap (λ (u : Part). after (standingOf c) u (u .stop)) e)))
+    part-passed h {r} f = go (null (stream s (c .at))) refl
+      where
+        go : (t : Bool) → null (stream s (c .at)) ≡ t → r ≡ visit s st
+        go true n = absurd (let y : p .stop ≡ c .at = stop-is ∙ ap (partEnd (c .at) (c .at) (c .at)) (null-nil (stream s (c .at)) n) in let x : ⊥ = omega arith in x)
+        go false n = f ∙ part-past st (sectionOf p) l ∙ ap (λ (q : Part). found (c .number) q (after st q)) e ∙ sym (visit-is s st ∙ simp (l, n))
+
+-- The search for the next board: what it gives from a cursor on its way is what it gives from where it began
+
+pub record Seeking (s : List ℕ) (c₀ c : Standing) : Type 0 where
+  pub same : firstOf c₀ (boardsOf (remaining s c)) ≡ nextBoard s c₀
+  pub number : c .number ≡ c₀ .number
+  pub lines : c .lines ≡ c₀ .lines
+
+pub seeking-begins : (s : List ℕ) (c : Standing) → Seeking s c c
+unfolding nextBoard
+seeking-begins s c = record { same = refl; number = refl; lines = refl }
+
+-- what a step that was called for and taken apart says
+pub seen : (s : List ℕ) (c : BoardCursor) (r v : BoardStep) → visitOf r ≡ visit s (standingOf c) → r ≡ v → Visited s (standingOf c) (visitOf v)
+seen s c r v e f = visits s (standingOf c) (visitOf v) (sym e ∙ ap visitOf f)
+
+module _ (s : List ℕ) (c₀ c : Standing) (k : Seeking s c₀ c) where
+  module _ (n : ℕ) (p : Part) (d : Standing) (f : Found s c n p d) where
+    pub seeking-on : p .board ≡ false → Seeking s c₀ d
+    seeking-on h =
+        record {
+          same = ap (firstOf c₀) (sym (front-other s c n p d f h)) ∙ k .same;
+          number = number-other s c n p d f h ∙ k .number;
+          lines = same-lines s c n p d f ∙ k .lines;
+        }
+
+    pub seeking-found : p .board ≡ true → found n p d ≡ nextBoard s c₀
+    seeking-found h =
+        let a : after c p ≡ after c₀ p = (let l = k .lines in let m = k .number in rw (l, m) refl) in
+        ap (λ (i : ℕ). found i p d) (f .number ∙ k .number) ∙ ap (found (c₀ .number) p) (f .cursor ∙ a) ∙ ap (firstOf c₀) (sym (front-board s c n p d f h)) ∙ k .same
+
+  pub seeking-ended : remaining s c ≡ [] → ended c₀ ≡ nextBoard s c₀
+  unfolding keep
+  seeking-ended e = ap (λ (ps : List Part). firstOf c₀ (boardsOf ps)) (sym e) ∙ k .same
 
 -- Opening, by the answer of `open`
 module _ (s : List ℕ) (o : Opened) (e : openedAt o ≡ openText s) where

@@ -1,4 +1,7 @@
 -- The board cursor's answers as lin_spec's. (01: File)
+use Prim.Native.Nat.{ℕ, _+_}
+use Rattle.lin_spec.specs.Base.{pick}
+use Rattle.lin_spec.specs.Refusals.{sat}
 use Rattle.lin_spec.specs.Refusals.{Answer}
 use Rattle.lin_spec.specs.Refusals.Answer.{refused, accepted}
 use Rattle.lin_spec.specs.File.{Section as Part, section, Standing, Visit}
@@ -23,3 +26,7 @@ openedOf (Refused r) = refused r
 abbrev pub visitOf : BoardStep → Visit
 visitOf (Found n p c) = found n (sectionOf p) (standingOf c)
 visitOf (Ended c) = ended (standingOf c)
+
+-- a section that is given, with the cursor at a place after it
+abbrev pub past : Standing → Part → (at : ℕ) → Visit
+past c p at = found (c .number) p (record { at = at; number = pick (p .board) (sat (c .number + 1)) (c .number); lines = c .lines })

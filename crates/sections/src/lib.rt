@@ -6,6 +6,5 @@ pub use sections::BoardStep;
 pub use sections::OpenedBoards;
 pub use sections::Section;
 pub use sections::holds_qx;
-pub use sections::moved_back;
+pub use sections::next_board;
 pub use sections::open_boards;
-pub use sections::passed;

@@ -24,9 +24,9 @@ ghost use lib.Dec.{eqb};
 ghost use Rattle.lin_spec.specs.Base.{pick, ascii};
 ghost use Rattle.lin_spec.specs.Refusals.{sat};
 ghost use Rattle.lin_spec.specs.Reading.{stream};
-ghost use Rattle.lin_spec.specs.File.{holds, partAt, after, visit, openBoards};
+ghost use Rattle.lin_spec.specs.File.{holds, partAt, visit, nextBoard, openBoards};
 ghost use Rattle.lin_spec.proofs.File.{lineAt, partEnd};
-ghost use Rattle.sections.specs.Sections.{sectionOf, standingOf, openedOf, visitOf};
+ghost use Rattle.sections.specs.Sections.{sectionOf, standingOf, openedOf, visitOf, past};
 
 // A part or a line of a file, from one place up to another, and whether it is a board.
 pub struct Section {
@@ -74,7 +74,7 @@ pub fn holds_qx(text: &[u8]) -> bool
 }
 
 // The place to which a qx is moved back: over mn and pn it stays, else it is the place after the token.
-pub fn moved_back(k: u8, back: usize, next: usize) -> usize
+fn moved_back(k: u8, back: usize, next: usize) -> usize
     ensures { λ r. ⌜ r ≡ pick (eqb k 6 || eqb k 4) back next ⌝ }
 {
     if (k == MN) | (k == PN) {
@@ -149,8 +149,8 @@ fn next_number(number: usize, board: bool) -> usize
 }
 
 // A section, with the cursor after it.
-pub fn passed(c: BoardCursor, p: Section, at: usize) -> BoardStep
-    ensures { λ r. ⌜ visitOf r ≡ after (standingOf c) (sectionOf p) at ⌝ }
+fn passed(c: BoardCursor, p: Section, at: usize) -> BoardStep
+    ensures { λ r. ⌜ visitOf r ≡ past (standingOf c) (sectionOf p) at ⌝ }
 {
     let cursor = BoardCursor {
         at,
@@ -177,6 +177,26 @@ impl BoardCursor {
             return BoardStep::Ended(self);
         }
         passed(self, p, p.stop)
+    }
+}
+
+// The next board's section, with the cursor after it; sections that are no board are passed. Without one, the cursor where it was.
+pub fn next_board(text: &[u8], cursor: BoardCursor) -> BoardStep
+    ensures { λ r. ⌜ visitOf r ≡ nextBoard (now (text .entry)) (standingOf cursor) ⌝ }
+{
+    let mut c = cursor;
+    loop {
+        match c.next(text) {
+            BoardStep::Found(n, p, next) => {
+                if p.board {
+                    return BoardStep::Found(n, p, next);
+                }
+                c = next;
+            }
+            BoardStep::Ended(_) => {
+                return BoardStep::Ended(cursor);
+            }
+        }
     }
 }
 

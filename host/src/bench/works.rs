@@ -4,8 +4,7 @@
 use crate::clock::milliseconds;
 use lin_host_rust::{
     boards::{self, LinHeading, ROW},
-    files::{self, BoardCursor, Boards},
-    pbn,
+    files, pbn,
     tokens::{self, Cursor, Span, Token},
     upstream,
     writer::Gathered,
@@ -205,14 +204,23 @@ fn boards_by(text: &str, runs: usize, mut read: impl FnMut(&[u8]) -> LinHeading)
     let bytes = text.as_bytes();
     let read_all = || {
         let mut seen = (0, (0, 0));
-        for board in Boards::open(black_box(bytes)).expect("a text within the limit") {
-            let h = read(board.text);
-            black_box(&h);
-            seen.0 += 1;
-            seen.1 .0 += h.calls as usize;
-            seen.1 .1 += h.cards as usize;
+        let opened = files::open_boards_numbers(black_box(bytes));
+        assert_eq!(opened.answer.refusal, 0, "a text within the limit");
+        let (mut at, mut number) = (opened.at, opened.number);
+        loop {
+            let step = files::next_board_numbers(bytes, at, number, opened.lines);
+            if black_box(&step).found == 0 {
+                return seen;
+            }
+            (at, number) = (step.next_at, step.next_number);
+            if step.board == 1 {
+                let h = read(&bytes[step.start as usize..step.stop as usize]);
+                black_box(&h);
+                seen.0 += 1;
+                seen.1 .0 += h.calls as usize;
+                seen.1 .1 += h.cards as usize;
+            }
         }
-        seen
     };
     let parse = || parse_lin_file(black_box(text)).expect("no error");
     in_turn(text.len(), runs, parse, read_all, |all, seen| {
@@ -235,18 +243,19 @@ fn stepping(text: &str, runs: usize) -> Times {
     let bytes = text.as_bytes();
     let read_all = || {
         let mut seen = (0, (0, 0));
-        let mut cursor = BoardCursor::open(black_box(bytes)).expect("a text within the limit");
+        let opened = files::open_boards_numbers(black_box(bytes));
+        assert_eq!(opened.answer.refusal, 0, "a text within the limit");
+        let (mut at, mut number) = (opened.at, opened.number);
         loop {
-            let read = cursor.read(bytes, &mut rows, &mut cards);
-            if black_box(&read).section.found == 0 {
+            let (rows, cards) = (&mut rows, &mut cards);
+            let read = files::read_board_numbers(bytes, at, number, opened.lines, rows, cards);
+            if black_box(&read).found == 0 {
                 return seen;
             }
-            cursor = cursor.after(read.section);
-            if read.section.board == 1 {
-                seen.0 += 1;
-                seen.1 .0 += read.heading.calls as usize;
-                seen.1 .1 += read.heading.cards as usize;
-            }
+            (at, number) = (read.next_at, read.next_number);
+            seen.0 += 1;
+            seen.1 .0 += read.calls as usize;
+            seen.1 .1 += read.cards as usize;
         }
     };
     let parse = || parse_lin_file(black_box(text)).expect("no error");

@@ -92,7 +92,7 @@ fn enough(bytes: &[u8], read: Read, board: &Board, more: [usize; 2]) -> Same {
     same("with enough rows", &calls, &board.calls)?;
     want_rows[..words].copy_from_slice(&rows.lent()[..words]);
     rows.holds(&want_rows)?;
-    let play: Vec<u8> = board.play.iter().map(|c| c.0).collect();
+    let play: Vec<u8> = board.play.iter().map(|c| c.number()).collect();
     want_cards[..places].copy_from_slice(&play);
     cards.holds(&want_cards)
 }

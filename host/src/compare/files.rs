@@ -1,16 +1,15 @@
 //! The boards of a file against upstream's, by number and through the cursor;
-//! their count and the finder; the cursor's step against the model.
+//! their count and the finder; the cursor's step over sections against the
+//! model.
 
 use super::{
     boards::{as_upstream, lent, refused_heading, refused_in_any},
+    reader::{reads, walk},
     same, Same,
 };
 use crate::{
-    boards::{self, Board, Card, ROW},
-    files::{self, BoardCursor, Boards, LinBoards, LinSection},
-    model,
-    tokens::Part,
-    Refusal, LIMIT,
+    files::{self, Boards, LinBoards},
+    model, Refusal, LIMIT,
 };
 use oracle::lin::{parse_lin_file, LinData};
 
@@ -32,6 +31,7 @@ pub fn file(bytes: &[u8]) -> Same {
     }
     through_cursor(bytes, &want)?;
     through_reader(bytes, &want)?;
+    walked(bytes)?;
     names(bytes, &want)
 }
 
@@ -89,6 +89,16 @@ fn through_reader(bytes: &[u8], want: &[LinData]) -> Same {
     same("a board after the end", boards.next().map(number), None)
 }
 
+/// A walk by the step that reads, over parts and over lines, whichever the file
+/// has. The model reads a text once for each section: long texts have no walk.
+fn walked(bytes: &[u8]) -> Same {
+    if bytes.len() > 10_000 {
+        return Ok(());
+    }
+    walk(bytes, 0)?;
+    walk(bytes, 1)
+}
+
 /// The finder for the first names of the file, for names beside them and for
 /// one that is no text.
 fn names(bytes: &[u8], want: &[LinData]) -> Same {
@@ -118,9 +128,10 @@ fn refused(bytes: &[u8], refusal: Refusal) -> Same {
         at,
         number,
         lines,
-    } = BoardCursor::open_numbers(bytes);
+    } = files::open_boards_numbers(bytes);
     same("boards", answer.read(), Err(refusal))?;
-    same("cursor refused", (at, number, lines), (0, 0, 0))
+    same("cursor refused", (at, number, lines), (0, 0, 0))?;
+    walked(bytes)
 }
 
 /// The finder over any bytes: refused by 1 and 2, each of the file and then of
@@ -143,43 +154,11 @@ pub fn name(bytes: &[u8], name: &[u8]) -> Same {
 /// 0 is for lines.
 pub fn visit(bytes: &[u8], at: u64, number: u64) -> Same {
     for lines in [0, 1, 2, u32::MAX] {
-        let cursor = BoardCursor { at, number, lines };
         let want = model::visit(bytes, at, number, lines);
-        same(&format!("step of {cursor:?}"), cursor.step(bytes), want)?;
-        reads(bytes, cursor, want).map_err(|d| format!("read by {cursor:?}: {d}"))?;
+        let got = files::next_board_numbers(bytes, at, number, lines);
+        same(&format!("step of {at}, {number}, {lines}"), got, want)?;
     }
     Ok(())
-}
-
-/// The step that reads, with places for any board and with as many as the board
-/// needs and fewer: the same step, and the board that upstream reads of the
-/// section. A section that is no text has no such board: there the step is held
-/// to, and what is lent to the board that was read with places for any.
-fn reads(bytes: &[u8], cursor: BoardCursor, step: LinSection) -> Same {
-    let most = bytes.len() / 4;
-    let (mut rows, mut cards) = (vec![0; ROW * most], vec![0; most]);
-    let read = cursor.read(bytes, &mut rows, &mut cards);
-    same("its step", read.section, step)?;
-    let part = Part {
-        start: step.start,
-        len: step.stop - step.start,
-    };
-    let heading = read
-        .heading
-        .read(bytes)
-        .map_err(|r| format!("refused: {r:?}"))?;
-    let calls = boards::calls(bytes, &rows[..ROW * heading.calls]);
-    let play = cards[..heading.cards].iter().map(|c| Card(*c)).collect();
-    let got = Board::new(heading, calls, play);
-    if let Ok(text) = std::str::from_utf8(part.of(bytes)) {
-        let Ok(want) = oracle::lin::parse_lin(text);
-        as_upstream(&got, &want)?;
-    }
-    lent(
-        bytes,
-        &|rows, cards| cursor.read(bytes, rows, cards).heading,
-        &got,
-    )
 }
 
 /// Steps from every place of these bytes, and from places beyond them.
@@ -188,6 +167,7 @@ pub fn visits(bytes: &[u8]) -> Same {
     let beyond = [1 << 32, (1 << 32) + 1, 1 << 63, u64::MAX - 1, u64::MAX];
     for at in (0..=n + 3).chain(beyond) {
         visit(bytes, at, at)?;
+        reads(bytes, at, at)?;
     }
     (0..=n).try_for_each(|at| visit(bytes, at, u64::MAX))
 }

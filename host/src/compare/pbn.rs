@@ -50,12 +50,7 @@ fn cleaned(text: &[u8], raw: Span, notes: &NoteWords) -> Same {
         &made.auction[0].annotation,
         &want.as_ref().map(clean),
     )?;
-    let notes = notes.iter().map(|(n, t)| (*n, t.as_bytes())).collect();
-    same(
-        "as a text",
-        pbn::annotation_text(raw.as_bytes(), &notes),
-        Ok(want),
-    )
+    same("as a text", pbn::annotation_text(raw, &notes), Ok(want))
 }
 
 /// The text in outputs that just fit, are longer, and are a byte smaller, or
@@ -77,8 +72,11 @@ pub fn annotations(text: &[u8], raw: Span, notes: &NoteWords) -> Same {
 /// How many bytes, words of rows and places for cards are lent.
 #[derive(Debug, Clone, Copy)]
 pub struct Sizes {
+    /// Bytes of the output.
     pub bytes: usize,
+    /// Words of the rows.
     pub words: usize,
+    /// Places for cards.
     pub places: usize,
 }
 

@@ -27,6 +27,7 @@ pub fn round(rng: &mut Rng, report: &mut Report) {
     }
     written(rng, report);
     pair(rng, report);
+    reads(rng, report);
     match rng.below(3) {
         0 => file(rng, report),
         1 => appends(rng, report),
@@ -165,6 +166,53 @@ fn visits(rng: &mut Rng, report: &mut Report, bytes: &[u8]) -> Same {
         compare::visit(bytes, at as u64, number)?;
     }
     Ok(())
+}
+
+/// Steps that read a board, from some places of any bytes and with any number,
+/// with rows and places that at times are too few; and a walk from the start.
+fn reads(rng: &mut Rng, report: &mut Report) {
+    let bytes = read_bytes(rng);
+    for _ in 0..6 {
+        let at = match rng.below(8) {
+            0 => *rng.pick(&[bytes.len() as u64 + 5, 1 << 32, u64::MAX]),
+            1 | 2 => 0,
+            _ => rng.below(bytes.len() + 3) as u64,
+        };
+        let number = *rng.pick(&[0, 1, u64::from(u32::MAX), u64::MAX - 1, u64::MAX]);
+        let lines = *rng.pick(&[0, 0, 1, 1, 2, u32::MAX]);
+        let cursor = (at, number, lines);
+        let lent = [rng.below(24), rng.below(4)];
+        let outcome = compare::read_board(&bytes, cursor, lent);
+        report.add(Kind::Reads, outcome, || {
+            format!("file {}, {cursor:?}, {lent:?}", bytes.escape_ascii())
+        });
+    }
+    let lines = rng.below(2) as u32;
+    let outcome = compare::walk(&bytes, lines);
+    report.add(Kind::Walks, outcome, || {
+        format!("file {}, lines {lines}", bytes.escape_ascii())
+    });
+}
+
+/// A file of some boards, at times with a fault anywhere or near its end, or any
+/// bytes.
+fn read_bytes(rng: &mut Rng) -> Vec<u8> {
+    let mut bytes = match rng.below(8) {
+        0 => any_bytes(rng),
+        1 => any_file(rng),
+        _ => samples::file(rng, 14).into_bytes(),
+    };
+    match rng.below(4) {
+        0 => texts::damaged(rng, &bytes, 2),
+        1 => {
+            // the first boards are well-formed
+            let last = bytes.len() / 4;
+            let place = bytes.len() - rng.below(last + 1);
+            bytes.insert(place, *rng.pick(&[0xFF, 0xC3, 0x80, 0xE2]));
+            bytes
+        }
+        _ => bytes,
+    }
 }
 
 /// A document of few rows: spans at the bounds of characters for the most

@@ -190,9 +190,13 @@ impl Laid {
 
 /// A board as the export gives it: the board, its rows and its texts.
 pub struct Told {
+    /// The board without its rows.
     pub board: LinBoard,
+    /// Six words for each call.
     pub rows: Vec<u32>,
+    /// A byte for each card of the play.
     pub cards: Vec<u8>,
+    /// The texts, back to back.
     pub texts: Vec<u8>,
 }
 
@@ -223,7 +227,11 @@ impl From<&LinData> for Told {
         Told {
             board,
             rows,
-            cards: made.play.iter().map(|c| upstream::card(c).0).collect(),
+            cards: made
+                .play
+                .iter()
+                .map(|c| upstream::card(c).number())
+                .collect(),
             texts: laid.0,
         }
     }

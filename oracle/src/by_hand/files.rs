@@ -3,6 +3,8 @@
 
 use super::*;
 
+mod reader;
+
 /// Every entry refuses the file so, whatever is lent, and for a board that it has as for
 /// one that it has not.
 fn closed(s: &mut Steps, number: u32, carried: u64) {
@@ -46,29 +48,6 @@ fn few(s: &mut Steps, text: &[u8], number: u64, words: u32, kind: u32) {
     s.case(0);
 }
 
-/// The step that reads, from the first byte: refused by 3 with so many words, over
-/// parts or lines.
-fn few_read(s: &mut Steps, text: &[u8], lines: u32, words: u32, kind: u32) {
-    s.lend(TEXT, text);
-    s.long(NUMBER, 0);
-    s.long(SECOND, 0);
-    s.set(LINES, &[lines]);
-    stays(s, Call::ReadBoard, [words, 0], 3, kind, 1);
-    s.case(0);
-}
-
-/// A text that is too long is refused by 1 whatever is lent, and the step is made.
-fn long_read(s: &mut Steps, lines: u32) {
-    s.long(NUMBER, 0);
-    s.long(SECOND, 0);
-    s.set(LINES, &[lines]);
-    stays(s, Call::ReadBoard, [18, 3], 1, 0, 0);
-    s.call(Call::ReadStep);
-    let found = if lines == 0 { 0 } else { LONG as u32 };
-    s.is(ANSWER, &[lines, 0, 0, found, 0]);
-    s.case(0);
-}
-
 /// The finder is answered so.
 fn finds(s: &mut Steps, number: u32, value: u64) {
     s.call(Call::FindName);
@@ -105,9 +84,6 @@ fn numbers(s: &mut Steps) {
     few(s, two, 0, 5, 0);
     few(s, two, 0, 6, 1);
     few(s, two, 1, 0, 1);
-    few_read(s, b"mb|p|", 1, 0, 0);
-    few_read(s, two, 0, 5, 0);
-    few_read(s, two, 0, 6, 1);
 }
 
 /// Spaces, one too many and as many as may be, then with a last byte that is not UTF-8: 1
@@ -115,8 +91,6 @@ fn numbers(s: &mut Steps) {
 fn long(s: &mut Steps) {
     spaces(s, b"", LONG);
     closed(s, 1, 0);
-    long_read(s, 0);
-    long_read(s, 1);
     spaces_ill(s, LONG);
     closed(s, 1, 0);
     spaces_ill(s, LIMIT);
@@ -167,5 +141,6 @@ pub fn put(s: &mut Steps) {
     numbers(s);
     long(s);
     names(s);
-    s.say("by hand files", &["refusals"]);
+    reader::put(s);
+    s.say("by hand files", &["refusals", "reading steps"]);
 }

@@ -158,10 +158,9 @@ fn ends(s: &mut Steps, text: &[u8], at: u64, rest: &[u8]) {
     s.same(HIGH + 5, NUMBER + 1);
     s.is(HIGH + 6, &[0, 0]);
     s.call(Call::Trailing);
-    s.same(ANSWER, NUMBER);
-    s.same(HIGH, NUMBER + 1);
-    s.is(ANSWER + 1, &[rest.len() as u32, 0, 0, 0, 0, 0, 0]);
-    s.is(HIGH + 1, &[0; 7]);
+    let start = at.min(text.len() as u64) as u32;
+    s.is(ANSWER, &[start, rest.len() as u32, 0, 0, 0, 0, 0, 0]);
+    s.is(HIGH, &[0; 8]);
     if !rest.is_empty() {
         s.shows(ANSWER, rest);
     }

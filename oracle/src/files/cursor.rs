@@ -52,23 +52,48 @@ fn seek(b: &mut Steps) {
     b.jump_if(SEEK, FOUND, 1);
 }
 
-/// The same part and its board by the step that reads, with places to spare and
-/// with exactly enough. The answer of the step before is there again.
+/// The next board by the step that reads, from where the cursor stands, with places
+/// to spare and with exactly enough.
 fn read(b: &mut Steps) {
-    b.copy(SECTION, ANSWER, 8, 1);
+    b.copy(NUMBER, AT, 2, 1);
+    b.copy(SECOND, PASSED, 2, 1);
     b.call(Call::ReadBoard);
     b.go(HEADED);
     b.go(ROWED);
+    b.copy(SECTION, STEP, 8, 1);
+    b.is(STEP_HIGH, &[0; 8]);
     b.copy(LENT_WORDS, WORDS_OF, 1, 1);
     b.copy(LENT_CARDS, CARDS_OF, 1, 1);
     b.call(Call::ReadBoard);
     b.go(HEADED);
     b.go(ROWED);
+    b.agree(STEP, SECTION, FOUR, 1, ZERO);
+    b.agree(STEP + 4, SECTION + 4, FOUR, 1, ZERO);
+    b.is(STEP_HIGH, &[0; 8]);
     b.set(LENT_WORDS, &[3_077, 512]);
-    b.call(Call::ReadStep);
-    b.agree(ANSWER, SECTION, FOUR, 1, ZERO);
-    b.agree(ANSWER + 4, SECTION + 4, FOUR, 1, ZERO);
-    b.is(HIGH, &[0; 8]);
+}
+
+/// It stepped to the part that was found by passing over those that are no boards.
+fn read_the_same(b: &mut Steps) {
+    b.agree(SECTION, ANSWER, FOUR, 1, ZERO);
+    b.agree(SECTION + 4, ANSWER + 5, TWO, 1, ZERO);
+    b.is(SECTION + 6, &[0, 0]);
+}
+
+/// There is no board more for the step that reads: the cursor stands, the board is
+/// fresh, and what is lent stays.
+fn read_none(b: &mut Steps) {
+    b.copy(NUMBER, AT, 2, 1);
+    b.copy(SECOND, PASSED, 2, 1);
+    b.set(LENT_WORDS, &[18, 3]);
+    b.call(Call::ReadBoard);
+    b.is(ANSWER, &[0; 16]);
+    b.go(FRESH);
+    b.go(UNTOUCHED);
+    b.is(STEP, &[0; 4]);
+    b.agree(STEP + 4, AT, ONE, 1, ZERO);
+    b.agree(STEP + 5, PASSED, ONE, 1, ZERO);
+    b.is(STEP + 6, &[0; 10]);
 }
 
 /// The board of the part, beside the same board by its number.
@@ -77,9 +102,10 @@ fn step(b: &mut Steps) {
     b.call(Call::FileBoard);
     b.copy(KEPT, BOARD, 21, 1);
     b.copy(KEPT + 256, FILLED_ROWS, MOST_WORDS as usize, 1);
+    read(b);
     b.go(SEEK);
     b.is(FOUND, &[2]);
-    read(b);
+    read_the_same(b);
     b.copy(WHOLE, TEXT, 2, 1);
     b.copy(BEGINS, ANSWER + 2, 1, 1);
     b.copy(TEXT, ANSWER + 2, 2, 1);
@@ -99,6 +125,7 @@ fn step(b: &mut Steps) {
 
 /// No part more, and the cursor stays; all boards were found.
 fn end(b: &mut Steps) {
+    read_none(b);
     b.go(SEEK);
     b.is(FOUND, &[0]);
     b.is(ANSWER, &[0; 5]);

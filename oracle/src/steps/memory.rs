@@ -28,6 +28,11 @@ pub const LENT_BOARD: usize = 320;
 pub const LENT_BOARD2: usize = 576;
 pub const RECORD: usize = 832;
 pub const NOTES: usize = 2_048;
+/// Where the step that reads laid its step: the low words of eight numbers, which are
+/// found, number, start, stop, the next place and the next number, then two of 0; and
+/// their high words.
+pub const STEP: usize = 1_072;
+pub const STEP_HIGH: usize = 1_080;
 /// The rows and cards that a call filled.
 pub const FILLED_ROWS: usize = 4_096;
 pub const FILLED_CARDS: usize = 7_296;

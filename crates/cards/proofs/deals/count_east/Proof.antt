@@ -10,7 +10,7 @@ use Rattle.cards.proofs.deals.count_east.Statement.{statement}
 use Rattle.cards.proofs.deals.count_east.Tie as tie
 
 field-at-requires : tie.Need-field-at-requires
-field-at-requires c κs = (c .before .pre) .2
+field-at-requires c κs = omega (arith, (c .before .pre) .2)
 
 is-blank-requires : tie.Need-is-blank-requires
 is-blank-requires c κs = search needs

@@ -1,6 +1,7 @@
 -- `file::file_heading` meets its contract.
 -- Assumes nothing.
 use Rattle.file.proofs.NumberLaws.{ready, given, stop-is, stop-within, heading-refused, heading-found, heading-missing}
+use native.Mathlib.Omega.{arith}
 use borrow.Author.Needs.{needs}
 use Rattle.file.proofs.numbers.file_heading.Statement.{statement}
 use Rattle.file.proofs.numbers.file_heading.Tie as tie
@@ -30,7 +31,7 @@ slice-aggregate-heading-at : tie.Need-slice-aggregate-heading-at
 slice-aggregate-heading-at c = stop-is _ _ ((given _ _ _ _ (c .before .before .before .before .find-board .ensures) (c .before .before .p .given .1)) .holds)
 
 heading-at-requires : tie.Need-heading-at-requires
-heading-at-requires c κs = stop-within _ _ ((given _ _ _ _ (c .before .before .before .before .find-board .ensures) (c .before .before .p .given .1)) .holds)
+heading-at-requires c κs = let h = stop-within _ _ ((given _ _ _ _ (c .before .before .before .before .find-board .ensures) (c .before .before .p .given .1)) .holds) in (omega (arith, h .0), h .1)
 
 enum-known-n : tie.Need-enum-known-n
 enum-known-n c = search needs

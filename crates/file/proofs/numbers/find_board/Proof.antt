@@ -1,6 +1,7 @@
 -- `file::find_board` meets its contract: a turn passes a section that is not the one looked for.
 -- Assumes nothing.
-use Rattle.file.proofs.NumberLaws.{Seeks, seen, seeks-begin, seeks-on, seeks-found, seeks-missing}
+use Rattle.sections.proofs.SectionLaws.{seen}
+use Rattle.file.proofs.NumberLaws.{Seeks, seeks-begin, seeks-on, seeks-found, seeks-missing}
 use Rattle.sections.specs.Sections.{standingOf}
 use lib.ListN.{length}
 use borrow.Author.Needs.{needs}

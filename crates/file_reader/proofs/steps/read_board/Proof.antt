@@ -1,25 +1,34 @@
--- `file_reader::read_board` meets its contract: each answer by the tests that led there.
+-- `file_reader::read_board` meets its contract: each answer by the step that was found.
 -- Assumes nothing.
 use denote.Ref.{now}
-use Rattle.file_reader.proofs.StepLaws.{step-inside, read-long, read-short, parts-within, ready}
+use Rattle.file_reader.proofs.StepLaws.{step-long, step-inside, step-found, step-ended}
 use borrow.Author.Needs.{needs}
 use Rattle.file_reader.proofs.steps.read_board.Statement.{statement}
 use Rattle.file_reader.proofs.steps.read_board.Tie as tie
 
-next-requires : tie.Need-next-requires
-next-requires c κs = search needs
-
-refused-requires : tie.Need-refused-requires
-refused-requires c κs = search needs
+unread-requires : tie.Need-unread-requires
+unread-requires c κs = search needs
 
 returns : tie.Need-returns
-returns c = read-long _ _ ((c .before .next) .result) ((c .before .next) .ensures) ((c .before .before .if1) .taken) _ ((c .refused) .ensures) _ _
+returns c = step-long (now (c .before .before .before .before .before .args .text)) (c .before .before .before .before .before .args .c) (now (c .before .before .before .before .before .args .rows)) (now (c .before .before .before .before .before .args .cards)) (c .before .if1 .taken) _ (c .unread .ensures)
 
-roomy-requires : tie.Need-roomy-requires
-roomy-requires c κs = parts-within (now ((c .before .before .before .before .before .before .before .before .before .args) .text)) ((c .before .before .before .before .before .before .before .before .before .args) .c) ((c .before .before .if2) .taken)
+next-board-requires : tie.Need-next-board-requires
+next-board-requires c κs = search needs
 
-read-parts-requires : tie.Need-read-parts-requires
-read-parts-requires c κs = ready (now ((c .before .before .before .before .before .before .before .before .before .before .before .before .before .args) .text)) ((c .before .before .before .before .before .before .before .before .before .before .before .before .before .args) .c) ((c .before .before .before .before .before .before .if2) .taken) _ _ ((c .before .before .before .before .before .before .before .before .before .if1) .left) ((c .before .before .before .roomy) .ensures ((c .before .before .if3) .taken))
+enum-known-n : tie.Need-enum-known-n
+enum-known-n c = search needs
+
+read-found-requires : tie.Need-read-found-requires
+read-found-requires c κs = step-inside (now (c .before .before .before .before .before .before .before .before .before .before .args .text)) (c .before .before .before .before .before .before .before .before .before .before .args .c) (now (c .before .before .before .before .before .before .before .before .before .before .args .rows)) (now (c .before .before .before .before .before .before .before .before .before .before .args .cards)) (c .before .before .before .before .before .before .if1 .left) _ (c .before .before .before .before .before .next-board .ensures) _ _ _ (c .before .before .before .n .given .1)
+
+enum-told : tie.Need-enum-told
+enum-told c = search needs
+
+none-left-requires : tie.Need-none-left-requires
+none-left-requires c κs = search needs
+
+unread-requires-2 : tie.Need-unread-requires-2
+unread-requires-2 c κs = search needs
 
 same-length : tie.Need-same-length
 same-length c = search needs
@@ -28,37 +37,24 @@ same-length-2 : tie.Need-same-length-2
 same-length-2 c = search needs
 
 returns-2 : tie.Need-returns-2
-returns-2 c = (c .before .before .before .before .read-parts) .ensures
-
-next-requires-2 : tie.Need-next-requires-2
-next-requires-2 c κs = search needs
-
-read-section-requires : tie.Need-read-section-requires
-read-section-requires c κs = step-inside _ _ ((c .before .before .next2) .result) ((c .before .before .next2) .ensures) ((c .before .before .before .before .before .before .if1) .left)
-
-same-length-3 : tie.Need-same-length-3
-same-length-3 c = search needs
-
-same-length-4 : tie.Need-same-length-4
-same-length-4 c = search needs
+returns-2 c = step-found (now (c .before .before .before .before .before .before .before .before .before .before .before .before .before .before .before .args .text)) (c .before .before .before .before .before .before .before .before .before .before .before .before .before .before .before .args .c) (now (c .before .before .before .before .before .before .before .before .before .before .before .before .before .before .before .args .rows)) (now (c .before .before .before .before .before .before .before .before .before .before .before .before .before .before .before .args .cards)) (c .before .before .before .before .before .before .before .before .before .before .before .if1 .left) _ (c .before .before .before .before .before .before .before .before .before .before .next-board .ensures) _ _ _ (c .before .before .before .before .before .before .before .before .n .given .1) (c .before .before .before .before .read-found .ensures)
 
 returns-3 : tie.Need-returns-3
-returns-3 c = read-short _ _ ((c .before .before .before .before .before .before .before .next2) .result) ((c .before .before .before .before .before .before .before .next2) .ensures) ((c .before .before .before .before .before .before .before .before .before .before .before .if1) .left) _ (now ((c .before .before .before .before .before .before .before .before .before .before .before .before .before .before .before .args) .rows)) (now ((c .before .before .before .before .before .before .before .before .before .before .before .before .before .before .before .args) .cards)) _ _ ((c .before .before .before .before .read-section) .ensures)
+returns-3 c = step-ended (now (c .before .before .before .before .before .before .before .before .before .args .text)) (c .before .before .before .before .before .before .before .before .before .args .c) (now (c .before .before .before .before .before .before .before .before .before .args .rows)) (now (c .before .before .before .before .before .before .before .before .before .args .cards)) (c .before .before .before .before .before .if1 .left) _ (c .before .before .before .before .next-board .ensures) _ (c .before .before .enum-told .given .1) _ (c .before .none-left .ensures) _ (c .unread2 .ensures)
 
 pub read-board-spec : {M : Type 1} → statement M
 read-board-spec =
     tie.close
     (tie.spec
-    next-requires
-    refused-requires
+    unread-requires
     returns
-    roomy-requires
-    read-parts-requires
+    next-board-requires
+    enum-known-n
+    read-found-requires
+    enum-told
+    none-left-requires
+    unread-requires-2
     same-length
     same-length-2
     returns-2
-    next-requires-2
-    read-section-requires
-    same-length-3
-    same-length-4
     returns-3)

@@ -1,7 +1,8 @@
 -- `finder::find_from` meets its contract: a turn passes a section.
 -- Assumes nothing.
+use Rattle.sections.proofs.SectionLaws.{seen}
 use Rattle.finder.proofs.FinderLaws.{Tally, tally-begin, tally-small, tally-on, tally-end}
-use Rattle.file.proofs.NumberLaws.{seen, found-holds}
+use Rattle.file.proofs.NumberLaws.{found-holds}
 use Rattle.sections.specs.Sections.{standingOf}
 use lib.ListN.{length}
 use borrow.Author.Needs.{needs}

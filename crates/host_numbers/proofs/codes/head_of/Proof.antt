@@ -8,8 +8,11 @@ use Rattle.host_numbers.proofs.codes.head_of.Tie as tie
 names-of-requires : tie.Need-names-of-requires
 names-of-requires c κs = search needs
 
-seat-of-requires : tie.Need-seat-of-requires
-seat-of-requires c κs = search needs
+cast-at : tie.Need-cast-at
+cast-at c = search needs
+
+at-requires : tie.Need-at-requires
+at-requires c κs = search needs
 
 vulnerability-of-requires : tie.Need-vulnerability-of-requires
 vulnerability-of-requires c κs = search needs
@@ -35,7 +38,8 @@ head-of-spec =
     tie.close
     (tie.spec
     names-of-requires
-    seat-of-requires
+    cast-at
+    at-requires
     vulnerability-of-requires
     text-of-requires
     text-of-requires-2

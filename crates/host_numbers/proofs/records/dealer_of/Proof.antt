@@ -8,11 +8,11 @@ use Rattle.host_numbers.proofs.records.dealer_of.Tie as tie
 returns : tie.Need-returns
 returns c = simp (eq-eqb _ _ (c .if1 .taken))
 
-seat-of-requires : tie.Need-seat-of-requires
-seat-of-requires c κs = search needs
+at-requires : tie.Need-at-requires
+at-requires c κs = search needs
 
 returns-2 : tie.Need-returns-2
-returns-2 c = simp (ne-eqb _ _ (c .before .if1 .left), c .seat-of .ensures)
+returns-2 c = simp (ne-eqb _ _ (c .before .if1 .left), c .at .ensures)
 
 pub dealer-of-spec : {M : Type 1} → statement M
-dealer-of-spec = tie.close (tie.spec returns seat-of-requires returns-2)
+dealer-of-spec = tie.close (tie.spec returns at-requires returns-2)

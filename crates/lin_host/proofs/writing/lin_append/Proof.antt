@@ -1,16 +1,18 @@
--- `lin_host::lin_append` meets its contract: the numbers of append's answer, with the same output.
+-- `lin_host::lin_append` meets its contract: the numbers of append's answer, with the same output. And what the types of its parameters say is so at the
+-- start of every call: eight words for the names, 208 counts.
 -- Assumes nothing.
-use mathlib.Core.Path.{_≡_, ap, _∙_}
-use lib.ListN.{length}
+use mathlib.Core.Path.{ap, _∙_}
 use denote.Ref.{now}
 use Rattle.host_numbers.specs.Answers.{outcomeNumbers}
+use Rattle.lin_host.specs.Mixed.{TypedNumbers}
 use Rattle.lin_host.proofs.WritingLaws.{appending}
+use Rattle.lin_host.proofs.Types.{numbers-typed}
 use borrow.Author.Needs.{needs}
 use Rattle.lin_host.proofs.writing.lin_append.Statement.{statement}
 use Rattle.lin_host.proofs.writing.lin_append.Tie as tie
 
-counts-long : (s : tie.Start) → length (s .args .t2 .counts) ≡ 208
-counts-long s = search needs
+lent-typed : (s : tie.Start) → TypedNumbers (s .args .t2)
+lent-typed s = numbers-typed (s .args .t2) _ (s .good .1 .0)
 
 bad-codes-requires : tie.Need-bad-codes-requires
 bad-codes-requires c κs = search needs
@@ -19,7 +21,7 @@ head-of-requires : tie.Need-head-of-requires
 head-of-requires c κs = search needs
 
 append-head-requires : tie.Need-append-head-requires
-append-head-requires c κs = counts-long (c .before .before .before .before .before .before .before .before .before)
+append-head-requires c κs = lent-typed (c .before .before .before .before .before .before .before .before .before) .counts
 
 written-requires : tie.Need-written-requires
 written-requires c κs = search needs

@@ -1,7 +1,8 @@
 -- `listing::lines_len` meets its contract: a turn measures the line of one section.
 -- Assumes nothing.
+use Rattle.sections.proofs.SectionLaws.{seen}
 use Rattle.listing.proofs.FileLaws.{Measured, measured-begin, measured-on, measured-end}
-use Rattle.file.proofs.NumberLaws.{seen, found-holds}
+use Rattle.file.proofs.NumberLaws.{found-holds}
 use Rattle.sections.specs.Sections.{standingOf}
 use lib.ListN.{length}
 use borrow.Author.Needs.{needs}

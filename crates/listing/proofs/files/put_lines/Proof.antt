@@ -1,7 +1,8 @@
 -- `listing::put_lines` meets its contract: a turn puts the line of one section.
 -- Assumes nothing.
+use Rattle.sections.proofs.SectionLaws.{seen}
 use Rattle.listing.proofs.FileLaws.{Listed, listed-begin, listed-room, listed-on, listed-end}
-use Rattle.file.proofs.NumberLaws.{seen, found-holds}
+use Rattle.file.proofs.NumberLaws.{found-holds}
 use Rattle.sections.specs.Sections.{standingOf}
 use lib.ListN.{length}
 use borrow.Author.Needs.{needs}

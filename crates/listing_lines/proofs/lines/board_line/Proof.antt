@@ -1,35 +1,45 @@
--- `listing_lines::board_line` meets its contract: its answer by the test that led there.
+-- `listing_lines::board_line` meets its contract: by the heading's verdict.
 -- Assumes nothing.
-use Rattle.listing_lines.proofs.Answers.{line-small, line-fits, line-done}
+use denote.Ref.{now}
+use mathlib.Core.Path.{sym, _∙_}
+use Rattle.listing_lines.proofs.Answers.{by-verdict}
 use borrow.Author.Needs.{needs}
 use Rattle.listing_lines.proofs.lines.board_line.Statement.{statement}
 use Rattle.listing_lines.proofs.lines.board_line.Tie as tie
 
-board-line-len-requires : tie.Need-board-line-len-requires
-board-line-len-requires c κs = search needs
+enum-told : tie.Need-enum-told
+enum-told c = search needs
 
-room-requires : tie.Need-room-requires
-room-requires c κs = search needs
+accepted-line-requires : tie.Need-accepted-line-requires
+accepted-line-requires c κs = search needs
 
-returns : tie.Need-returns
-returns c = line-small _ _ _ (c .before .before .board-line-len .ensures) _ (c .before .room .ensures) (c .if1 .taken)
+enum-known-verdict : tie.Need-enum-known-verdict
+enum-known-verdict c = search needs
 
-put-board-line-requires : tie.Need-put-board-line-requires
-put-board-line-requires c κs = line-fits _ _ _ (c .before .before .before .board-line-len .ensures) _ (c .before .before .room .ensures) (c .before .if1 .left)
+refusal-line-requires : tie.Need-refusal-line-requires
+refusal-line-requires c κs = search needs
 
 same-length : tie.Need-same-length
 same-length c = search needs
 
+returns : tie.Need-returns
+returns c = c .before .before .accepted-line .ensures ∙ sym (by-verdict (c .before .before .before .before .before .before .before .args .number) (c .before .before .before .before .before .before .before .args .heading) (now (c .before .before .before .before .before .before .before .args .out)) (c .before .before .before .before .enum-told .given .1))
+
+same-length-2 : tie.Need-same-length-2
+same-length-2 c = search needs
+
 returns-2 : tie.Need-returns-2
-returns-2 c = line-done _ _ _ (c .before .before .before .before .before .before .board-line-len .ensures) _ (c .before .before .before .before .before .room .ensures) (c .before .before .before .before .if1 .left) (c .before .before .put-board-line .ensures)
+returns-2 c = c .before .before .refusal-line .ensures ∙ sym (by-verdict (c .before .before .before .before .before .before .before .before .args .number) (c .before .before .before .before .before .before .before .before .args .heading) (now (c .before .before .before .before .before .before .before .before .args .out)) (c .before .before .before .before .before .verdict .given .1))
 
 pub board-line-spec : {M : Type 1} → statement M
 board-line-spec =
     tie.close
     (tie.spec
-    board-line-len-requires
-    room-requires
-    returns
-    put-board-line-requires
+    enum-told
+    accepted-line-requires
+    enum-known-verdict
+    refusal-line-requires
     same-length
+    returns
+    same-length-2
     returns-2)

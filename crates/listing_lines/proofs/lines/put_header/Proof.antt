@@ -9,7 +9,7 @@ slice-aggregate-put-bytes : tie.Need-slice-aggregate-put-bytes
 slice-aggregate-put-bytes c = search needs
 
 put-bytes-requires : tie.Need-put-bytes-requires
-put-bytes-requires c κs = rw header-is at (c .before .before .before .pre)
+put-bytes-requires c κs = record { room = (rw header-is at (c .before .before .before .pre)) .room }
 
 same-length : tie.Need-same-length
 same-length c = search needs

@@ -8,7 +8,7 @@ enum-told : tie.Need-enum-told
 enum-told c = search needs
 
 put-byte-requires : tie.Need-put-byte-requires
-put-byte-requires c κs = rw (c .before .enum-told .given .1) at (c .before .before .before .before .pre)
+put-byte-requires c κs = record { room = (rw (c .before .enum-told .given .1) at (c .before .before .before .before .pre)) .room }
 
 enum-known-claim : tie.Need-enum-known-claim
 enum-known-claim c = search needs
