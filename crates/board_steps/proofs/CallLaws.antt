@@ -21,7 +21,8 @@ use Rattle.lin_spec.proofs.Reading.{part-most}
 use Rattle.lin_spec.specs.declared.Span.{Span}
 use Rattle.commands.specs.Steps.{TokenAt}
 use Rattle.board_steps.specs.declared.calls.Bid.{Bid}
-use Rattle.board_steps.specs.Calls.{isPresent, placeOf, rowOf, rowWords, with, callsAfter, callsFrom, Bids}
+use Rattle.lin_spec.specs.Lent.{isPresent, placeOf, rowOf}
+use Rattle.board_steps.specs.Calls.{rowWords, with, callsAfter, callsFrom, Bids}
 use Rattle.commands.proofs.StepLaws.{command-is}
 
 -- at the end of the tokens

@@ -28,7 +28,8 @@ use Rattle.commands.specs.Steps.{TokenAt}
 use Rattle.fields.specs.Fields.{more}
 use Rattle.commands.proofs.StepLaws.{command-is}
 use Rattle.board_steps.specs.Head.{boardAt, freshHead, Stepped}
-use Rattle.board_steps.specs.Calls.{rowOf, rowWords}
+use Rattle.lin_spec.specs.Lent.{rowOf}
+use Rattle.board_steps.specs.Calls.{rowWords}
 use Rattle.board_steps.specs.Play.{before, cardOf}
 use Rattle.board_steps.specs.Storing.{bidWords, noteWords, noted, Fits, Stored}
 use Rattle.board_steps.specs.declared.heading.Head.{Head}

@@ -5,12 +5,13 @@ use mathlib.Core.List.{List, [], _∷_}
 use mathlib.Core.Option.{Option, none, some}
 use lib.ListN.{length}
 use Rattle.lin_spec.specs.Base.{pick, ascii}
-use Rattle.lin_spec.specs.Records.{span, optionOf, endOf}
+use Rattle.lin_spec.specs.Records.{optionOf, endOf}
 use Rattle.lin_spec.specs.White.{isCommand}
 use Rattle.lin_spec.specs.Tokens.{TokenOf}
 use Rattle.lin_spec.specs.Tokens.TokenOf.{token}
 use Rattle.lin_spec.specs.Board.{CallOf, callOf}
-use Rattle.lin_spec.specs.Reading.{spanText, stream, flag}
+use Rattle.lin_spec.specs.Reading.{spanText, stream}
+use Rattle.lin_spec.specs.Lent.{rowOf}
 use Rattle.lin_spec.specs.declared.Span.{Span}
 use Rattle.lin_spec.specs.declared.Call.{Call}
 use Rattle.board_steps.specs.declared.calls.Bid.{Bid}
@@ -20,18 +21,7 @@ use Rattle.board_steps.specs.declared.calls.NextCall.{NextCall}
 use Rattle.board_steps.specs.declared.calls.NextCall.the-variants.{Found, Ended}
 use Rattle.output.specs.Put.{joined}
 
--- a call as six numbers
-abbrev pub isPresent : Option Span → ℕ
-isPresent none = 0
-isPresent (some x) = 1
-
-abbrev pub placeOf : Option Span → Span
-placeOf none = span 0 0
-placeOf (some x) = x
-
-abbrev pub rowOf : CallOf Span → Call
-rowOf c = record { bid = c .bid; alerted = flag (c .alerted); annotated = isPresent (c .annotation); annotation = placeOf (c .annotation) }
-
+-- the words of a call that is six numbers
 abbrev pub rowPieces : Call → List (List ℕ)
 rowPieces c =
     (c .bid .start ∷ []) ∷ (c .bid .len ∷ []) ∷ (c .alerted ∷ []) ∷ (c .annotated ∷ []) ∷ (c .annotation .start ∷ []) ∷ (c .annotation .len ∷ []) ∷ []

@@ -10,7 +10,8 @@ use Rattle.lin_spec.specs.Board.{callOf}
 use Rattle.lin_spec.specs.Reading.{spanText, stream, callWords}
 use Rattle.lin_spec.specs.declared.Span.{Span}
 use Rattle.output.specs.Put.{joined}
-use Rattle.board_steps.specs.Calls.{rowOf, rowWords}
+use Rattle.lin_spec.specs.Lent.{rowOf}
+use Rattle.board_steps.specs.Calls.{rowWords}
 use Rattle.board_steps.specs.Head.{boardAt, freshHead, Leaves}
 use Rattle.board_steps.specs.declared.heading.Head.{Head}
 

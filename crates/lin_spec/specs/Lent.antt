@@ -10,6 +10,7 @@ use Rattle.lin_spec.specs.Base.{pick, any}
 use Rattle.lin_spec.specs.Records.{span, bytesAt, optionOf}
 use Rattle.lin_spec.specs.Refusals.{refuseIf, tooLong, passesEnd, illSpan, pastEnd, spanNotUtf8}
 use Rattle.lin_spec.specs.Board.{CallOf, BoardOf, mapBoard}
+use Rattle.lin_spec.specs.Reading.{flag}
 use Rattle.lin_spec.specs.declared.Span.{Span}
 use Rattle.lin_spec.specs.declared.MaybeClaim.{MaybeClaim}
 use Rattle.lin_spec.specs.declared.MaybeClaim.the-variants.{Absent, Claimed}
@@ -38,6 +39,18 @@ callRows ws = rowsOf callRow ws
 -- "bid span, alerted or not, annotation span or absent"
 abbrev pub callIn : Call → CallOf Span
 callIn c = record { bid = c .bid; alerted = not (eqb (c .alerted) 0); annotation = pick (eqb (c .annotated) 0) none (some (c .annotation)) }
+
+-- and such a call as six numbers: an annotation that is absent has no place
+abbrev pub isPresent : Option Span → ℕ
+isPresent none = 0
+isPresent (some x) = 1
+
+abbrev pub placeOf : Option Span → Span
+placeOf none = span 0 0
+placeOf (some x) = x
+
+abbrev pub rowOf : CallOf Span → Call
+rowOf c = record { bid = c .bid; alerted = flag (c .alerted); annotated = isPresent (c .annotation); annotation = placeOf (c .annotation) }
 
 pub record Lent : Type 0 where
   pub text : List ℕ

@@ -17,7 +17,7 @@ use Rattle.lin_spec.specs.Refusals.Answer.{refused, accepted}
 use Rattle.lin_spec.specs.Output.{overlay}
 use Rattle.lin_spec.specs.Document.{openText}
 use Rattle.lin_spec.specs.Reading.{stream, parseSpans, headingOf}
-use Rattle.lin_spec.specs.Lent.{callIn}
+use Rattle.lin_spec.specs.Lent.{callIn, rowOf}
 use Rattle.lin_spec.specs.declared.Span.{Span}
 use Rattle.lin_spec.specs.declared.Call.{Call}
 use Rattle.lin_spec.specs.declared.Heading.{Heading}
@@ -32,7 +32,7 @@ use Rattle.document.specs.Steps.{openedOf}
 use Rattle.document.specs.declared.tokens.Opened.{Opened}
 use Rattle.document.specs.declared.tokens.Opened.the-variants.{At, Refused}
 use Rattle.document.specs.declared.tokens.Cursor.{Cursor}
-use Rattle.board_steps.specs.Calls.{rowOf, callsFrom, CallAt, Gives}
+use Rattle.board_steps.specs.Calls.{callsFrom, CallAt, Gives}
 use Rattle.board_steps.specs.Head.{boardAt}
 use Rattle.board_steps.specs.declared.calls.NextCall.{NextCall}
 use Rattle.board_steps.specs.declared.calls.NextCall.the-variants.{Found, Ended}

@@ -7,8 +7,10 @@ use Rattle.lin_spec.specs.Records.{span, optionOf}
 use Rattle.lin_spec.specs.Output.{overlay}
 use Rattle.lin_spec.specs.Board.{CallOf}
 use Rattle.lin_spec.specs.Reading.{flag, maybeOf, annotationWords, callWords}
-use Rattle.lin_spec.specs.Lent.{callIn, callRows}
+use Rattle.lin_spec.specs.Lent.{callIn, callRows, rowOf, Lent}
 use Rattle.lin_spec.specs.declared.Span.{Span}
+use Rattle.lin_spec.specs.declared.Call.{Call}
+use Rattle.lin_spec.specs.declared.Board.{Board}
 use Rattle.rows.specs.declared.CallRow.{CallRow}
 
 -- the call of a row, and the row of a call
@@ -17,6 +19,14 @@ called r = record { bid = r .bid; alerted = r .alerted; annotation = optionOf (r
 
 abbrev pub rowIn : CallOf Span → CallRow
 rowIn c = record { bid = c .bid; alerted = c .alerted; annotation = maybeOf (c .annotation) }
+
+-- the six numbers of a row
+abbrev pub numbered : CallRow → Call
+numbered r = rowOf (called r)
+
+-- a board that is lent with its calls in rows: a call is the six numbers of its row
+abbrev pub lentRows : (text : List ℕ) → Board → List CallRow → (cards : List ℕ) → Lent
+lentRows s b rs cs = record { text = s; board = b; calls = map numbered rs; cards = cs }
 
 -- a row of no text: what a list is taken to hold past its end
 abbrev pub emptyRow : CallRow

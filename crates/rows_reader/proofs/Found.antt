@@ -19,7 +19,7 @@ use Rattle.lin_spec.specs.Output.{overlay}
 use Rattle.lin_spec.specs.Board.{CallOf, BoardOf}
 use Rattle.lin_spec.specs.Reading.{callWords, headingOf, tooFew, stored, parseLin, parseSpans, readBoard}
 use Rattle.lin_spec.specs.File.{parseLinFile, fileSpans, noBoard, numbered, fileBoard}
-use Rattle.lin_spec.specs.Lent.{Lent, lentBoard, meaning, callIn, callRows, lentSpans, badFlag, badCards, badNumber, Lendable}
+use Rattle.lin_spec.specs.Lent.{Lent, lentBoard, meaning, callIn, rowOf, callRows, lentSpans, badFlag, badCards, badNumber, Lendable}
 use Rattle.lin_spec.specs.Log.{appending, events}
 use Rattle.lin_spec.specs.ThirdDemand.{Typed, Gives, start, used, L}
 use Rattle.lin_spec.specs.declared.Span.{Span}
@@ -35,12 +35,11 @@ use Rattle.lin_spec.proofs.Checks.{unmet, unless-same}
 use Rattle.lin_spec.proofs.Accepted.{words-length, lent-back}
 use Rattle.lin_spec.proofs.Given.{read-given, file-given}
 use Rattle.lin_spec.proofs.ThirdDemand.{third-demand}
-use Rattle.board_steps.specs.Calls.{rowOf}
 use Rattle.rows.specs.declared.CallRow.{CallRow}
-use Rattle.rows.specs.Rows.{called, rowIn, laid}
+use Rattle.rows.specs.Rows.{called, rowIn, laid, lentRows}
 use Rattle.row_steps.specs.Steps.{fewStructs, fileAnswer}
 use Rattle.rows_reader.specs.Reader.{storedRows, readRows, fileRows}
-use Rattle.rows_reader.specs.Given.{lentRows, GivesRows}
+use Rattle.rows_reader.specs.Given.{GivesRows}
 
 -- A call's row, as it is lent again
 
