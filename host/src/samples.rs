@@ -2,6 +2,7 @@
 //! values that are read, nearly read or skipped.
 
 pub mod built;
+pub mod hostile;
 pub mod lent;
 pub mod pbn;
 

@@ -21,7 +21,7 @@ pub type Case = (String, Notes);
 /// A name, and the cases that go by it.
 type Group = (&'static str, fn() -> Vec<Case>);
 
-pub const GROUPS: &[Group] = &[
+const GROUPS: &[Group] = &[
     ("named", parts::named),
     ("marks", numbers::marks),
     ("marks beside", numbers::marks_beside),
@@ -165,12 +165,15 @@ fn put(s: &mut Steps, case: &Case) {
     }
 }
 
+/// The cases of all groups, each once.
 pub fn all() -> Vec<Case> {
     let mut seen = HashSet::new();
     let all = GROUPS.iter().flat_map(|(_, cases)| cases());
     all.filter(|c| seen.insert(c.clone())).collect()
 }
 
+/// The file `annotation.bin`: the text of each case with room to spare, with
+/// exactly enough and with a byte less.
 pub fn vectors() -> Vectors {
     let mut s = Steps::new();
     define(&mut s);

@@ -3,7 +3,7 @@
 //! of L. The log is that book; `parse_lin_file` over T must give L.
 
 pub mod lists;
-pub mod log;
+mod log;
 
 use crate::{
     boards, built,
@@ -20,7 +20,7 @@ pub type List = (usize, Vec<LinData>);
 /// A name, and the lists that go by it.
 type Group = (&'static str, fn() -> Vec<List>);
 
-pub const GROUPS: &[Group] = &[
+const GROUPS: &[Group] = &[
     ("fresh", lists::fresh),
     ("single", lists::single),
     ("edges", lists::edges),
@@ -135,12 +135,14 @@ fn key((room, calls): &List) -> Vec<u8> {
     out.bytes().to_vec()
 }
 
-pub fn all() -> Vec<List> {
+fn all() -> Vec<List> {
     let mut seen = HashSet::new();
     let all = GROUPS.iter().flat_map(|(_, lists)| lists());
     all.filter(|l| seen.insert(key(l))).collect()
 }
 
+/// The file `appends.bin`: the boards of each list appended one by one, and then
+/// read from what was written.
 pub fn vectors() -> Vectors {
     let mut s = Steps::new();
     define(&mut s);
@@ -155,8 +157,8 @@ pub fn vectors() -> Vectors {
 mod tests {
     use super::*;
 
-    /// The replay has 8,192 bytes for an output, and lends 32 rows and 64 places
-    /// for cards.
+    /// 8,192 bytes for an output, 32 rows and 64 places for cards are enough for a
+    /// replay.
     #[test]
     fn rooms_and_rows_are_enough() {
         for (room, calls) in all() {

@@ -20,7 +20,7 @@ use bridge_types::{Card, Deal, Direction, Vulnerability};
 /// A name, and the texts that go by it.
 type Group = (&'static str, fn() -> Vec<String>);
 
-pub const GROUPS: &[Group] = &[
+const GROUPS: &[Group] = &[
     ("named", traps::named),
     ("commands", traps::commands),
     ("broken", traps::broken),
@@ -41,6 +41,7 @@ pub const GROUPS: &[Group] = &[
     ("long", mixed::long),
 ];
 
+/// The texts of all groups, each once.
 pub fn texts() -> Vec<String> {
     texts::distinct(GROUPS.iter().flat_map(|(_, texts)| texts()).collect())
 }
@@ -130,6 +131,7 @@ pub(crate) fn put(out: &mut Vectors, board: &LinData) {
     out.field(&board.play.iter().map(number).collect::<Vec<_>>());
 }
 
+/// The file `boards.bin`: each text read as one board.
 pub fn vectors() -> Vectors {
     let mut s = Steps::new();
     readers::define(&mut s, Call::ParseHeading, Call::ParseLin, 0);

@@ -12,6 +12,7 @@ use std::collections::HashSet;
 
 pub(crate) use crate::boards::SEATS;
 
+/// The vulnerabilities by their numbers, 0 to 3.
 pub const SIDES: [Vulnerability; 4] = [
     Vulnerability::None,
     Vulnerability::NorthSouth,
@@ -19,6 +20,7 @@ pub const SIDES: [Vulnerability; 4] = [
     Vulnerability::Both,
 ];
 
+/// The board before its first token.
 pub fn fresh() -> LinData {
     let Ok(board) = parse_lin("");
     board
@@ -100,6 +102,7 @@ pub fn distinct(all: Vec<LinData>) -> Vec<LinData> {
     all.into_iter().filter(|b| seen.insert(bytes(b))).collect()
 }
 
+/// A call whose bid is kept as it is: a `!` at its end makes no alert.
 pub fn call(bid: &str, alert: bool, annotation: Option<&str>) -> BidWithAnnotation {
     BidWithAnnotation {
         bid: bid.to_string(),

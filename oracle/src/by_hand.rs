@@ -3,13 +3,13 @@
 //! their order; places of spans; outputs longer than their room. A module for each
 //! subject makes its cases; the file is `by_hand.bin`.
 
-pub mod annotation;
-pub mod boards;
-pub mod equality;
-pub mod files;
-pub mod pbn;
-pub mod tokens;
-pub mod writer;
+mod annotation;
+mod boards;
+mod equality;
+mod files;
+mod pbn;
+mod tokens;
+mod writer;
 
 use crate::{steps::*, vectors::Vectors};
 
@@ -42,8 +42,7 @@ const CHARACTERS: [Refused; 6] = [
     (0, 2, 0),
 ];
 
-/// Each of these spans in its text, and then a span of a text of spaces, one too many
-/// and as many as may be.
+/// Each of these spans in its text.
 fn spans_of_texts(s: &mut Steps, mut each: impl FnMut(&mut Steps, Refused)) {
     s.lend(TEXT, b"abcd");
     ENDS.into_iter().for_each(|span| each(s, span));
@@ -89,6 +88,7 @@ fn first_of(faults: usize) -> u32 {
         .map_or(0, |(_, number)| number)
 }
 
+/// The file `by_hand.bin`: the cases of the subjects, one subject after another.
 pub fn vectors() -> Vectors {
     let mut s = Steps::new();
     readers::define(&mut s, Call::ParseHeading, Call::ParseLin, 0);

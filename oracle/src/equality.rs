@@ -13,7 +13,7 @@ pub type Pair = (LinData, LinData);
 /// A name, and the pairs that go by it.
 type Group = (&'static str, fn() -> Vec<Pair>);
 
-pub const GROUPS: &[Group] = &[
+const GROUPS: &[Group] = &[
     ("same", pairs::same),
     ("changed", pairs::changed),
     ("texts", pairs::texts),
@@ -46,7 +46,7 @@ fn key((a, b): &Pair) -> Vec<u8> {
     out.bytes().to_vec()
 }
 
-pub fn all() -> Vec<Pair> {
+fn all() -> Vec<Pair> {
     let mut seen = HashSet::new();
     let all = GROUPS.iter().flat_map(|(_, pairs)| pairs());
     all.filter(|p| seen.insert(key(p))).collect()
@@ -116,6 +116,8 @@ fn put(s: &mut Steps, pair: &Pair) {
     s.go(SWAP);
 }
 
+/// The file `equality.bin`: each pair compared both ways round in one text, and
+/// once in two texts.
 pub fn vectors() -> Vectors {
     let mut s = Steps::new();
     define(&mut s);
@@ -155,7 +157,7 @@ mod tests {
         assert!(seen[1] + seen[2] >= 30 && seen[0] >= 200 && seen[3] >= 100);
     }
 
-    /// The replay lends 32 rows to each board.
+    /// 32 rows for each board are enough for a replay.
     #[test]
     fn rows_are_enough() {
         for (a, b) in all() {

@@ -4,4 +4,5 @@
 #[derive(Debug)]
 pub enum ParseError {}
 
+/// What the LIN readers give: always a value, so `let Ok(board) = ..` takes it.
 pub type Result<T> = std::result::Result<T, ParseError>;

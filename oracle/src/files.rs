@@ -1,7 +1,7 @@
 //! File cases: texts as files, every board that `parse_lin_file` gives, and how
 //! many of them have a name at one seat or more.
 
-pub mod cursor;
+mod cursor;
 pub mod lines;
 pub mod mixed;
 pub mod names;
@@ -17,7 +17,7 @@ use crate::{
 /// A name, and the texts that go by it.
 type Group = (&'static str, fn() -> Vec<String>);
 
-pub const GROUPS: &[Group] = &[
+const GROUPS: &[Group] = &[
     ("named", parts::named),
     ("orders", parts::orders),
     ("runs", parts::runs),
@@ -36,7 +36,7 @@ pub const GROUPS: &[Group] = &[
     ("long", mixed::long),
 ];
 
-pub fn texts() -> Vec<String> {
+fn texts() -> Vec<String> {
     texts::distinct(GROUPS.iter().flat_map(|(_, texts)| texts()).collect())
 }
 
@@ -87,6 +87,8 @@ const LINES: [&str; 10] = [
 const HAVING: usize = OWN_NUMBER;
 const FOUND: usize = OWN_BLOCK;
 
+/// The file `files.bin`: the boards of each text by their numbers and by the
+/// cursor, and how many of them have each name that is asked for.
 pub fn vectors() -> Vectors {
     let mut s = Steps::new();
     readers::define(&mut s, Call::FileHeading, Call::FileBoard, 1);
@@ -115,7 +117,7 @@ mod tests {
         list
     }
 
-    /// The replay lends 32 rows, and 64 places for cards.
+    /// 32 rows and 64 places for cards are enough for a replay.
     #[test]
     fn rows_are_enough() {
         for board in texts().iter().flat_map(|t| boards(t)) {

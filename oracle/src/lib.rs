@@ -1,8 +1,12 @@
 //! The upstream LIN sources, unchanged, as the answers to compare with.
 
+#![deny(missing_docs)]
+
 pub mod error;
 
-// Upstream's own layout: kept byte for byte, so the formatter passes it by.
+// Upstream's own layout and comments: kept byte for byte, so the formatter passes
+// them by, and a public item may be without a comment.
+#[allow(missing_docs)]
 #[rustfmt::skip]
 #[path = "../upstream/src/lin/mod.rs"]
 pub mod lin;
@@ -25,6 +29,7 @@ pub mod utf8;
 pub mod vectors;
 pub mod writer;
 
+/// The stand-in for the crate whose types upstream's sources use.
 pub use bridge_types;
 
 use lin::{LinDocument, LinToken};

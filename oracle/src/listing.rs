@@ -1,10 +1,11 @@
 //! Listings: what linlist prints for an input, by `parse_lin_file`. A case is
 //! two fields, the input and what is printed.
 
-pub mod files;
+mod files;
 pub mod runs;
 
 use crate::{
+    boards::SEATS,
     lin::{parse_lin_file, write_lin, LinData},
     texts,
     vectors::Vectors,
@@ -15,13 +16,6 @@ use bridge_types::Direction;
 pub const LIMIT: usize = 65_536;
 
 const HEADER: &str = "board dealer vul S W N E calls cards claim\n";
-
-const SEATS: [Direction; 4] = [
-    Direction::South,
-    Direction::West,
-    Direction::North,
-    Direction::East,
-];
 
 fn dealer(d: Direction) -> char {
     match d {
@@ -65,10 +59,11 @@ pub fn printed(input: &[u8]) -> String {
     HEADER.to_string() + &lines.collect::<String>()
 }
 
-pub fn inputs() -> Vec<Vec<u8>> {
+fn inputs() -> Vec<Vec<u8>> {
     texts::distinct(files::inputs())
 }
 
+/// The file `listing.bin`: a case for each input.
 pub fn vectors() -> Vectors {
     let mut out = Vectors::new();
     for input in inputs() {

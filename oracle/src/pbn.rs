@@ -4,7 +4,7 @@
 pub mod calls;
 pub mod heads;
 pub mod mixed;
-pub mod replayed;
+mod replayed;
 
 use crate::{
     annotation::{put_notes, Notes},
@@ -23,24 +23,36 @@ use std::collections::HashSet;
 /// as a list of entries.
 #[derive(Clone, Default)]
 pub struct Record {
+    /// The names of S, W, N, E.
     pub names: [Option<String>; 4],
+    /// The first half of the title.
     pub event: Option<String>,
+    /// The second half of the title, after a dash.
     pub date: Option<String>,
+    /// The label of the board; an empty one counts as absent.
     pub id: Option<String>,
+    /// 1 to 65,535. Without an id it is the label; without a dealer it gives one.
     pub number: Option<u32>,
+    /// Who deals; North if neither this nor the number is given.
     pub dealer: Option<Direction>,
+    /// The hands.
     pub deal: Deal,
+    /// Which sides are vulnerable.
     pub vulnerable: Vulnerability,
+    /// The auction, each call with its raw annotation.
     pub calls: Vec<AnnotatedCall>,
+    /// What the annotations refer to by `=n=`.
     pub notes: Notes,
+    /// The cards in the order of play, with gaps for those that are not on record.
     pub play: Vec<Option<Card>>,
+    /// The tricks that declarer won; it becomes the claim if it is 0 to 255.
     pub result: Option<i32>,
 }
 
 /// A name, and the records that go by it.
 type Group = (&'static str, fn() -> Vec<Record>);
 
-pub const GROUPS: &[Group] = &[
+const GROUPS: &[Group] = &[
     ("named", mixed::named),
     ("names", heads::names),
     ("spellings", heads::spellings),
@@ -64,6 +76,7 @@ pub const GROUPS: &[Group] = &[
     ("long", mixed::long),
 ];
 
+/// The strains by their numbers, 0 to 4.
 pub const STRAINS: [Strain; 5] = [
     Strain::Clubs,
     Strain::Diamonds,
@@ -176,12 +189,15 @@ fn key(record: &Record) -> Vec<u8> {
     out.bytes().to_vec()
 }
 
+/// The records of all groups, each once.
 pub fn all() -> Vec<Record> {
     let mut seen = HashSet::new();
     let all = GROUPS.iter().flat_map(|(_, records)| records());
     all.filter(|r| seen.insert(key(r))).collect()
 }
 
+/// The file `pbn.bin`: the board made of each record with rows, places and bytes to
+/// spare and with exactly enough, and the refusals with fewer.
 pub fn vectors() -> Vectors {
     let mut s = Steps::new();
     replayed::define(&mut s);

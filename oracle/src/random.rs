@@ -1,12 +1,15 @@
 //! Numbers from a fixed seed (SplitMix64), the same on every machine.
 
+/// A source of numbers: the same seed gives the same ones.
 pub struct Rng(u64);
 
 impl Rng {
+    /// The source that begins with this seed.
     pub fn new(seed: u64) -> Rng {
         Rng(seed)
     }
 
+    /// The next number. The other functions make theirs from it.
     pub fn draw(&mut self) -> u64 {
         self.0 = self.0.wrapping_add(0x9E37_79B9_7F4A_7C15);
         let mut z = self.0;
@@ -25,14 +28,17 @@ impl Rng {
         self.below(n) == 0
     }
 
+    /// An item by chance of a list that is not empty.
     pub fn pick<'a, T>(&mut self, from: &'a [T]) -> &'a T {
         &from[self.below(from.len())]
     }
 
+    /// Any byte, as likely as every other.
     pub fn byte(&mut self) -> u8 {
         self.draw() as u8
     }
 
+    /// Puts the items into an order by chance.
     pub fn shuffle<T>(&mut self, items: &mut [T]) {
         for i in (1..items.len()).rev() {
             items.swap(i, self.below(i + 1));

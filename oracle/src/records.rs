@@ -43,6 +43,8 @@ const COMMENTS: &[&str] = &[
     "",
 ];
 
+/// A board of 52 cards, with texts that name its number. Its calls and its play are
+/// by chance and need not be legal.
 pub fn board(rng: &mut Rng, number: usize) -> LinData {
     let mut pack: Vec<Card> = Suit::ALL
         .into_iter()

@@ -16,27 +16,48 @@ pub use memory::*;
 /// The exports by their numbers.
 #[derive(Clone, Copy)]
 pub enum Call {
+    /// Opens a cursor over the tokens of the text.
     Open,
+    /// The next token from the cursor's place on.
     Next,
+    /// The text from the cursor's place on.
     Trailing,
+    /// The heading of the text as one board.
     ParseHeading,
+    /// How many boards the text has as a file.
     CountBoards,
+    /// The heading of the board of a number.
     FileHeading,
+    /// Opens a cursor over the boards of the text.
     OpenBoards,
+    /// The next part or line from the board cursor on, and whether it is a board.
     NextBoard,
+    /// The text as one board, with its calls and its play.
     ParseLin,
+    /// The board of a number, with its calls and its play.
     FileBoard,
+    /// How many boards have the second text as a name.
     FindName,
+    /// Writes the rows as tokens, and what trails them.
     WriteDocument,
+    /// Writes the lent board after the used bytes.
     Append,
+    /// Writes the lent board from the first byte on.
     WriteLin,
+    /// Writes the lent cards trick by trick.
     PlayText,
+    /// Writes the text of a raw annotation.
     AnnotationText,
+    /// Makes a board of the lent PBN record.
     FromBoard,
+    /// Whether the lent board equals the second one.
     SameBoard,
+    /// The next board from the board cursor on, with its calls and its play, and the
+    /// cursor's step to it.
     ReadBoard,
 }
 
+/// A file of steps that is being made.
 #[derive(Default)]
 pub struct Steps {
     bytes: Vec<u8>,
@@ -119,10 +140,12 @@ impl Steps {
         self.step(3, at, held);
     }
 
+    /// Adds the word at the other place to the word at the first.
     pub fn add(&mut self, at: usize, other: usize) {
         self.step(4, at, &place(other));
     }
 
+    /// Takes the word at the other place from the word at the first.
     pub fn sub(&mut self, at: usize, other: usize) {
         self.step(5, at, &place(other));
     }
@@ -150,6 +173,7 @@ impl Steps {
         self.mark_again();
     }
 
+    /// Marks the output's part once more, after a call wrote there.
     pub fn mark_again(&mut self) {
         self.step(64 + 8, OUT, &[MARK]);
     }
@@ -162,6 +186,7 @@ impl Steps {
         self.step(16, at, &inner.bytes);
     }
 
+    /// Does the steps of a block, and then those after this one.
     pub fn go(&mut self, block: usize) {
         self.step(17, block, &[]);
     }
@@ -184,6 +209,7 @@ impl Steps {
         }
     }
 
+    /// Calls an export with what is lent, and lays its answer into the memory.
     pub fn call(&mut self, call: Call) {
         self.step(48, call as usize, &[]);
     }
@@ -259,6 +285,7 @@ impl Steps {
         self.is(HIGH, &[0, 0, (value >> 32) as u32, 0, 0, 0, 0, 0]);
     }
 
+    /// The file with all its steps.
     pub fn done(self) -> Vectors {
         Vectors::of(self.bytes)
     }

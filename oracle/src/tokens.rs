@@ -3,6 +3,8 @@
 
 use crate::{random::Rng, records, steps::*, texts, vectors::Vectors};
 
+/// Texts that document 01 names, short words, records, and texts by chance; each
+/// once.
 pub fn texts() -> Vec<String> {
     let mut all: Vec<String> = texts::NAMED.iter().map(|t| t.to_string()).collect();
     all.extend(texts::words(&["|", "a"], 5));
@@ -100,6 +102,7 @@ fn put(s: &mut Steps, text: &str) {
     s.go(WRITTEN);
 }
 
+/// The file `tokens.bin`: the tokens of each text, and the text written again.
 pub fn vectors() -> Vectors {
     let mut s = Steps::new();
     define(&mut s);

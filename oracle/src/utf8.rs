@@ -54,6 +54,8 @@ fn tail(first: u8) -> usize {
     }
 }
 
+/// Bytes that are well formed up to a fault of some kind or to their end; each
+/// once.
 pub fn texts() -> Vec<Vec<u8>> {
     let mut all: Vec<Vec<u8>> = vec![Vec::new()];
     all.extend((0..=255).map(|b| vec![b]));
@@ -73,7 +75,7 @@ pub fn texts() -> Vec<Vec<u8>> {
     ] {
         for place in 1..=tail(first) {
             for edge in EDGES {
-                // A0 and 90 hex are good behind every first byte but ED and F4.
+                // A0 hex is good behind every first byte but ED and F4.
                 let second = match first {
                     0xED => 0x90,
                     0xF4 => 0x85,
@@ -125,6 +127,8 @@ const WELL_FORMED: usize = OWN_NUMBER;
 const OPENED: usize = OWN_BLOCK;
 const REFUSED: usize = OWN_BLOCK + 1;
 
+/// The file `utf8.bin`: each text opened, or refused by 2 with the length of its
+/// longest well-formed start.
 pub fn vectors() -> Vectors {
     let mut s = Steps::new();
     s.block(OPENED, |b| {

@@ -1,8 +1,10 @@
-//! The files of stored answers: a sequence of fields, each a length of four
-//! bytes, little-endian, and that many bytes.
+//! The files of stored answers. That of the listings is a sequence of fields, each
+//! a length of four bytes, little-endian, and that many bytes; the others are
+//! steps.
 
 use std::{fs, io, path::Path};
 
+/// A file that is being made, of fields or of steps.
 #[derive(Default)]
 pub struct Vectors {
     bytes: Vec<u8>,
@@ -10,6 +12,7 @@ pub struct Vectors {
 }
 
 impl Vectors {
+    /// A file without fields.
     pub fn new() -> Vectors {
         Vectors::default()
     }
@@ -24,6 +27,7 @@ impl Vectors {
         self.cases += 1;
     }
 
+    /// Puts a field at the end: the number of these bytes, and the bytes.
     pub fn field(&mut self, bytes: &[u8]) {
         self.bytes.extend(word(bytes.len()));
         self.bytes.extend(bytes);
@@ -34,14 +38,18 @@ impl Vectors {
         self.field(&word(n));
     }
 
+    /// How many cases were begun: 0 in a file of steps, whose cases the replay
+    /// counts.
     pub fn cases(&self) -> usize {
         self.cases
     }
 
+    /// All that the file holds so far.
     pub fn bytes(&self) -> &[u8] {
         &self.bytes
     }
 
+    /// Writes the file to this place, over what is there.
     pub fn save(&self, file: &Path) -> io::Result<()> {
         fs::write(file, &self.bytes)
     }
@@ -63,9 +71,4 @@ pub fn fields(mut bytes: &[u8]) -> Option<Vec<&[u8]>> {
         bytes = rest;
     }
     Some(all)
-}
-
-/// The number in a field of four bytes.
-pub fn number(field: &[u8]) -> Option<usize> {
-    Some(u32::from_le_bytes(field.try_into().ok()?) as usize)
 }

@@ -17,7 +17,7 @@ use crate::{
 /// A name, and the boards that go by it.
 type Group = (&'static str, fn() -> Vec<LinData>);
 
-pub const GROUPS: &[Group] = &[
+const GROUPS: &[Group] = &[
     ("named", mixed::named),
     ("texts", texts::each),
     ("words", texts::words),
@@ -38,7 +38,7 @@ pub const GROUPS: &[Group] = &[
     ("long", mixed::long),
 ];
 
-pub fn all() -> Vec<LinData> {
+fn all() -> Vec<LinData> {
     built::distinct(GROUPS.iter().flat_map(|(_, boards)| boards()).collect())
 }
 
@@ -150,6 +150,8 @@ fn put(s: &mut Steps, board: &LinData) {
     }
 }
 
+/// The file `writer.bin`: each board written and appended, and its play as text,
+/// with room to spare, with exactly enough and with a byte less.
 pub fn vectors() -> Vectors {
     let mut s = Steps::new();
     define(&mut s);
@@ -175,7 +177,7 @@ mod tests {
         }
     }
 
-    /// The replay lends 128 rows and has 16,384 bytes for what is written.
+    /// 128 rows, and 16,384 bytes for what is written, are enough for a replay.
     #[test]
     fn rows_and_bytes_are_enough() {
         let all = all();

@@ -16,7 +16,8 @@ ghost use lib.ListN.{length};
 ghost use Rattle.lin_spec.specs.Board.{withoutEnd, callOf};
 ghost use Rattle.lin_spec.specs.Records.{optionOf, endOf};
 ghost use Rattle.lin_spec.specs.Reading.{spanText, flag};
-ghost use Rattle.board_steps.specs.Calls.{with, rowOf, Bids, Notes, Gives};
+ghost use Rattle.lin_spec.specs.Lent.{rowOf};
+ghost use Rattle.board_steps.specs.Calls.{with, Bids, Notes, Gives};
 
 // A call with the cursor after it, or no call.
 pub enum NextCall {

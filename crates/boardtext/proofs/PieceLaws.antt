@@ -3,13 +3,14 @@
 use Prim.Native.Nat.{ℕ, _+_}
 use native.Mathlib.Omega.{arith}
 use mathlib.Core.Path.{_≡_, ap, _∙_}
-use mathlib.Core.List.{List, append-assoc, append-nil}
+use mathlib.Core.List.{List, map, append-assoc, append-nil}
 use lib.ListN.{length, length-append}
 use Rattle.lin_spec.specs.Decimal.{decimal}
 use Rattle.lin_spec.specs.Refusals.{sat}
-use Rattle.lin_spec.specs.Board.{mapBoard}
-use Rattle.lin_spec.specs.Writer.{mdText, tricksText, claimText, written}
-use Rattle.lin_spec.specs.Lent.{claimOf, lentBoard, meaning}
+use Rattle.lin_spec.specs.Records.{bytesAt}
+use Rattle.lin_spec.specs.Board.{mapCall, mapBoard}
+use Rattle.lin_spec.specs.Writer.{mdText, tricksText, claimText, callsText, written}
+use Rattle.lin_spec.specs.Lent.{Lent, callIn, claimOf, lent, lentBoard, meaning}
 use Rattle.lin_spec.specs.Append.{writtenForm}
 use Rattle.lin_spec.specs.declared.MaybeClaim.{MaybeClaim}
 use Rattle.lin_spec.specs.declared.MaybeClaim.the-variants.{Claimed}
@@ -23,11 +24,18 @@ use Rattle.cleaning.specs.Calls.{callsBytes}
 use Rattle.cleaning.specs.declared.texts.Marks.{Marks}
 use Rattle.cleaning.proofs.TextLaws.{clean-length}
 use Rattle.boardtext.specs.Filing.{filing}
-use Rattle.boardtext.specs.Pieces.{headingText, dealingText, claimedText, boardPieces}
+use Rattle.boardtext.specs.Pieces.{headingText, dealingText, claimedText, frontText, backText, boardPieces}
 
-pub written-is : (m : Marks) (s : List ℕ) (b : Board) (ws cs : List ℕ) → writtenForm (filing m s b ws cs) ≡ joined (boardPieces (m .pipe) (m .line) s b ws cs)
-unfolding writtenForm written meaning lentBoard mapBoard namesText callsBytes headingText dealingText
-written-is m s b ws cs = simp (append-assoc, append-nil)
+-- of any lent board, its calls given as a list
+pub written-lent : (p q : ℕ) (x : Lent)
+    → writtenForm (record { p = p; q = q; lent = x }) ≡ joined (boardPieces p q (x .text) (x .board) (callsText p q (map (mapCall (bytesAt (x .text))) (map callIn (x .calls)))) (x .cards))
+unfolding writtenForm written meaning lentBoard mapBoard namesText frontText backText headingText dealingText
+written-lent p q x = simp (append-assoc, append-nil)
+
+-- and of one whose calls are words
+pub written-is : (m : Marks) (s : List ℕ) (b : Board) (ws cs : List ℕ) → writtenForm (filing m s b ws cs) ≡ joined (boardPieces (m .pipe) (m .line) s b (callsBytes (m .pipe) (m .line) s ws) cs)
+unfolding callsBytes
+written-is m s b ws cs = written-lent (m .pipe) (m .line) (lent s b ws cs)
 
 -- a claim that is made
 pub claimed-is : (n : ℕ) → claimText (claimOf (Claimed n)) ≡ claimedText n
@@ -48,10 +56,23 @@ dealing-long b = simp (length-append, append-nil) (omega arith)
 pub claim-long : (x : MaybeClaim) (n : ℕ) → x ≡ Claimed n → length (claimText (claimOf x)) ≡ 9 + length (decimal n)
 claim-long x n e = ap (λ (y : MaybeClaim). length (claimText (claimOf y))) e ∙ simp length-append (omega arith)
 
+pub front-long : (p q : ℕ) (s : List ℕ) (b : Board) → length (frontText p q s b) ≡ length (headingText p q s (headOf b)) + length (dealingText b)
+unfolding frontText
+front-long p q s b = simp (length-append, append-nil)
+
+pub back-long : (c : MaybeClaim) (cs : List ℕ) → length (backText c cs) ≡ 5 + length (tricksText cs) + length (claimText (claimOf c))
+unfolding backText
+back-long c cs = simp (length-append, append-nil) (omega arith)
+
+pub lent-long : (p q : ℕ) (x : Lent)
+    → length (writtenForm (record { p = p; q = q; lent = x }))
+    ≡ length (frontText p q (x .text) (x .board)) + length (backText (x .board .claim) (x .cards)) + length (callsText p q (map (mapCall (bytesAt (x .text))) (map callIn (x .calls))))
+lent-long p q x = ap length (written-lent p q x) ∙ simp (length-append, append-nil) (omega arith)
+
 pub written-long : (m : Marks) (s : List ℕ) (b : Board) (ws cs : List ℕ)
-    → length (writtenForm (filing m s b ws cs))
-    ≡ length (headingText (m .pipe) (m .line) s (headOf b)) + length (dealingText b) + length (callsBytes (m .pipe) (m .line) s ws) + (5 + length (tricksText cs)) + length (claimText (claimOf (b .claim)))
-written-long m s b ws cs = ap length (written-is m s b ws cs) ∙ simp (length-append, append-nil) (omega arith)
+    → length (writtenForm (filing m s b ws cs)) ≡ length (frontText (m .pipe) (m .line) s b) + length (backText (b .claim) cs) + length (callsBytes (m .pipe) (m .line) s ws)
+unfolding callsBytes
+written-long m s b ws cs = lent-long (m .pipe) (m .line) (lent s b ws cs)
 
 -- The sums that the lengths are added up by
 
@@ -63,8 +84,3 @@ pub heading-sum : (a b d e : ℕ) {x y z w i j k r : ℕ} → x ≡ a → i ≡ 
     → r ≡ sat (16 + a + b + d + e)
 heading-sum a b d e x i y j z k w r =
     sat-sum (16 + a + b + d) e (plus (16 + a + b) d (sat-sum (16 + a) b (plus 16 a (omega arith) x i) y j) z k) w r
-
-pub board-sum : (a b d e f : ℕ) {x y z w v i j k l r : ℕ} → x ≡ sat a → y ≡ sat b → i ≡ sat (x + y) → z ≡ sat d → j ≡ sat (i + z) → w ≡ sat e → k ≡ sat (5 + w) → l ≡ sat (j + k) → v ≡ sat f
-    → r ≡ sat (l + v) → r ≡ sat (a + b + d + (5 + e) + f)
-board-sum a b d e f x y i z j w k l v r =
-    sat-sum (a + b + d + (5 + e)) f (sat-sum (a + b + d) (5 + e) (sat-sum (a + b) d (sat-sum a b x y i) z j) (sat-sum 5 e (omega arith) w k) l) v r

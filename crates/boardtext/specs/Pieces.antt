@@ -6,12 +6,12 @@ use Rattle.lin_spec.specs.Decimal.{decimal}
 use Rattle.lin_spec.specs.Letters.{svLetter}
 use Rattle.lin_spec.specs.Writer.{clean, mdText, tricksText, claimText}
 use Rattle.lin_spec.specs.Lent.{claimOf}
+use Rattle.lin_spec.specs.declared.MaybeClaim.{MaybeClaim}
 use Rattle.lin_spec.specs.declared.Board.{Board}
 use Rattle.lent.specs.declared.heads.Head.{Head}
 use Rattle.lent.specs.Heads.{headOf}
 use Rattle.output.specs.Put.{joined}
 use Rattle.cleaning.specs.Texts.{emptyOr, headerText, namesText}
-use Rattle.cleaning.specs.Calls.{callsBytes}
 
 -- the heading texts of a board
 abbrev pub headingPieces : (p q : ℕ) (text : List ℕ) → Head → List (List ℕ)
@@ -44,7 +44,19 @@ claimedPieces n = ascii "mc|" ∷ decimal n ∷ ascii "|pg||\n" ∷ []
 unfoldable pub claimedText : ℕ → List ℕ
 claimedText n = joined (claimedPieces n)
 
--- all of it
-abbrev pub boardPieces : (p q : ℕ) (text : List ℕ) → Board → (words cards : List ℕ) → List (List ℕ)
-boardPieces p q s b ws cs =
-    headingText p q s (headOf b) ∷ dealingText b ∷ callsBytes p q s ws ∷ ascii "pg||\n" ∷ tricksText cs ∷ claimText (claimOf (b .claim)) ∷ []
+-- all that stands before its calls, and after them
+abbrev pub frontPieces : (p q : ℕ) (text : List ℕ) → Board → List (List ℕ)
+frontPieces p q s b = headingText p q s (headOf b) ∷ dealingText b ∷ []
+
+unfoldable pub frontText : (p q : ℕ) (text : List ℕ) → Board → List ℕ
+frontText p q s b = joined (frontPieces p q s b)
+
+abbrev pub backPieces : MaybeClaim → (cards : List ℕ) → List (List ℕ)
+backPieces c cs = ascii "pg||\n" ∷ tricksText cs ∷ claimText (claimOf c) ∷ []
+
+unfoldable pub backText : MaybeClaim → (cards : List ℕ) → List ℕ
+backText c cs = joined (backPieces c cs)
+
+-- all of it, around the text of its calls
+abbrev pub boardPieces : (p q : ℕ) (text : List ℕ) → Board → (calls cards : List ℕ) → List (List ℕ)
+boardPieces p q s b ks cs = frontText p q s b ∷ ks ∷ backText (b .claim) cs ∷ []

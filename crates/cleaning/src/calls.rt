@@ -62,7 +62,7 @@ fn annotation_len(text: &[u8], c: Call) -> u64
 }
 
 // Puts a call.
-fn put_call(out: &mut [u8], at: usize, text: &[u8], c: Call, marks: Marks) -> usize
+pub fn put_call(out: &mut [u8], at: usize, text: &[u8], c: Call, marks: Marks) -> usize
     requires { ⌜ Room (now out) at (callBytes (marks .pipe) (marks .line) (now text) c) ⌝ }
     ensures { λ r. ⌜ Put (now (out .entry)) at (callBytes (marks .pipe) (marks .line) (now (text .entry)) c) (now (out .exit)) r ⌝ }
 {
@@ -74,7 +74,7 @@ fn put_call(out: &mut [u8], at: usize, text: &[u8], c: Call, marks: Marks) -> us
 }
 
 // How many bytes it has.
-fn call_len(text: &[u8], c: Call) -> u64
+pub fn call_len(text: &[u8], c: Call) -> u64
     ensures { λ r. ⌜ ((p q : ℕ) → r ≡ sat (length (callBytes p q (now (text .entry)) c))) ⌝ }
 {
     let a = sat_add(4, clean_len(text, c.bid));

@@ -3,7 +3,9 @@ mod calls;
 mod names;
 mod texts;
 
+pub use calls::call_len;
 pub use calls::calls_len;
+pub use calls::put_call;
 pub use calls::put_calls;
 pub use names::name_len;
 pub use names::names_len;

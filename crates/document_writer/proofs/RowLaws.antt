@@ -3,17 +3,18 @@
 use Prim.Native.Nat.{ℕ, _+_, _-_, _^_, _≤_, _<_}
 use native.Mathlib.Omega.{arith}
 use mathlib.Core.Path.{_≡_, refl, ap, sym, _∙_}
-use mathlib.Core.Bool.{Bool, true, false, _||_, or-false}
+use mathlib.Core.Bool.{Bool, true, false, _&&_, _||_, or-false}
 use mathlib.Core.List.{List, [], _∷_, _++_, append-assoc, append-nil}
 use lib.ListN.{length, drop, length-append, length-drop}
 use Rattle.lin_spec.specs.Base.{any}
-use borrow.Author.Tests.{ltb-false}
+use lib.Dec.{leb}
+use borrow.Author.Tests.{ltb-false, leb-true, le-ltb}
 use Rattle.lin_spec.specs.Records.{endOf, bytesAt}
 use Rattle.lin_spec.specs.Refusals.{sat, passesEnd}
 use Rattle.lin_spec.specs.Tokens.{write}
 use Rattle.lin_spec.specs.Document.{rowsIn, spansOf, documentText}
 use Rattle.lin_spec.specs.declared.Span.{Span}
-use Rattle.lin_spec.proofs.Base.{or-none}
+use Rattle.lin_spec.proofs.Base.{or-none, and-left, and-right}
 use Rattle.lin_spec.proofs.Records.{part-length}
 use Rattle.text.proofs.ListLaws.{next-word}
 use Rattle.output.proofs.Laws.{Left}
@@ -85,30 +86,6 @@ module _ (f : Span → Bool) (ws : List ℕ) (tr : Span) (i : ℕ) where
   unfolding spansOf any
   any-end h = simp (rows-end ws i h, or-false)
 
-  -- the row at i has the fault in its command; in its value; or in neither
-  module _ (h : 4 ≤ length ws - i) (r : Row) (e : r ≡ rowOf (rowAt ws i)) where
-    command-is : f (r .command) ≡ f (rowAt ws i .command)
-    command-is = ap (λ (x : Row). f (x .command)) e
-
-    value-is : f (r .value) ≡ f (rowAt ws i .value)
-    value-is = ap (λ (x : Row). f (x .value)) e
-
-    pub any-first : f (r .command) ≡ true → true ≡ any f (spansOf (rowsIn (drop i ws)) tr)
-    any-first k = let p : f (rowAt ws i .command) ≡ true = sym command-is ∙ k in sym (any-cons h ∙ simp p)
-
-    pub any-second : f (r .command) ≡ false → f (r .value) ≡ true → true ≡ any f (spansOf (rowsIn (drop i ws)) tr)
-    any-second k l =
-        let p : f (rowAt ws i .command) ≡ false = sym command-is ∙ k in
-        let q : f (rowAt ws i .value) ≡ true = sym value-is ∙ l in
-        sym (any-cons h ∙ simp (p, q))
-
-    pub any-next : f (r .command) ≡ false → f (r .value) ≡ false
-        → any f (spansOf (rowsIn (drop (i + 4) ws)) tr) ≡ any f (spansOf (rowsIn (drop i ws)) tr)
-    any-next k l =
-        let p : f (rowAt ws i .command) ≡ false = sym command-is ∙ k in
-        let q : f (rowAt ws i .value) ≡ false = sym value-is ∙ l in
-        sym (any-cons h ∙ simp (p, q))
-
 -- Looking at every row once, by one test of its two spans
 
 or-both : (a b c : Bool) → (a || (b || c)) ≡ ((a || b) || c)
@@ -149,6 +126,19 @@ within-both s x y k = let n = or-none (passesEnd s x) (passesEnd s y) k in (ltb-
 
 pub row-within : (s : List ℕ) (r : Row) → (passesEnd s (r .command) || passesEnd s (r .value)) ≡ false → (endOf (r .command) ≤ length s) × (endOf (r .value) ≤ length s)
 row-within s r k = within-both s (r .command) (r .value) k
+
+-- spans that end at or before a place
+module _ (r : Row) (p : ℕ) (t : Bool) (e : t ≡ (leb (endOf (r .command)) p && leb (endOf (r .value)) p)) (k : t ≡ true) where
+  pub row-near : (endOf (r .command) ≤ p) × (endOf (r .value) ≤ p)
+  row-near =
+      let a = leb (endOf (r .command)) p in
+      let b = leb (endOf (r .value)) p in
+      (leb-true (endOf (r .command)) p (and-left a b (sym e ∙ k)), leb-true (endOf (r .value)) p (and-right a b (sym e ∙ k)))
+
+  pub near-within : (s : List ℕ) → p ≤ length s → false ≡ (passesEnd s (r .command) || passesEnd s (r .value))
+  near-within s h =
+      let n = row-near in
+      rw (le-ltb (length s) (endOf (r .command)) (omega arith), le-ltb (length s) (endOf (r .value)) (omega arith)) refl
 
 pub row-sized : (s : List ℕ) (r : Row) (x : ℕ) → (passesEnd s (r .command) || passesEnd s (r .value)) ≡ false → x ≡ r .command .len + r .value .len + 2 → x < 2 ^ 64
     → x ≡ sat (length (rowText s r))

@@ -13,7 +13,7 @@ use Rattle.output.specs.Put.{joined}
 use Rattle.document_writer.specs.declared.documents.Row.{Row}
 use Rattle.document_writer.specs.declared.documents.Run.{Run}
 use Rattle.document_writer.specs.declared.documents.Look.{Look}
-use Rattle.document_writer.specs.declared.documents.Look.the-variants.{Past, Torn, Need}
+use Rattle.document_writer.specs.declared.documents.Look.the-variants.{Past, Ill, Need}
 
 -- the row of the four words from i on
 abbrev pub rowAt : (ws : List ℕ) (i : ℕ) → RowAt
@@ -46,7 +46,7 @@ pub record RunAt (s ws : List ℕ) (i : ℕ) (r : Run) : Type 0 where
 -- what 5 and 6 say of a document, and how many bytes it has
 abbrev pub Looked : (s ws : List ℕ) → Span → Look → Type 0
 Looked s ws tr Past = any (passesEnd s) (spansOf (rowsIn ws) tr) ≡ true
-Looked s ws tr Torn = (any (passesEnd s) (spansOf (rowsIn ws) tr) ≡ false) × (any (illSpan s) (spansOf (rowsIn ws) tr) ≡ true)
+Looked s ws tr Ill = (any (passesEnd s) (spansOf (rowsIn ws) tr) ≡ false) × (any (illSpan s) (spansOf (rowsIn ws) tr) ≡ true)
 Looked s ws tr (Need n) =
     (any (passesEnd s) (spansOf (rowsIn ws) tr) ≡ false) × (any (illSpan s) (spansOf (rowsIn ws) tr) ≡ false) × (n ≡ sat (length (documentText s ws tr)))
 

@@ -7,23 +7,24 @@ use lin_spec::room;
 use output::put_byte;
 use output::put_bytes;
 use output::sat_add;
-use text::Fault;
-use text::faulty;
-use text::is_utf8;
+use text::index_text;
+use text::near_ill;
 use text::part;
+use text::past_end;
 use text::shown;
-use text::torn;
+use text::span_ill;
+use text::well_formed_len;
 ghost use mathlib.Core.Path.{_≡_};
-ghost use mathlib.Core.Bool.{true, false, _||_};
+ghost use mathlib.Core.Bool.{true, false, _&&_, _||_};
 ghost use Prim.Native.Nat.{_+_, _-_, _≤_};
 ghost use lib.ListN.{length};
-ghost use Rattle.lin_spec.specs.Records.{limit, bytesAt};
+ghost use lib.Dec.{leb};
+ghost use Rattle.lin_spec.specs.Records.{limit, endOf, bytesAt};
 ghost use Rattle.lin_spec.specs.Refusals.{sat, passesEnd, illSpan};
-ghost use Rattle.lin_spec.specs.Utf8.{utf8};
-ghost use Rattle.lin_spec.specs.Base.{any};
+ghost use Rattle.lin_spec.specs.Utf8.{longest};
 ghost use Rattle.lin_spec.specs.Output.{Outcome, answerOf};
 ghost use Rattle.lin_spec.specs.Document.{rowsIn, spansOf, documentText, writeDocument};
-ghost use Rattle.text.specs.Fault.{faultOf};
+ghost use Rattle.text.specs.Index.{Indexed};
 ghost use Rattle.output.specs.Put.{Room, Put};
 ghost use Rattle.document_writer.specs.Rows.{rowAt, rowOf, rowText, Stands, runText, RunAt, Looked, Lawful};
 
@@ -168,66 +169,47 @@ fn put_document(out: &mut [u8], text: &[u8], rows: &[u32], trailing: Span) -> us
     put_span(out, o, text, trailing)
 }
 
-// How many bytes a row has.
-fn row_len(text: &[u8], row: Row) -> u64
-    ensures { λ r. ⌜ r ≡ sat (length (rowText (now (text .entry)) row)) ⌝ }
-{
-    let a = shown(text, row.command).len() as u64;
-    let b = shown(text, row.value).len() as u64;
-    sat_add(sat_add(a, b), 2)
-}
-
-// How many bytes a document has.
-fn document_len(text: &[u8], rows: &[u32], trailing: Span) -> u64
-    ensures { λ r. ⌜ r ≡ sat (length (documentText (now (text .entry)) (now (rows .entry)) trailing)) ⌝ }
-{
-    let mut i = 0;
-    let mut n = 0;
-    while 4 <= rows.len() - i {
-        n = sat_add(n, row_len(text, row_at(rows, i)));
-        i += 4;
-    }
-    sat_add(n, shown(text, trailing).len() as u64)
-}
-
-// Whether a span of the document has this fault.
-fn any_faulty(text: &[u8], rows: &[u32], trailing: Span, fault: Fault) -> bool
-    ensures { λ r. ⌜ r ≡ any (faultOf fault (now (text .entry))) (spansOf (rowsIn (now (rows .entry))) trailing) ⌝ }
-{
-    let mut i = 0;
-    while 4 <= rows.len() - i {
-        let row = row_at(rows, i);
-        if faulty(text, row.command, fault) {
-            return true;
-        }
-        if faulty(text, row.value, fault) {
-            return true;
-        }
-        i += 4;
-    }
-    faulty(text, trailing, fault)
-}
-
-// What a document meets in a text that is UTF-8: 5, 6, or neither, with how many bytes it has.
+// What a document meets: 5, 6, or neither, with how many bytes it has.
 enum Look {
     Past,
-    Torn,
+    Ill,
     Need(u64),
 }
 
+// Whether a span ends at or before a place.
+fn ends_by(place: usize, x: Span) -> bool
+    ensures { λ r. ⌜ r ≡ leb (endOf x) place ⌝ }
+{
+    x.start as usize + x.len as usize <= place
+}
+
+// Whether both spans of a row end at or before a place: nearly always they end before the first ill-formed one.
+fn row_near(place: usize, row: Row) -> bool
+    ensures { λ r. ⌜ r ≡ (leb (endOf (row .command)) place && leb (endOf (row .value)) place) ⌝ }
+{
+    ends_by(place, row.command) & ends_by(place, row.value)
+}
+
 // Whether a span of a row passes the end of the text.
-fn row_past(text: &[u8], row: Row) -> bool
+fn row_past(text: &[u8], first: usize, row: Row) -> bool
+    requires { ⌜ first ≤ length (now text) ⌝ }
     ensures { λ r. ⌜ r ≡ (passesEnd (now (text .entry)) (row .command) || passesEnd (now (text .entry)) (row .value)) ⌝ }
 {
-    faulty(text, row.command, Fault::PastEnd) | faulty(text, row.value, Fault::PastEnd)
+    if row_near(first, row) {
+        return false;
+    }
+    past_end(text, row.command) | past_end(text, row.value)
 }
 
 // Whether a span of a row is not UTF-8.
-fn row_torn(text: &[u8], row: Row) -> bool
-    requires { ⌜ (utf8 (now text) ≡ true) × ((passesEnd (now text) (row .command) || passesEnd (now text) (row .value)) ≡ false) ⌝ }
+fn row_ill(text: &[u8], first: usize, next: &[u32], row: Row) -> bool
+    requires { ⌜ (first ≡ longest (now text)) × Indexed (now text) (now next) ⌝ }
     ensures { λ r. ⌜ r ≡ (illSpan (now (text .entry)) (row .command) || illSpan (now (text .entry)) (row .value)) ⌝ }
 {
-    torn(text, row.command) | torn(text, row.value)
+    if row_near(first, row) {
+        return near_ill(text, first, row.command) | near_ill(text, first, row.value);
+    }
+    span_ill(text, next, row.command) | span_ill(text, next, row.value)
 }
 
 // How many bytes a row has whose spans are within the text.
@@ -240,8 +222,8 @@ fn row_size(row: Row) -> u64
 }
 
 // Looks at every row once.
-fn look_at(text: &[u8], rows: &[u32], trailing: Span) -> Look
-    requires { ⌜ utf8 (now text) ≡ true ⌝ }
+fn look_at(text: &[u8], first: usize, next: &[u32], rows: &[u32], trailing: Span) -> Look
+    requires { ⌜ (first ≡ longest (now text)) × Indexed (now text) (now next) ⌝ }
     ensures { λ r. ⌜ Looked (now (text .entry)) (now (rows .entry)) trailing r ⌝ }
 {
     let mut i = 0;
@@ -249,18 +231,18 @@ fn look_at(text: &[u8], rows: &[u32], trailing: Span) -> Look
     let mut ill = false;
     while 4 <= rows.len() - i {
         let row = row_at(rows, i);
-        if row_past(text, row) {
+        if row_past(text, first, row) {
             return Look::Past;
         }
-        ill = ill | row_torn(text, row);
+        ill = ill | row_ill(text, first, next, row);
         n = sat_add(n, row_size(row));
         i += 4;
     }
-    if faulty(text, trailing, Fault::PastEnd) {
+    if past_end(text, trailing) {
         return Look::Past;
     }
-    if ill | torn(text, trailing) {
-        return Look::Torn;
+    if ill | span_ill(text, next, trailing) {
+        return Look::Ill;
     }
     Look::Need(sat_add(n, trailing.len as u64))
 }
@@ -277,19 +259,51 @@ fn write_fitting(text: &[u8], rows: &[u32], trailing: Span, out: &mut [u8], need
     Written::Length(n)
 }
 
-// Writes a document over a text that is within the limit, and not UTF-8 as a whole.
-fn write_apart(text: &[u8], rows: &[u32], trailing: Span, out: &mut [u8]) -> Written
-    requires { ⌜ length (now text) ≤ limit ⌝ }
+// Writes a document over a text that is within the limit.
+fn write_looked(
+    text: &[u8],
+    first: usize,
+    next: &[u32],
+    rows: &[u32],
+    trailing: Span,
+    out: &mut [u8],
+) -> Written
+    requires { ⌜ (length (now text) ≤ limit) × (first ≡ longest (now text)) × Indexed (now text) (now next) ⌝ }
     ensures { λ r. ⌜ _≡_ {A = Outcome} (record { answer = answerOf r; output = now (out .exit) }) (writeDocument (now (text .entry)) (now (rows .entry)) trailing (now (out .entry))) ⌝ }
 {
-    if any_faulty(text, rows, trailing, Fault::PastEnd) {
-        return Written::Refused(Refusal::SpanPastEnd);
+    match look_at(text, first, next, rows, trailing) {
+        Look::Past => Written::Refused(Refusal::SpanPastEnd),
+        Look::Ill => Written::Refused(Refusal::SpanNotUtf8),
+        Look::Need(need) => write_fitting(text, rows, trailing, out, need),
     }
-    if any_faulty(text, rows, trailing, Fault::NotUtf8) {
-        return Written::Refused(Refusal::SpanNotUtf8);
+}
+
+// The same, with an index of every block.
+fn write_indexed(text: &[u8], first: usize, rows: &[u32], trailing: Span, out: &mut [u8]) -> Written
+    requires { ⌜ (length (now text) ≤ limit) × (first ≡ longest (now text)) ⌝ }
+    ensures { λ r. ⌜ _≡_ {A = Outcome} (record { answer = answerOf r; output = now (out .exit) }) (writeDocument (now (text .entry)) (now (rows .entry)) trailing (now (out .entry))) ⌝ }
+{
+    let mut next = [0; 1025];
+    index_text(text, &mut next);
+    write_looked(text, first, &next, rows, trailing, out)
+}
+
+// Whether the rows have together more bytes than this. Nothing is promised of it: the answers are the same, and it chooses only how they are found.
+fn rows_pass(bytes: usize, rows: &[u32]) -> bool
+    ensures { λ r. ⌜ r ≡ r ⌝ }
+{
+    let most = bytes as u64;
+    let mut n = 0;
+    let mut i = 0;
+    while 4 <= rows.len() - i {
+        let more = row_size(row_at(rows, i));
+        if most - n < more {
+            return true;
+        }
+        n += more;
+        i += 4;
     }
-    let need = document_len(text, rows, trailing);
-    write_fitting(text, rows, trailing, out, need)
+    false
 }
 
 // Writes the document from the first byte of the output on, and gives its length; or refuses, and changes nothing.
@@ -299,12 +313,12 @@ pub fn write_document(text: &[u8], rows: &[u32], trailing: Span, out: &mut [u8])
     if LIMIT < text.len() {
         return Written::Refused(Refusal::TextTooLong);
     }
-    if !is_utf8(text) {
-        return write_apart(text, rows, trailing, out);
+    let first = well_formed_len(text);
+    if first < text.len() {
+        if rows_pass(text.len(), rows) {
+            return write_indexed(text, first, rows, trailing, out);
+        }
     }
-    match look_at(text, rows, trailing) {
-        Look::Past => Written::Refused(Refusal::SpanPastEnd),
-        Look::Torn => Written::Refused(Refusal::SpanNotUtf8),
-        Look::Need(need) => write_fitting(text, rows, trailing, out, need),
-    }
+    let next = [first as u32];
+    write_looked(text, first, &next, rows, trailing, out)
 }

@@ -434,8 +434,8 @@ module _ (s : List ℕ) (h : Head) (ds ws cs t : List ℕ) (k : Head) (es us fs 
       let c = and-left texts _ b in
       let d = and-right title _ c in
       rw (
-        spans-any (illSpan s) s h ds ws cs,
-        spans-any (illSpan t) t k es us fs,
+        spans-any (illSpan s) s h ds (callRows ws) cs,
+        spans-any (illSpan t) t k es (callRows us) fs,
         head-any (illSpan s) h,
         head-any (illSpan t) k,
         names-ill s t (h .names) (k .names) (and-left names _ a),

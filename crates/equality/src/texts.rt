@@ -1,6 +1,7 @@
 // Texts and calls compared by bytes, each span out of its own text. (01: equality)
 use compare::same_bytes;
 use lent::call_at;
+use lent::one_by_one;
 use lin_spec::Call;
 use lin_spec::MaybeSpan;
 use lin_spec::Span;
@@ -15,11 +16,12 @@ ghost use Rattle.lin_spec.specs.Board.{mapOption};
 ghost use Rattle.lin_spec.specs.Equality.{eqOption, eqFlag, eqCall};
 ghost use Rattle.equality.specs.Parts.{Alike, callBytes, callsBytes};
 
-// Tests whether two texts are the same, where the first is short, or short for its rows. Promised is what its users need: where it says true, they are.
+// Tests whether two texts are the same, unless the texts of the rows are best looked at one by one. Promised is what its users need: where it says true, they
+// are.
 pub(crate) fn texts_alike(text: &[u8], rows: &[u32], text2: &[u8]) -> bool
     ensures { λ r. ⌜ Alike r (now (text .entry)) (now (text2 .entry)) ⌝ }
 {
-    if (256 < text.len()) & (rows.len() < text.len() / 4) {
+    if one_by_one(text.len(), rows) {
         return false;
     }
     same_bytes(text, text2)

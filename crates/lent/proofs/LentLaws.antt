@@ -3,19 +3,19 @@
 use Prim.Native.Nat.{ℕ, _+_, _-_, _/_, _≤_, _<_}
 use native.Mathlib.Numerals.{add-one}
 use native.Mathlib.Omega.{arith}
-use mathlib.Core.Path.{_≡_, refl, ap, sym, _∙_, subst}
+use mathlib.Core.Path.{_≡_, refl, ap, sym, _∙_}
 use mathlib.Core.Bool.{Bool, true, false, _&&_, _||_, not, or-assoc, or-false}
 use mathlib.Core.List.{List, [], _∷_, _++_, map}
 use mathlib.Core.Option.{Option, none, some}
-use lib.ListN.{length, getD, drop, drop-of-length-le, length-drop}
-use lib.Seq.{drop-cons}
+use lib.ListN.{length, getD, take, drop, drop-of-length-le, length-drop}
+use lib.Seq.{drop-cons, length-take-le}
 use lib.Dec.{eqb}
 use borrow.Author.Tests.{eq-eqb, ne-eqb, lt-ltb, le-ltb, ltb-false}
 use Rattle.lin_spec.specs.Base.{pick, any}
-use Rattle.lin_spec.specs.Records.{limit, endOf, optionOf}
+use Rattle.lin_spec.specs.Records.{limit, optionOf}
 use Rattle.lin_spec.specs.Refusals.{unless, passesEnd, illSpan}
 use Rattle.lin_spec.specs.Refusals.Answer.{refused, accepted}
-use Rattle.lin_spec.specs.Utf8.{utf8}
+use Rattle.lin_spec.specs.Utf8.{longest}
 use Rattle.lin_spec.specs.Lent.{rowsOf, callRow, callRows, callIn, Lent, lent, lentBoard, spanIn, callSpans, lentSpans, badFlag, badCards, badNumber, lentChecks}
 use Rattle.lin_spec.specs.declared.Span.{Span}
 use Rattle.lin_spec.specs.declared.MaybeSpan.{MaybeSpan}
@@ -28,14 +28,13 @@ use Rattle.lin_spec.specs.declared.Refusal.{Refusal}
 use Rattle.lin_spec.specs.declared.Refusal.the-variants.{TextTooLong, OutOfRange, SpanPastEnd, SpanNotUtf8}
 use Rattle.lin_spec.proofs.Base.{or-none}
 use Rattle.lin_spec.proofs.Checks.{unmet, unless-refused, unless-passed}
+use Rattle.text.proofs.IndexLaws.{indexed-first}
 use Rattle.text.proofs.ListLaws.{next-word}
 use Rattle.lent.specs.Calls.{rowAt, callAt, spansOf}
 use Rattle.lent.specs.declared.heads.Head.{Head}
 use Rattle.lent.specs.declared.checks.Bounds.{Bounds}
-use Rattle.lent.specs.declared.checks.Look.{Look}
-use Rattle.lent.specs.declared.checks.Look.the-variants.{Torn}
 use Rattle.lent.specs.Heads.{boardOf, headSpans}
-use Rattle.lent.specs.Checks.{verdictOf, checked, amiss, WholeIfTorn, RowsBounded, Bounded}
+use Rattle.lent.specs.Checks.{verdictOf, checked, amiss, Started, RowsBounded, Bounded}
 
 pub no-rows : {A : Type 0} (cs : List A) → length cs ≡ 0 → cs ≡ []
 no-rows [] h = refl
@@ -143,11 +142,13 @@ module _ (s : List ℕ) (x : Span) (u : Bool) (p : u ≡ passesEnd s x) where
   pub amiss-within : u ≡ false → (t : Bool) → t ≡ illSpan s x → t ≡ amiss s x
   amiss-within h t f = rw (← p, h) f
 
-pub look-whole : (l : Look) (s : List ℕ) → l ≡ Torn → WholeIfTorn l s → utf8 s ≡ true
-look-whole l s e h = subst (λ (n : Look). WholeIfTorn n s) e h
+-- An index of one word or none
 
-pub look-within : (s : List ℕ) (x : Span) (t : Bool) → t ≡ passesEnd s x → t ≡ false → endOf x ≤ length s
-look-within s x t e k = ltb-false (length s) (endOf x) (sym e ∙ k)
+pub word-count : (n w : ℕ) → w ≤ 1 → w ≡ length (take w (n ∷ []))
+word-count n w h = sym (length-take-le w (n ∷ []) h)
+
+pub started : (s : List ℕ) (n : ℕ) → n ≡ longest s → length s ≤ limit → Started s (record { first = n; words = 1 })
+started s n e h = record { few = omega arith; index = indexed-first s n e; short = λ _. h }
 
 -- One call: the span of its bid, and that of its annotation where there is one
 
@@ -174,6 +175,14 @@ module _ (f : Span → Bool) (c : Call) where
       go true = refl
       go false = sym (or-false (f (c .annotation)))
 
+-- how many bytes both have together
+module _ (c : Call) (m : ℕ) where
+  pub bytes-bare : c .annotated ≡ 0 → m ≡ m + pick (eqb (c .annotated) 0) 0 (c .annotation .len)
+  bytes-bare e = rw (eq-eqb (c .annotated) 0 e) (omega arith)
+
+  pub bytes-both : (c .annotated ≡ 0 → ⊥) → m + c .annotation .len ≡ m + pick (eqb (c .annotated) 0) 0 (c .annotation .len)
+  bytes-both e = rw (ne-eqb (c .annotated) 0 e) refl
+
 -- All spans: the names, the texts that may be absent, and those of the calls
 
 any-append : {A : Type 0} (f : A → Bool) (x y : List A) → any f (x ++ y) ≡ (any f x || any f y)
@@ -186,11 +195,11 @@ unfolding any callSpans
 calls-any f [] = refl
 calls-any f (c ∷ cs) = any-append f (spansOf c) (callSpans (map callIn cs)) ∙ ap (λ (t : Bool). any f (spansOf c) || t) (calls-any f cs)
 
--- whatever the deal
-module _ (f : Span → Bool) (s : List ℕ) (h : Head) (ds ws cs : List ℕ) where
-  pub spans-any : any f (lentSpans (lent s (boardOf h ds) ws cs)) ≡ (any f (headSpans h) || any (λ c. any f (spansOf c)) (callRows ws))
-  unfolding lentSpans lentBoard
-  spans-any = simp (any-append, calls-any, or-assoc)
+-- whatever the deal, and whatever the calls are lent as
+pub spans-any : (f : Span → Bool) (s : List ℕ) (h : Head) (ds : List ℕ) (calls : List Call) (cs : List ℕ)
+    → any f (lentSpans (record { text = s; board = boardOf h ds; calls = calls; cards = cs })) ≡ (any f (headSpans h) || any (λ c. any f (spansOf c)) calls)
+unfolding lentSpans lentBoard
+spans-any f s h ds calls cs = simp (any-append, calls-any, or-assoc)
 
 pub head-any : (f : Span → Bool) (h : Head) → any f (headSpans h)
     ≡ (any f (h .names) || (any f (spanIn (optionOf (h .title))) || (any f (spanIn (optionOf (h .«room_board»))) || any f (spanIn (optionOf (h .«board_header»))))))
@@ -211,11 +220,11 @@ module _ (s : List ℕ) (h : Head) (ds ws cs : List ℕ) where
   pub bounds-all : (r : Bounds) → RowsBounded s ws r → (t : Bool) → t ≡ badCards cs → (u : Bool) → u ≡ any (passesEnd s) (headSpans h)
       → Bounded (lent s (boardOf h ds) ws cs) (record { number = t || r .number; past = u || r .past })
   unfolding badNumber
-  bounds-all r f t et u eu = record { numbers = rw (et, f .flags) refl; ends = rw (eu, f .ends) (sym (spans-any (passesEnd s) s h ds ws cs)) }
+  bounds-all r f t et u eu = record { numbers = rw (et, f .flags) refl; ends = rw (eu, f .ends) (sym (spans-any (passesEnd s) s h ds (callRows ws) cs)) }
 
   pub texts-all : (t u : Bool) → t ≡ any (amiss s) (headSpans h) → u ≡ any (λ c. any (amiss s) (spansOf c)) (callRows ws)
       → (t || u) ≡ any (amiss s) (lentSpans (lent s (boardOf h ds) ws cs))
-  texts-all t u et eu = rw (et, eu) (sym (spans-any (amiss s) s h ds ws cs))
+  texts-all t u et eu = rw (et, eu) (sym (spans-any (amiss s) s h ds (callRows ws) cs))
 
 -- where nothing passes the end, what is amiss is not UTF-8
 pub amiss-ill : (s : List ℕ) (xs : List Span) → any (passesEnd s) xs ≡ false → any (amiss s) xs ≡ any (illSpan s) xs

@@ -2,6 +2,8 @@
 use Prim.Native.Nat.{ℕ, _+_}
 use mathlib.Core.List.{List, _∷_}
 use lib.ListN.{getD}
+use lib.Dec.{eqb}
+use Rattle.lin_spec.specs.Base.{pick}
 use Rattle.lin_spec.specs.Lent.{callRow, callIn, spanIn}
 use Rattle.lin_spec.specs.declared.Span.{Span}
 use Rattle.lin_spec.specs.declared.Call.{Call}
@@ -16,3 +18,7 @@ callAt ws i = rowAt callRow ws i
 -- the spans that a call names
 abbrev pub spansOf : Call → List Span
 spansOf c = c .bid ∷ spanIn (callIn c .annotation)
+
+-- how many bytes its texts have together
+abbrev pub textBytes : Call → ℕ
+textBytes c = c .bid .len + pick (eqb (c .annotated) 0) 0 (c .annotation .len)

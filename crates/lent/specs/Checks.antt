@@ -1,19 +1,20 @@
 -- What the checks of a lent board answer. (01: Eight refusals)
-use Prim.Native.Nat.{ℕ}
+use Prim.Native.Nat.{ℕ, _≤_, _<_}
 use mathlib.Core.Path.{_≡_}
-use mathlib.Core.Bool.{Bool, true, _||_}
-use mathlib.Core.List.{List}
+use mathlib.Core.Bool.{Bool, _||_}
+use mathlib.Core.List.{List, [], _∷_}
+use lib.ListN.{length, take}
 use Rattle.lin_spec.specs.Base.{any}
+use Rattle.lin_spec.specs.Records.{limit}
 use Rattle.lin_spec.specs.Refusals.{Answer, unless, passesEnd, illSpan}
 use Rattle.lin_spec.specs.Refusals.Answer.{refused, accepted}
-use Rattle.lin_spec.specs.Utf8.{utf8}
 use Rattle.lin_spec.specs.declared.Span.{Span}
 use Rattle.lin_spec.specs.Lent.{callRows, Lent, lentSpans, badFlag, badNumber, lentChecks}
 use Rattle.lin_spec.specs.declared.Verdict.{Verdict}
 use Rattle.lin_spec.specs.declared.Verdict.the-variants.{Accepted, Refused}
+use Rattle.text.specs.Index.{Indexed}
 use Rattle.lent.specs.declared.checks.Bounds.{Bounds}
-use Rattle.lent.specs.declared.checks.Look.{Look}
-use Rattle.lent.specs.declared.checks.Look.the-variants.{Ill, Torn}
+use Rattle.lent.specs.declared.checks.Start.{Start}
 use Rattle.lent.specs.Calls.{spansOf}
 
 -- a verdict as an answer that has no result
@@ -29,10 +30,11 @@ checked other x = unless (lentChecks other x) tt
 abbrev pub amiss : List ℕ → Span → Bool
 amiss s x = passesEnd s x || illSpan s x
 
--- a look at the ends of a span is for a text that is UTF-8 as a whole
-abbrev pub WholeIfTorn : Look → List ℕ → Type 0
-WholeIfTorn Ill s = Unit
-WholeIfTorn Torn s = utf8 s ≡ true
+-- an index of s of one word or none, and where it has one, s is no longer than a text may be
+pub record Started (s : List ℕ) (r : Start) : Type 0 where
+  pub few : r .words ≤ 1
+  pub index : Indexed s (take (r .words) (r .first ∷ []))
+  pub short : 0 < r .words → length s ≤ limit
 
 -- what is wrong with the numbers of the rows ws over the text s
 pub record RowsBounded (s ws : List ℕ) (r : Bounds) : Type 0 where

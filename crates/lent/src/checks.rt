@@ -9,19 +9,23 @@ use lin_spec::Span;
 use lin_spec::Verdict;
 use text::Fault;
 use text::faulty;
-use text::is_utf8;
-use text::torn;
+use text::index_text;
+use text::past_end;
+use text::span_ill;
+use text::well_formed_len;
 ghost use mathlib.Core.Path.{_≡_};
 ghost use mathlib.Core.List.{List};
-ghost use Prim.Native.Nat.{ℕ};
+ghost use Prim.Native.Nat.{ℕ, _+_, _≤_, _<_};
+ghost use lib.ListN.{length};
 ghost use Rattle.lin_spec.specs.Base.{any};
-ghost use Rattle.lin_spec.specs.Records.{optionOf};
+ghost use Rattle.lin_spec.specs.Records.{limit, optionOf};
 ghost use Rattle.lin_spec.specs.Refusals.{passesEnd};
 ghost use Rattle.lin_spec.specs.Lent.{callRows, lent, lentSpans, spanIn, badFlag, badCards};
 ghost use Rattle.text.specs.Fault.{faultOf};
-ghost use Rattle.lent.specs.Calls.{spansOf};
+ghost use Rattle.text.specs.Index.{Indexed};
+ghost use Rattle.lent.specs.Calls.{spansOf, textBytes};
 ghost use Rattle.lent.specs.Heads.{boardOf, headSpans};
-ghost use Rattle.lent.specs.Checks.{verdictOf, checked, amiss, WholeIfTorn, RowsBounded, Bounded};
+ghost use Rattle.lent.specs.Checks.{verdictOf, checked, amiss, Started, RowsBounded, Bounded};
 
 // Whether a card is none of the 52.
 pub fn bad_cards(cards: &[u8]) -> bool
@@ -37,54 +41,31 @@ pub fn bad_cards(cards: &[u8]) -> bool
 }
 
 // Whether a flag of a call is neither 0 nor 1.
-fn bad_flag(c: Call) -> bool
+pub fn bad_flag(c: Call) -> bool
     ensures { λ r. ⌜ r ≡ badFlag c ⌝ }
 {
     (1 < c.alerted) | (1 < c.annotated)
 }
 
-// How a span is looked at by 6: byte for byte; or, within a text that is UTF-8 as a whole, by its ends.
-enum Look {
-    Ill,
-    Torn,
-}
-
 // Whether 5 or 6 meets a span.
-fn meets(text: &[u8], x: Span, look: Look) -> bool
-    requires { ⌜ WholeIfTorn look (now text) ⌝ }
+fn meets(text: &[u8], next: &[u32], x: Span) -> bool
+    requires { ⌜ Indexed (now text) (now next) ⌝ }
     ensures { λ r. ⌜ r ≡ amiss (now (text .entry)) x ⌝ }
 {
-    if faulty(text, x, Fault::PastEnd) {
+    if past_end(text, x) {
         return true;
     }
-    match look {
-        Look::Ill => faulty(text, x, Fault::NotUtf8),
-        Look::Torn => torn(text, x),
-    }
-}
-
-// How 6 is looked at. A text that is short, or short for its rows, is looked at as a whole first.
-fn look_for(text: &[u8], rows: &[u32]) -> Look
-    ensures { λ r. ⌜ WholeIfTorn r (now (text .entry)) ⌝ }
-{
-    let short = (text.len() <= 256) | (text.len() / 4 <= rows.len());
-    if !short {
-        return Look::Ill;
-    }
-    if is_utf8(text) {
-        return Look::Torn;
-    }
-    Look::Ill
+    span_ill(text, next, x)
 }
 
 // Whether 5 or 6 meets a name.
-fn name_meets(text: &[u8], names: [Span; 4], look: Look) -> bool
-    requires { ⌜ WholeIfTorn look (now text) ⌝ }
+fn name_meets(text: &[u8], next: &[u32], names: [Span; 4]) -> bool
+    requires { ⌜ Indexed (now text) (now next) ⌝ }
     ensures { λ r. ⌜ r ≡ any (amiss (now (text .entry))) names ⌝ }
 {
     let mut seat = 0;
     while seat < 4 {
-        if meets(text, names[seat], look) {
+        if meets(text, next, names[seat]) {
             return true;
         }
         seat += 1;
@@ -93,53 +74,54 @@ fn name_meets(text: &[u8], names: [Span; 4], look: Look) -> bool
 }
 
 // Whether a text that is present has this fault.
-pub fn present_faulty(text: &[u8], x: MaybeSpan, fault: Fault) -> bool
+pub fn present_faulty(text: &[u8], next: &[u32], x: MaybeSpan, fault: Fault) -> bool
+    requires { ⌜ Indexed (now text) (now next) ⌝ }
     ensures { λ r. ⌜ r ≡ any (faultOf fault (now (text .entry))) (spanIn (optionOf x)) ⌝ }
 {
     match x {
         MaybeSpan::Absent => false,
-        MaybeSpan::Present(s) => faulty(text, s, fault),
+        MaybeSpan::Present(s) => faulty(text, next, s, fault),
     }
 }
 
 // Whether 5 or 6 meets a text that is present.
-fn present_meets(text: &[u8], x: MaybeSpan, look: Look) -> bool
-    requires { ⌜ WholeIfTorn look (now text) ⌝ }
+fn present_meets(text: &[u8], next: &[u32], x: MaybeSpan) -> bool
+    requires { ⌜ Indexed (now text) (now next) ⌝ }
     ensures { λ r. ⌜ r ≡ any (amiss (now (text .entry))) (spanIn (optionOf x)) ⌝ }
 {
     match x {
         MaybeSpan::Absent => false,
-        MaybeSpan::Present(s) => meets(text, s, look),
+        MaybeSpan::Present(s) => meets(text, next, s),
     }
 }
 
 // Whether 5 or 6 meets a text of a call. The place of an annotation that is absent is not looked at.
-fn call_meets(text: &[u8], c: Call, look: Look) -> bool
-    requires { ⌜ WholeIfTorn look (now text) ⌝ }
+pub fn call_meets(text: &[u8], next: &[u32], c: Call) -> bool
+    requires { ⌜ Indexed (now text) (now next) ⌝ }
     ensures { λ r. ⌜ r ≡ any (amiss (now (text .entry))) (spansOf c) ⌝ }
 {
-    if meets(text, c.bid, look) {
+    if meets(text, next, c.bid) {
         return true;
     }
     if c.annotated == 0 {
         return false;
     }
-    meets(text, c.annotation, look)
+    meets(text, next, c.annotation)
 }
 
 // Whether 5 or 6 meets a text of the heading.
-fn head_meets(text: &[u8], head: Head, look: Look) -> bool
-    requires { ⌜ WholeIfTorn look (now text) ⌝ }
+pub fn head_meets(text: &[u8], next: &[u32], head: Head) -> bool
+    requires { ⌜ Indexed (now text) (now next) ⌝ }
     ensures { λ r. ⌜ r ≡ any (amiss (now (text .entry))) (headSpans head) ⌝ }
 {
     let names = head.names;
     let title = head.title;
     let room_board = head.room_board;
     let board_header = head.board_header;
-    let a = name_meets(text, names, look);
-    let b = present_meets(text, title, look);
-    let c = present_meets(text, room_board, look);
-    let d = present_meets(text, board_header, look);
+    let a = name_meets(text, next, names);
+    let b = present_meets(text, next, title);
+    let c = present_meets(text, next, room_board);
+    let d = present_meets(text, next, board_header);
     a | (b | (c | d))
 }
 
@@ -150,11 +132,11 @@ pub struct Bounds {
 }
 
 // Whether a text of a call passes the end, by one test for both texts.
-fn call_past(text: &[u8], c: Call) -> bool
+pub fn call_past(text: &[u8], c: Call) -> bool
     ensures { λ r. ⌜ r ≡ any (passesEnd (now (text .entry))) (spansOf c) ⌝ }
 {
-    let bid = faulty(text, c.bid, Fault::PastEnd);
-    let annotation = faulty(text, c.annotation, Fault::PastEnd);
+    let bid = past_end(text, c.bid);
+    let annotation = past_end(text, c.annotation);
     bid | ((c.annotated != 0) & annotation)
 }
 
@@ -181,14 +163,24 @@ fn name_past(text: &[u8], names: [Span; 4]) -> bool
     let mut past = false;
     let mut seat = 0;
     while seat < 4 {
-        past = past | faulty(text, names[seat], Fault::PastEnd);
+        past = past | past_end(text, names[seat]);
         seat += 1;
     }
     past
 }
 
+// Whether a text that is present passes the end.
+fn present_past(text: &[u8], x: MaybeSpan) -> bool
+    ensures { λ r. ⌜ r ≡ any (passesEnd (now (text .entry))) (spanIn (optionOf x)) ⌝ }
+{
+    match x {
+        MaybeSpan::Absent => false,
+        MaybeSpan::Present(s) => past_end(text, s),
+    }
+}
+
 // Whether a text of the heading passes the end.
-fn head_past(text: &[u8], head: Head) -> bool
+pub fn head_past(text: &[u8], head: Head) -> bool
     ensures { λ r. ⌜ r ≡ any (passesEnd (now (text .entry))) (headSpans head) ⌝ }
 {
     let names = head.names;
@@ -196,9 +188,9 @@ fn head_past(text: &[u8], head: Head) -> bool
     let room_board = head.room_board;
     let board_header = head.board_header;
     let a = name_past(text, names);
-    let b = present_faulty(text, title, Fault::PastEnd);
-    let c = present_faulty(text, room_board, Fault::PastEnd);
-    let d = present_faulty(text, board_header, Fault::PastEnd);
+    let b = present_past(text, title);
+    let c = present_past(text, room_board);
+    let d = present_past(text, board_header);
     a | (b | (c | d))
 }
 
@@ -213,26 +205,117 @@ pub fn bounds_of(text: &[u8], head: Head, rows: &[u32], cards: &[u8]) -> Bounds
 }
 
 // Whether 5 or 6 meets a text of a row.
-fn rows_meet(text: &[u8], rows: &[u32], look: Look) -> bool
-    requires { ⌜ WholeIfTorn look (now text) ⌝ }
+fn rows_meet(text: &[u8], next: &[u32], rows: &[u32]) -> bool
+    requires { ⌜ Indexed (now text) (now next) ⌝ }
     ensures { λ r. ⌜ r ≡ any (λ c. any (amiss (now (text .entry))) (spansOf c)) (callRows (now (rows .entry))) ⌝ }
 {
     let mut found = false;
     let mut i = 0;
     while 6 <= rows.len() - i {
-        found = found | call_meets(text, call_at(rows, i), look);
+        found = found | call_meets(text, next, call_at(rows, i));
         i += 6;
     }
     found
 }
 
-// Whether 5 or 6 meets a text of a lent board, whatever its deal and its cards.
+// How many bytes the texts of a call have together.
+pub fn call_bytes(c: Call) -> u64
+    ensures { λ r. ⌜ r ≡ textBytes c ⌝ }
+{
+    if c.annotated == 0 {
+        return c.bid.len as u64;
+    }
+    (c.bid.len as u64) + (c.annotation.len as u64)
+}
+
+// Whether the texts of the rows have together more bytes than the text. It says only how to look, which no answer depends on, so nothing is promised.
+fn spans_pass(len: usize, rows: &[u32]) -> bool
+    ensures { λ r. ⌜ r ≡ r ⌝ }
+{
+    let mut left = len as u64;
+    let mut i = 0;
+    while 6 <= rows.len() - i {
+        let n = call_bytes(call_at(rows, i));
+        if left < n {
+            return true;
+        }
+        left -= n;
+        i += 6;
+    }
+    false
+}
+
+// Whether the texts of the rows are best looked at one by one: in a text that is long for its rows, and has no fewer bytes than they have together. Nothing is
+// promised here either.
+pub fn one_by_one(len: usize, rows: &[u32]) -> bool
+    ensures { λ r. ⌜ r ≡ r ⌝ }
+{
+    if (len <= 256) | (len / 4 <= rows.len()) {
+        return false;
+    }
+    !spans_pass(len, rows)
+}
+
+// The index that a lent board is looked at with first: its first word, and how many words it has, one or none.
+struct Start {
+    first: u32,
+    words: usize,
+}
+
+// No word where the texts of the rows are looked at one by one; else the longest well-formed start. (A text that is too long was refused before.)
+fn start_of(text: &[u8], rows: &[u32]) -> Start
+    ensures { λ r. ⌜ Started (now (text .entry)) r ⌝ }
+{
+    if LIMIT < text.len() {
+        return Start { first: 0, words: 0 };
+    }
+    if one_by_one(text.len(), rows) {
+        return Start { first: 0, words: 0 };
+    }
+    let n = well_formed_len(text);
+    Start {
+        first: n as u32,
+        words: 1,
+    }
+}
+
+// Whether 5 or 6 meets a text of a row, with a word for each block of the text: no text is looked at for longer than a block.
+fn rows_by_blocks(text: &[u8], rows: &[u32]) -> bool
+    requires { ⌜ length (now text) ≤ limit ⌝ }
+    ensures { λ r. ⌜ r ≡ any (λ c. any (amiss (now (text .entry))) (spansOf c)) (callRows (now (rows .entry))) ⌝ }
+{
+    let mut next = [0u32; 1025];
+    index_text(text, &mut next);
+    rows_meet(text, &next, rows)
+}
+
+// The same. Where the text is ill-formed, and the rows have more bytes than it, the blocks are worth their time.
+fn rows_ill(text: &[u8], next: &[u32], rows: &[u32]) -> bool
+    requires { ⌜ Indexed (now text) (now next) × (0 < length (now next) → length (now text) ≤ limit) ⌝ }
+    ensures { λ r. ⌜ r ≡ any (λ c. any (amiss (now (text .entry))) (spansOf c)) (callRows (now (rows .entry))) ⌝ }
+{
+    if next.len() == 0 {
+        return rows_meet(text, next, rows);
+    }
+    if text.len() <= next[0] as usize {
+        return rows_meet(text, next, rows);
+    }
+    if spans_pass(text.len(), rows) {
+        return rows_by_blocks(text, rows);
+    }
+    rows_meet(text, next, rows)
+}
+
+// Whether 5 or 6 meets a text of a lent board, whatever its deal and its cards, in time linear in the text and the rows. (The heading has seven texts at most.)
 pub fn ill_texts(text: &[u8], head: Head, rows: &[u32]) -> bool
     ensures { λ r. ⌜ ((counts cards : List ℕ) → r ≡ any (amiss (now (text .entry))) (lentSpans (lent (now (text .entry)) (boardOf head counts) (now (rows .entry)) cards))) ⌝ }
 {
-    let look = look_for(text, rows);
-    let row = rows_meet(text, rows, look);
-    head_meets(text, head, look) | row
+    let start = start_of(text, rows);
+    let words = start.words;
+    let word = start.first;
+    let first = [word; 1];
+    let row = rows_ill(text, &first[..words], rows);
+    head_meets(text, &first[..words], head) | row
 }
 
 // The first of the checks that meets the call, whatever the deal. `other` says whether another number of the call is outside its range.

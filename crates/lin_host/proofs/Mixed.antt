@@ -1,5 +1,5 @@
--- The third demand for a list of calls of the entry `append` and of the export `lin_append`, mixed, on one output; and what the types of the export's
--- parameters say. (01: Writer, "For the third demand ..")
+-- The third demand for a list of calls of the entries `append` and `append_rows` and of the export `lin_append`, mixed, on one output; and what the types of
+-- the export's parameters say. (01: Writer, "For the third demand ..")
 -- Assumes nothing.
 use Prim.Native.Nat.{ℕ, zero, suc, _*_, _≤_}
 use native.Mathlib.Omega.{arith}

@@ -1,5 +1,5 @@
--- A list of append calls on one output, some by the entry `append` and some by the export `lin_append`. (01: Writer, "For the third demand ..", "this is one
--- claim about the whole list"; "Entries on numbers and byte slices are exported")
+-- A list of append calls on one output, some by the entry `append`, its calls as words, some by `append_rows`, its calls as structs, and some by the export
+-- `lin_append`. (01: Writer, "For the third demand ..", "this is one claim about the whole list"; "Entries on numbers and byte slices are exported")
 use Prim.Native.Nat.{ℕ}
 use mathlib.Core.Path.{_≡_}
 use mathlib.Core.Bool.{Bool}
@@ -15,7 +15,7 @@ use Rattle.host_numbers.specs.Codes.{badCodes}
 use Rattle.lin_host.specs.Writing.{lentNumbers, appendNumbers}
 use Rattle.host_numbers.specs.declared.boards.LinBoard.{LinBoard}
 
--- a call of the entry with the board that it is lent, or one of the export with the numbers that it is lent
+-- a call of either entry with the board that it is lent, which both promise the same of, or one of the export with the numbers that it is lent
 pub data Appending : Type 0 where
   entry : Lent → Appending
   export : (text : List ℕ) (board : LinBoard) (words cards : List ℕ) → Appending

@@ -1,5 +1,6 @@
 // The checks of a PBN record: 1, 8, 5 and 6, each over all that is lent before the next. (01: From PBN; Eight refusals)
 use annotation::any_note_faulty;
+use annotation::notes_pass;
 use lent::present_faulty;
 use lin_spec::LIMIT;
 use lin_spec::MaybeNumber;
@@ -11,15 +12,19 @@ use lin_spec::Span;
 use lin_spec::Verdict;
 use text::Fault;
 use text::faulty;
+use text::index_text;
 ghost use mathlib.Core.Path.{_≡_};
 ghost use mathlib.Core.Bool.{_||_};
 ghost use mathlib.Core.List.{[]};
-ghost use Prim.Native.Nat.{_-_, _≤_};
+ghost use Prim.Native.Nat.{_-_, _^_, _≤_, _<_};
 ghost use lib.ListN.{length};
 ghost use Rattle.lin_spec.specs.Base.{any};
+ghost use Rattle.lin_spec.specs.Records.{limit};
+ghost use Rattle.lin_spec.specs.Refusals.{passesEnd, illSpan};
 ghost use Rattle.lin_spec.specs.Lent.{spanIn};
 ghost use Rattle.lin_spec.specs.Pbn.{pbn, pbnNames, pbnRow, pbnRows, rawOf, badEntry, badCall, badBoardNumber, badPbn, rawSpans, nameSpans, pbnSpans};
 ghost use Rattle.text.specs.Fault.{faultOf};
+ghost use Rattle.text.specs.Index.{Indexed};
 ghost use Rattle.lent.specs.Calls.{rowAt};
 ghost use Rattle.lent.specs.Checks.{verdictOf};
 ghost use Rattle.pbn_checks.specs.Checks.{checked};
@@ -96,22 +101,24 @@ fn bad_board_number(n: MaybeNumber) -> bool
 }
 
 // Whether the raw annotation of a call has this fault.
-fn raw_faulty(text: &[u8], c: PbnCall, fault: Fault) -> bool
+fn raw_faulty(text: &[u8], next: &[u32], c: PbnCall, fault: Fault) -> bool
+    requires { ⌜ Indexed (now text) (now next) ⌝ }
     ensures { λ r. ⌜ r ≡ any (faultOf fault (now (text .entry))) (spanIn (rawOf c)) ⌝ }
 {
     if c.annotated == 0 {
         return false;
     }
-    faulty(text, c.annotation, fault)
+    faulty(text, next, c.annotation, fault)
 }
 
 // Whether the raw annotation of a call has it, dropped calls among them.
-fn raws_faulty(text: &[u8], calls: &[u32], fault: Fault) -> bool
+fn raws_faulty(text: &[u8], next: &[u32], calls: &[u32], fault: Fault) -> bool
+    requires { ⌜ Indexed (now text) (now next) ⌝ }
     ensures { λ r. ⌜ r ≡ any (faultOf fault (now (text .entry))) (rawSpans (pbnRows (now (calls .entry)))) ⌝ }
 {
     let mut i = 0;
     while 6 <= calls.len() - i {
-        if raw_faulty(text, call_at(calls, i), fault) {
+        if raw_faulty(text, next, call_at(calls, i), fault) {
             return true;
         }
         i += 6;
@@ -120,13 +127,14 @@ fn raws_faulty(text: &[u8], calls: &[u32], fault: Fault) -> bool
 }
 
 // Whether one of these names has this fault.
-fn one_faulty(text: &[u8], names: [MaybeSpan; 4], fault: Fault) -> bool
+fn one_faulty(text: &[u8], next: &[u32], names: [MaybeSpan; 4], fault: Fault) -> bool
+    requires { ⌜ Indexed (now text) (now next) ⌝ }
     ensures { λ r. ⌜ r ≡ any (faultOf fault (now (text .entry))) (nameSpans names) ⌝ }
 {
     let mut seat = 0;
     while seat < 4 {
         let name = names[seat];
-        if present_faulty(text, name, fault) {
+        if present_faulty(text, next, name, fault) {
             return true;
         }
         seat += 1;
@@ -146,10 +154,11 @@ pub fn names_of(board: PbnBoard) -> [MaybeSpan; 4]
 }
 
 // Whether a name of the record has it.
-fn names_faulty(text: &[u8], board: PbnBoard, fault: Fault) -> bool
+fn names_faulty(text: &[u8], next: &[u32], board: PbnBoard, fault: Fault) -> bool
+    requires { ⌜ Indexed (now text) (now next) ⌝ }
     ensures { λ r. ⌜ r ≡ any (faultOf fault (now (text .entry))) (nameSpans (pbnNames board)) ⌝ }
 {
-    one_faulty(text, names_of(board), fault)
+    one_faulty(text, next, names_of(board), fault)
 }
 
 // Whether a number of the record is outside its range.
@@ -166,28 +175,86 @@ fn bad_record(number: MaybeNumber, calls: &[u32], plays: &[u8]) -> bool
 }
 
 // Whether a text that the record names has this fault.
-fn any_faulty(text: &[u8], board: PbnBoard, calls: &[u32], notes: &[u32; 768], fault: Fault) -> bool
+fn any_faulty(
+    text: &[u8],
+    next: &[u32],
+    board: PbnBoard,
+    calls: &[u32],
+    notes: &[u32; 768],
+    fault: Fault,
+) -> bool
+    requires { ⌜ Indexed (now text) (now next) ⌝ }
     ensures { λ r. ⌜ r ≡ any (faultOf fault (now (text .entry))) (pbnSpans (pbn (now (text .entry)) board (now (calls .entry)) [] (now (notes .entry)))) ⌝ }
 {
     let event = board.event;
     let date = board.date;
     let id = board.id;
-    if names_faulty(text, board, fault) {
+    if names_faulty(text, next, board, fault) {
         return true;
     }
-    if present_faulty(text, event, fault) {
+    if present_faulty(text, next, event, fault) {
         return true;
     }
-    if present_faulty(text, date, fault) {
+    if present_faulty(text, next, date, fault) {
         return true;
     }
-    if present_faulty(text, id, fault) {
+    if present_faulty(text, next, id, fault) {
         return true;
     }
-    if raws_faulty(text, calls, fault) {
+    if raws_faulty(text, next, calls, fault) {
         return true;
     }
-    any_note_faulty(text, notes, fault)
+    any_note_faulty(text, next, notes, fault)
+}
+
+// Whether a text that the record names passes the end, for which no index is needed.
+fn any_past(text: &[u8], board: PbnBoard, calls: &[u32], notes: &[u32; 768]) -> bool
+    ensures { λ r. ⌜ r ≡ any (passesEnd (now (text .entry))) (pbnSpans (pbn (now (text .entry)) board (now (calls .entry)) [] (now (notes .entry)))) ⌝ }
+{
+    any_faulty(text, &calls[..0], board, calls, notes, Fault::PastEnd)
+}
+
+// How many bytes the raw annotation of a call has.
+fn raw_len(c: PbnCall) -> u64
+    ensures { λ r. ⌜ r < 2 ^ 32 ⌝ }
+{
+    if c.annotated == 0 {
+        return 0;
+    }
+    let raw = c.annotation;
+    raw.len as u64
+}
+
+// Whether the raw annotations have together more bytes than this. Nothing is promised of it: it chooses only how faults are looked for.
+fn raws_pass(bytes: usize, calls: &[u32]) -> bool
+    ensures { λ r. ⌜ r ≡ r ⌝ }
+{
+    let most = bytes as u64;
+    let mut n = 0;
+    let mut i = 0;
+    while 6 <= calls.len() - i {
+        let more = raw_len(call_at(calls, i));
+        if most - n < more {
+            return true;
+        }
+        n += more;
+        i += 6;
+    }
+    false
+}
+
+// Whether a text that the record names is not UTF-8. Where its spans are together longer than the text, that is looked at once.
+fn any_ill(text: &[u8], board: PbnBoard, calls: &[u32], notes: &[u32; 768]) -> bool
+    requires { ⌜ length (now text) ≤ limit ⌝ }
+    ensures { λ r. ⌜ r ≡ any (illSpan (now (text .entry))) (pbnSpans (pbn (now (text .entry)) board (now (calls .entry)) [] (now (notes .entry)))) ⌝ }
+{
+    let once = raws_pass(text.len(), calls) | notes_pass(text.len(), notes);
+    if !once {
+        return any_faulty(text, &calls[..0], board, calls, notes, Fault::NotUtf8);
+    }
+    let mut next = [0; 1025];
+    index_text(text, &mut next);
+    any_faulty(text, &next, board, calls, notes, Fault::NotUtf8)
 }
 
 // The first of the checks that meets the record. `other` says whether another number of the call is outside its range.
@@ -211,10 +278,10 @@ pub fn check(
     if bad_record(number, calls, plays) {
         return Verdict::Refused(Refusal::OutOfRange);
     }
-    if any_faulty(text, board, calls, notes, Fault::PastEnd) {
+    if any_past(text, board, calls, notes) {
         return Verdict::Refused(Refusal::SpanPastEnd);
     }
-    if any_faulty(text, board, calls, notes, Fault::NotUtf8) {
+    if any_ill(text, board, calls, notes) {
         return Verdict::Refused(Refusal::SpanNotUtf8);
     }
     Verdict::Accepted

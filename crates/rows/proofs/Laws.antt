@@ -5,28 +5,32 @@ use native.Mathlib.Nat.{not-suc-le-zero, le-of-suc-le-suc}
 use native.Mathlib.Numerals.{add-one}
 use native.Mathlib.Omega.{arith}
 use mathlib.Core.Path.{_≡_, refl, ap, sym, subst, _∙_}
-use mathlib.Core.Bool.{Bool, not}
+use mathlib.Core.Bool.{Bool, true, false, not}
 use mathlib.Core.List.{List, [], _∷_, _++_, map}
 use mathlib.Core.Option.{none, some}
-use lib.ListN.{length, take, drop, getD, set, length-append, length-take, drop-of-length-le}
-use lib.Seq.{drop-cons}
-use lib.Dec.{eqb}
-use borrow.Author.Tests.{eq-eqb, ne-eqb}
-use Rattle.lin_spec.specs.Base.{pick}
+use lib.ListN.{length, take, drop, getD, set, length-append, length-take, length-map, drop-of-length-le}
+use lib.Seq.{drop-cons, take-all}
+use lib.Dec.{eqb, ltb}
+use borrow.Author.Tests.{eq-eqb, ne-eqb, lt-ltb, le-ltb, ltb-false}
+use Rattle.lin_spec.specs.Base.{pick, any}
 use Rattle.lin_spec.specs.Records.{optionOf}
+use Rattle.lin_spec.specs.Refusals.{Answer, refuseIf, unless}
+use Rattle.lin_spec.specs.Refusals.Answer.{refused, accepted}
+use Rattle.lin_spec.specs.Output.{overlay, outputAfter}
 use Rattle.lin_spec.specs.Reading.{flag, maybeOf, annotationWords, callWords}
-use Rattle.lin_spec.specs.Lent.{callIn, callRows}
+use Rattle.lin_spec.specs.Lent.{callIn, callRows, badFlag}
 use Rattle.lin_spec.specs.declared.Span.{Span}
 use Rattle.lin_spec.specs.declared.Call.{Call}
 use Rattle.lin_spec.specs.declared.MaybeSpan.{MaybeSpan}
 use Rattle.lin_spec.specs.declared.MaybeSpan.the-variants.{Absent, Present}
+use Rattle.lin_spec.specs.declared.RowKind.the-variants.{Calls}
+use Rattle.lin_spec.specs.declared.Refusal.the-variants.{TooFewRows, OutOfRange}
 use Rattle.rows.specs.declared.CallRow.{CallRow}
-use Rattle.lin_spec.proofs.Base.{split}
 use Rattle.output.specs.Put.{Put}
-use Rattle.output.proofs.Laws.{Left, start, step, finish}
+use Rattle.output.proofs.Laws.{Left, start, step, finish, overlay-nil}
 use Rattle.lent.specs.Calls.{callAt}
-use Rattle.lent.proofs.LentLaws.{rows-cons, rows-end}
-use Rattle.rows.specs.Rows.{called, rowIn, emptyRow, laid, filled, spilled, wordsOf}
+use Rattle.lent.proofs.LentLaws.{rows-cons, rows-count}
+use Rattle.rows.specs.Rows.{called, rowIn, numbered, emptyRow, laid, wordsOf, turnsOf, Moving, spillAnswer, spillOf, rowsIn, fillAnswer, rowsAfter, fillOf}
 
 -- A row by its parts
 
@@ -84,38 +88,81 @@ laid-full {A} zero (x ∷ xs) (y ∷ ys) h = absurd (not-suc-le-zero h)
 laid-full {A} (suc i) xs [] h = refl
 laid-full {A} (suc i) xs (y ∷ ys) h = ap (λ (l : List A). y ∷ l) (laid-full i xs ys (le-of-suc-le-suc h))
 
--- Rows filled from words: i rows are, and zs is the list
+-- The first m of a list, one at a time
 
-abbrev given : (ws : List ℕ) (i : ℕ) → List CallRow
-given ws i = map (λ c. rowIn (callIn c)) (callRows (drop (i * 6) ws))
+taken : {A : Type 0} (n : ℕ) (xs : List A) (i : ℕ) (d : A) → i < n → getD (take n xs) i d ≡ getD xs i d
+taken zero xs i d h = absurd (not-suc-le-zero h)
+taken (suc n) [] i d h = refl
+taken (suc n) (x ∷ xs) zero d h = refl
+taken (suc n) (x ∷ xs) (suc i) d h = taken n xs i d (le-of-suc-le-suc h)
 
-abbrev pub Filled : (ws : List ℕ) (ys : List CallRow) (i : ℕ) (zs : List CallRow) → Type 0
-Filled ws ys i zs = laidAt i (given ws i) zs ≡ filled ws ys
+-- one off the front of the first m
+pub front : {A : Type 0} (xs : List A) (m i : ℕ) (d : A) → i < min (length xs) m → drop i (take m xs) ≡ getD xs i d ∷ drop (i + 1) (take m xs)
+front {A} xs m i d h =
+    let l : i < length (take m xs) = omega (arith, length-take m xs) in
+    drop-cons (take m xs) i d l ∙ ap (λ (x : A). x ∷ drop (suc i) (take m xs)) (taken m xs i d (omega arith)) ∙ ap (λ (k : ℕ). getD xs i d ∷ drop k (take m xs)) (sym (add-one i))
 
-pub fill-start : (ws : List ℕ) (ys : List CallRow) → Filled ws ys 0 ys
-unfolding filled
-fill-start ws ys = laid-start (given ws 0) ys
+-- Rows filled from words: i of the first n are, and zs is the list
 
-module _ (ws : List ℕ) (ys : List CallRow) (i : ℕ) (zs : List CallRow) (h : Filled ws ys i zs) where
-  pub fill-more : 6 ≤ length ws - i * 6 → (r : CallRow) → r ≡ rowIn (callIn (callAt ws (i * 6))) → Filled ws ys (i + 1) (set zs i r)
-  fill-more l r e =
-      let six : (i + 1) * 6 ≡ i * 6 + 6 = omega arith in
-      ap (λ (k : ℕ). laidAt (i + 1) (map (λ c. rowIn (callIn c)) (callRows (drop k ws))) (set zs i r)) six
-      ∙ laid-more i r (map (λ c. rowIn (callIn c)) (callRows (drop (i * 6 + 6) ws))) zs
-      ∙ ap (λ (x : CallRow). laidAt i (x ∷ map (λ c. rowIn (callIn c)) (callRows (drop (i * 6 + 6) ws))) zs) e
-      ∙ ap (λ (cs : List Call). laidAt i (map (λ c. rowIn (callIn c)) cs) zs) (sym (rows-cons ws (i * 6) l))
+abbrev given : (ws : List ℕ) (n i : ℕ) → List CallRow
+given ws n i = drop i (take n (rowsIn ws))
+
+abbrev pub Filling : (ws : List ℕ) (ys : List CallRow) (n i : ℕ) (zs : List CallRow) → Type 0
+Filling ws ys n i zs = laidAt i (given ws n i) zs ≡ laid (take n (rowsIn ws)) ys
+
+pub fill-start : (ws : List ℕ) (ys : List CallRow) (n : ℕ) → Filling ws ys n 0 ys
+fill-start ws ys n = laid-start (take n (rowsIn ws)) ys
+
+-- the row that the six words from i * 6 on give
+row-at : (ws : List ℕ) (i : ℕ) → i < length ws / 6 → getD (rowsIn ws) i emptyRow ≡ rowIn (callIn (callAt ws (i * 6)))
+row-at ws i l = go 0 i (omega arith) ∙ ap (λ (k : ℕ). rowIn (callIn (callAt ws k))) (let e : 0 + i * 6 ≡ i * 6 = omega arith in e)
+  where
+    go : (k i : ℕ) → k + i * 6 + 6 ≤ length ws → getD (map (λ c. rowIn (callIn c)) (callRows (drop k ws))) i emptyRow ≡ rowIn (callIn (callAt ws (k + i * 6)))
+    go k zero h = rw (rows-cons ws k (omega arith)) (ap (λ (m : ℕ). rowIn (callIn (callAt ws m))) (let e : k ≡ k + 0 * 6 = omega arith in e))
+    go k (suc i) h = rw (rows-cons ws k (omega arith)) (go (k + 6) i (omega arith) ∙ ap (λ (m : ℕ). rowIn (callIn (callAt ws m))) (let e : k + 6 + i * 6 ≡ k + suc i * 6 = omega arith in e))
+
+pub rows-in : (ws : List ℕ) → length (rowsIn ws) ≡ length ws / 6
+rows-in ws = length-map (callRows ws) (λ c. rowIn (callIn c)) ∙ rows-count ws
+
+module _ (ws : List ℕ) (ys : List CallRow) (n i : ℕ) (zs : List CallRow) (h : Filling ws ys n i zs) where
+  pub fill-more : i < n → n ≤ length ws / 6 → (r : CallRow) → r ≡ rowIn (callIn (callAt ws (i * 6))) → Filling ws ys n (i + 1) (set zs i r)
+  fill-more l m r e =
+      laid-more i r (given ws n (i + 1)) zs
+      ∙ ap (λ (x : CallRow). laidAt i (x ∷ given ws n (i + 1)) zs) (e ∙ sym (row-at ws i (omega arith)))
+      ∙ ap (λ (l : List CallRow). laidAt i l zs) (sym (front (rowsIn ws) n i emptyRow (omega (arith, rows-in ws))))
       ∙ h
 
-  pub fill-end : (n : ℕ) → n ≡ min (length ys) (length ws / 6) → n ≤ i → length zs ≡ length ys → zs ≡ filled ws ys
-  fill-end n e k m = split (i) (length ys) short (λ l. sym (laid-full i (given ws i) zs (omega arith)) ∙ h)
-    where
-      short : i < length ys → zs ≡ filled ws ys
-      short l =
-          sym (laid-none i zs)
-          ∙ ap (λ (cs : List Call). laidAt i (map (λ c. rowIn (callIn c)) cs) zs) (sym (rows-end ws (i * 6) (omega arith)))
-          ∙ h
+  pub fill-end : n ≤ i → zs ≡ laid (take n (rowsIn ws)) ys
+  fill-end k =
+      let past : length (take n (rowsIn ws)) ≤ i = omega (arith, length-take n (rowsIn ws)) in
+      sym (laid-none i zs) ∙ ap (λ (l : List CallRow). laidAt i l zs) (sym (drop-of-length-le (take n (rowsIn ws)) past)) ∙ h
 
--- Rows spilled into words: i rows are, ws are the words, and `at` is the place after the last
+-- and what the answer says of it
+module _ (ys : List CallRow) (ws : List ℕ) (a : Answer ℕ) (e : a ≡ fillAnswer (length ys) ws) where
+  pub fill-fits : (turnsOf a ≤ length ys) × (turnsOf a ≤ length ws / 6)
+  unfolding unless
+  fill-fits = subst (λ (x : Answer ℕ). (turnsOf x ≤ length ys) × (turnsOf x ≤ length ws / 6)) (sym e) (go (any badFlag (callRows ws)) (ltb (length ys) (length ws / 6)) refl)
+    where
+      go : (t u : Bool) → ltb (length ys) (length ws / 6) ≡ u
+          → let x = unless (refuseIf t OutOfRange ∷ refuseIf u (TooFewRows Calls (length ws / 6)) ∷ []) (length ws / 6) in (turnsOf x ≤ length ys) × (turnsOf x ≤ length ws / 6)
+      go true u h = (omega arith, omega arith)
+      go false true h = (omega arith, omega arith)
+      go false false h = (ltb-false _ _ h, omega arith)
+
+  pub fill-done : (zs : List CallRow) → zs ≡ laid (take (turnsOf a) (rowsIn ws)) ys → _≡_ {A = Moving CallRow} (record { answer = a; after = zs }) (fillOf ws ys)
+  unfolding fillOf unless laid
+  fill-done zs f =
+      ap (λ (l : List CallRow). record { answer = a; after = l }) f
+      ∙ ap (λ (x : Answer ℕ). record { answer = x; after = laid (take (turnsOf x) (rowsIn ws)) ys }) e
+      ∙ go (any badFlag (callRows ws)) (ltb (length ys) (length ws / 6))
+    where
+      go : (t u : Bool) → let x = unless (refuseIf t OutOfRange ∷ refuseIf u (TooFewRows Calls (length ws / 6)) ∷ []) (length ws / 6) in
+          _≡_ {A = Moving CallRow} (record { answer = x; after = laid (take (turnsOf x) (rowsIn ws)) ys }) (record { answer = x; after = rowsAfter x (rowsIn ws) ys })
+      go true u = refl
+      go false true = refl
+      go false false = ap (λ (l : List CallRow). record { answer = accepted (length ws / 6); after = laid l ys }) (take-all (length ws / 6) (rowsIn ws) (omega (arith, rows-in ws)))
+
+-- Rows spilled into words: i of the first n are, ws are the words, and `at` is the place after the last
 
 pub words-cons : (r : CallRow) (rs : List CallRow) → callWords (map called (r ∷ rs)) ≡ wordsOf r ++ callWords (map called rs)
 unfolding callWords
@@ -135,37 +182,78 @@ words-many (r ∷ rs) =
     let e : length (callWords (map called (r ∷ rs))) ≡ length (wordsOf r) + length (callWords (map called rs)) = ap length (words-cons r rs) ∙ length-append (wordsOf r) (callWords (map called rs)) in
     omega (arith, e, words-long r, words-many rs)
 
-taken : {A : Type 0} (n : ℕ) (xs : List A) (i : ℕ) (d : A) → i < n → getD (take n xs) i d ≡ getD xs i d
-taken zero xs i d h = absurd (not-suc-le-zero h)
-taken (suc n) [] i d h = refl
-taken (suc n) (x ∷ xs) zero d h = refl
-taken (suc n) (x ∷ xs) (suc i) d h = taken n xs i d (le-of-suc-le-suc h)
+abbrev pub Spilling : (rs : List CallRow) (vs : List ℕ) (n i : ℕ) (ws : List ℕ) (at : ℕ) → Type 0
+Spilling rs vs n i ws at = Left ws at (callWords (map called (drop i (take n rs)))) vs 0 (callWords (map called (take n rs)))
 
--- one off the front of the first m
-pub front : {A : Type 0} (xs : List A) (m i : ℕ) (d : A) → i < min (length xs) m → drop i (take m xs) ≡ getD xs i d ∷ drop (i + 1) (take m xs)
-front {A} xs m i d h =
-    let l : i < length (take m xs) = omega (arith, length-take m xs) in
-    drop-cons (take m xs) i d l ∙ ap (λ (x : A). x ∷ drop (suc i) (take m xs)) (taken m xs i d (omega arith)) ∙ ap (λ (k : ℕ). getD xs i d ∷ drop k (take m xs)) (sym (add-one i))
+pub spill-start : (rs : List CallRow) (vs : List ℕ) (n : ℕ) → n ≤ length vs / 6 → Spilling rs vs n 0 vs 0
+spill-start rs vs n l = start (record { room = omega (arith, words-many (take n rs), length-take n rs) })
 
-abbrev firsts : List CallRow → List ℕ → List CallRow
-firsts rs vs = take (length vs / 6) rs
+module _ (rs : List CallRow) (vs : List ℕ) (n i : ℕ) (ws : List ℕ) (at : ℕ) (h : Spilling rs vs n i ws at) where
+  pub spill-next : i < n → n ≤ length rs → Left ws at (wordsOf (getD rs i emptyRow) ++ callWords (map called (drop (i + 1) (take n rs)))) vs 0 (callWords (map called (take n rs)))
+  spill-next l m = subst (λ (x : List ℕ). Left ws at x vs 0 (callWords (map called (take n rs)))) (ap (λ (x : List CallRow). callWords (map called x)) (front rs n i emptyRow (omega arith)) ∙ words-cons (getD rs i emptyRow) (drop (i + 1) (take n rs))) h
 
-abbrev pub Spilling : (rs : List CallRow) (vs : List ℕ) (i : ℕ) (ws : List ℕ) (at : ℕ) → Type 0
-Spilling rs vs i ws at = Left ws at (callWords (map called (drop i (firsts rs vs)))) vs 0 (callWords (map called (firsts rs vs)))
+  pub spill-more : i < n → n ≤ length rs → (zs : List ℕ) (at′ : ℕ) → Put ws at (wordsOf (getD rs i emptyRow)) zs at′ → Spilling rs vs n (i + 1) zs at′
+  spill-more l m zs at′ p = step (spill-next l m) p
 
-pub spill-start : (rs : List CallRow) (vs : List ℕ) → Spilling rs vs 0 vs 0
-spill-start rs vs = start (record { room = omega (arith, words-many (firsts rs vs), length-take (length vs / 6) rs) })
+  pub spill-end : n ≤ i → ws ≡ overlay vs 0 (callWords (map called (take n rs)))
+  unfolding callWords
+  spill-end k =
+      let past : length (take n rs) ≤ i = omega (arith, length-take n rs) in
+      let none : drop i (take n rs) ≡ [] = drop-of-length-le (take n rs) past in
+      finish (subst (λ (x : List CallRow). Left ws at (callWords (map called x)) vs 0 (callWords (map called (take n rs)))) none h) .text
 
-module _ (rs : List CallRow) (vs : List ℕ) (i : ℕ) (ws : List ℕ) (at : ℕ) (h : Spilling rs vs i ws at) where
-  pub spill-next : i < min (length rs) (length vs / 6) → Left ws at (wordsOf (getD rs i emptyRow) ++ callWords (map called (drop (i + 1) (firsts rs vs)))) vs 0 (callWords (map called (firsts rs vs)))
-  spill-next l = subst (λ (x : List ℕ). Left ws at x vs 0 (callWords (map called (firsts rs vs)))) (ap (λ (x : List CallRow). callWords (map called x)) (front rs (length vs / 6) i emptyRow l) ∙ words-cons (getD rs i emptyRow) (drop (i + 1) (firsts rs vs))) h
+-- and what the answer says of it
+module _ (rs : List CallRow) (vs : List ℕ) (a : Answer ℕ) (e : a ≡ spillAnswer (length rs) (length vs)) where
+  pub spill-fits : (turnsOf a ≤ length rs) × (turnsOf a ≤ length vs / 6)
+  unfolding unless
+  spill-fits = subst (λ (x : Answer ℕ). (turnsOf x ≤ length rs) × (turnsOf x ≤ length vs / 6)) (sym e) (go (ltb (length vs / 6) (length rs)) refl)
+    where
+      go : (t : Bool) → ltb (length vs / 6) (length rs) ≡ t → let x = unless (refuseIf t (TooFewRows Calls (length rs)) ∷ []) (length rs) in (turnsOf x ≤ length rs) × (turnsOf x ≤ length vs / 6)
+      go true h = (omega arith, omega arith)
+      go false h = (omega arith, ltb-false _ _ h)
 
-  pub spill-more : (l : i < min (length rs) (length vs / 6)) (zs : List ℕ) (at′ : ℕ) → Put ws at (wordsOf (getD rs i emptyRow)) zs at′ → Spilling rs vs (i + 1) zs at′
-  spill-more l zs at′ p = step (spill-next l) p
+  pub spill-done : (ws : List ℕ) → ws ≡ overlay vs 0 (callWords (map called (take (turnsOf a) rs))) → _≡_ {A = Moving ℕ} (record { answer = a; after = ws }) (spillOf rs vs)
+  unfolding spillOf unless callWords
+  spill-done ws f =
+      ap (λ (l : List ℕ). record { answer = a; after = l }) f
+      ∙ ap (λ (x : Answer ℕ). record { answer = x; after = overlay vs 0 (callWords (map called (take (turnsOf x) rs))) }) e
+      ∙ go (ltb (length vs / 6) (length rs))
+    where
+      go : (t : Bool) → let x = unless (refuseIf t (TooFewRows Calls (length rs)) ∷ []) (length rs) in
+          _≡_ {A = Moving ℕ} (record { answer = x; after = overlay vs 0 (callWords (map called (take (turnsOf x) rs))) }) (record { answer = x; after = outputAfter x vs (callWords (map called rs)) })
+      go true = ap (λ (l : List ℕ). record { answer = refused (TooFewRows Calls (length rs)); after = l }) (overlay-nil vs 0)
+      go false = ap (λ (l : List CallRow). record { answer = accepted (length rs); after = overlay vs 0 (callWords (map called l)) }) (take-all (length rs) rs (omega arith))
 
-  pub spill-end : (n : ℕ) → n ≡ min (length rs) (length vs / 6) → n ≤ i → ws ≡ spilled rs vs
-  unfolding spilled callWords
-  spill-end n e k =
-      let past : length (firsts rs vs) ≤ i = omega (arith, length-take (length vs / 6) rs) in
-      let none : drop i (firsts rs vs) ≡ [] = drop-of-length-le (firsts rs vs) past in
-      finish (subst (λ (x : List CallRow). Left ws at (callWords (map called x)) vs 0 (callWords (map called (firsts rs vs)))) none h) .text
+-- The answers, by the tests that led there
+
+module _ (n m : ℕ) where
+  pub spill-few : m / 6 < n → refused (TooFewRows Calls n) ≡ spillAnswer n m
+  unfolding unless
+  spill-few h = simp (lt-ltb (m / 6) n h)
+
+  pub spill-all : n ≤ m / 6 → accepted n ≡ spillAnswer n m
+  unfolding unless
+  spill-all h = simp (le-ltb (m / 6) n h)
+
+module _ (n : ℕ) (ws : List ℕ) (t : Bool) (e : t ≡ any badFlag (callRows ws)) where
+  pub fill-flag : t ≡ true → refused OutOfRange ≡ fillAnswer n ws
+  unfolding unless
+  fill-flag h = simp (← e, h)
+
+  module _ (h : t ≡ false) where
+    pub fill-few : n < length ws / 6 → refused (TooFewRows Calls (length ws / 6)) ≡ fillAnswer n ws
+    unfolding unless
+    fill-few l = simp (← e, h, lt-ltb n (length ws / 6) l)
+
+    pub fill-all : length ws / 6 ≤ n → accepted (length ws / 6) ≡ fillAnswer n ws
+    unfolding unless
+    fill-all l = simp (← e, h, le-ltb n (length ws / 6) l)
+
+-- The numbers of a row by its parts
+
+module _ (r : CallRow) (f : ℕ) (e : f ≡ flag (r .alerted)) where
+  pub numbers-bare : r .annotation ≡ Absent → _≡_ {A = Call} (record { bid = r .bid; alerted = f; annotated = 0; annotation = record { start = 0; len = 0 } }) (numbered r)
+  numbers-bare h = rw (e, h) refl
+
+  pub numbers-annotated : (x : Span) → r .annotation ≡ Present x → _≡_ {A = Call} (record { bid = r .bid; alerted = f; annotated = 1; annotation = x }) (numbered r)
+  numbers-annotated x h = rw (e, h) refl

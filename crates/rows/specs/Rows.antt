@@ -1,17 +1,24 @@
--- Rows of calls as structs, and what is filled and spilled. (01: Records, "The calls stand in a list of rows lent by the caller: bid span,
--- alerted or not, annotation span or absent")
+-- Rows of calls as structs, and what filling and spilling answer and leave. (01: Records, "The calls stand in a list of rows lent by the caller:
+-- bid span, alerted or not, annotation span or absent"; Eight refusals, 8 and 3)
 use Prim.Native.Nat.{ℕ, _/_}
 use mathlib.Core.List.{List, [], _∷_, map}
-use lib.ListN.{length, take}
+use lib.ListN.{length}
+use Rattle.lin_spec.specs.Base.{any}
 use Rattle.lin_spec.specs.Records.{span, optionOf}
-use Rattle.lin_spec.specs.Output.{overlay}
+use Rattle.lin_spec.specs.Refusals.{Answer, refuseIf, unless}
+use Rattle.lin_spec.specs.Refusals.Answer.{refused, accepted}
+use Rattle.lin_spec.specs.Output.{outputAfter}
 use Rattle.lin_spec.specs.Board.{CallOf}
-use Rattle.lin_spec.specs.Reading.{flag, maybeOf, annotationWords, callWords}
-use Rattle.lin_spec.specs.Lent.{callIn, callRows, rowOf, Lent}
+use Rattle.lin_spec.specs.Reading.{flag, maybeOf, annotationWords, callWords, tooFew}
+use Rattle.lin_spec.specs.Lent.{callIn, callRows, rowOf, badFlag, Lent}
 use Rattle.lin_spec.specs.declared.Span.{Span}
 use Rattle.lin_spec.specs.declared.Call.{Call}
 use Rattle.lin_spec.specs.declared.Board.{Board}
+use Rattle.lin_spec.specs.declared.RowKind.the-variants.{Calls}
+use Rattle.lin_spec.specs.declared.Refusal.the-variants.{OutOfRange}
 use Rattle.rows.specs.declared.CallRow.{CallRow}
+use Rattle.rows.specs.declared.Moved.{Moved}
+use Rattle.rows.specs.declared.Moved.the-variants.{Rows, Refused}
 
 -- the call of a row, and the row of a call
 abbrev pub called : CallRow → CallOf Span
@@ -38,14 +45,49 @@ laid [] ys = ys
 laid (x ∷ xs) [] = []
 laid (x ∷ xs) (y ∷ ys) = x ∷ laid xs ys
 
--- the rows that words give, six to a row, over those that were there
-unfoldable pub filled : (words : List ℕ) → List CallRow → List CallRow
-filled ws rs = laid (map (λ c. rowIn (callIn c)) (callRows ws)) rs
-
 -- the six words of a row
 abbrev pub wordsOf : CallRow → List ℕ
 wordsOf r = r .bid .start ∷ r .bid .len ∷ flag (r .alerted) ∷ annotationWords (optionOf (r .annotation))
 
--- the words with the words of the rows in them from the first on, six to a row, as many rows as there is room for
-unfoldable pub spilled : List CallRow → (words : List ℕ) → List ℕ
-spilled rs ws = overlay ws 0 (callWords (map called (take (length ws / 6) rs)))
+-- how many rows were moved, or the refusal
+abbrev pub movedOf : Moved → Answer ℕ
+movedOf (Rows n) = accepted n
+movedOf (Refused r) = refused r
+
+-- and how many turns that takes
+abbrev pub turnsOf : Answer ℕ → ℕ
+turnsOf (accepted n) = n
+turnsOf (refused r) = 0
+
+-- what a call that moves rows answers, and the memory that it moves them into, afterwards
+pub record Moving (A : Type 0) : Type 0 where
+  pub answer : Answer ℕ
+  pub after : List A
+
+-- 3: "too few rows". Rows are spilled into words, six to a row: all of them, or none where there are too few places
+abbrev pub spillAnswer : (structs words : ℕ) → Answer ℕ
+spillAnswer n m = unless (tooFew Calls (m / 6) n ∷ []) n
+
+unfoldable pub spillOf : List CallRow → (words : List ℕ) → Moving ℕ
+spillOf rs ws =
+    let a = spillAnswer (length rs) (length ws) in
+    record { answer = a; after = outputAfter a ws (callWords (map called rs)) }
+
+-- the rows that words give, six to a row; a rest is no row
+abbrev pub rowsIn : (words : List ℕ) → List CallRow
+rowsIn ws = map (λ c. rowIn (callIn c)) (callRows ws)
+
+-- 8: "card, level or number outside its range", and 3. Rows are filled from words: all of them, or none where a flag is above 1 or there are too few
+-- structs
+abbrev pub fillAnswer : (structs : ℕ) (words : List ℕ) → Answer ℕ
+fillAnswer n ws = unless (refuseIf (any badFlag (callRows ws)) OutOfRange ∷ tooFew Calls n (length ws / 6) ∷ []) (length ws / 6)
+
+-- "All lent memory stays. Rows and bytes not named by a success stay too."
+abbrev pub rowsAfter : Answer ℕ → (new old : List CallRow) → List CallRow
+rowsAfter (refused r) xs ys = ys
+rowsAfter (accepted n) xs ys = laid xs ys
+
+unfoldable pub fillOf : (words : List ℕ) → List CallRow → Moving CallRow
+fillOf ws rs =
+    let a = fillAnswer (length rs) ws in
+    record { answer = a; after = rowsAfter a (rowsIn ws) rs }

@@ -1,9 +1,12 @@
 // Lent slices of call structs: the rows of a board's calls, one struct each. (01: Language form, "The calls stand in a list of rows lent by
 // the caller")
+mod answers;
 mod words;
 
 use lin_spec::MaybeSpan;
+use lin_spec::Refusal;
 use lin_spec::Span;
+pub use words::call_of;
 pub use words::fill_rows;
 pub use words::row_of;
 pub use words::spill_rows;
@@ -13,4 +16,10 @@ pub struct CallRow {
     pub bid: Span,
     pub alerted: bool,
     pub annotation: MaybeSpan,
+}
+
+// How many rows were moved, or the refusal.
+pub enum Moved {
+    Rows(usize),
+    Refused(Refusal),
 }

@@ -1,27 +1,22 @@
 // Rows filled from words, and spilled into words, six to a row. (01: Records, "The calls stand in a list of rows lent by the caller")
 use crate::CallRow;
+use crate::Moved;
+use crate::answers::fill_answer;
+use crate::answers::spill_answer;
+use crate::answers::turns_of;
 use lent::call_at;
 use lin_spec::Call;
 use lin_spec::MaybeSpan;
+use lin_spec::Span;
 ghost use mathlib.Core.Path.{_≡_};
-ghost use Prim.Native.Nat.{_-_, _/_, _≤_, min};
+ghost use Prim.Native.Nat.{ℕ, _-_, _≤_};
 ghost use lib.ListN.{length};
 ghost use Rattle.lin_spec.specs.Reading.{flag};
 ghost use Rattle.lin_spec.specs.Lent.{callIn};
 ghost use Rattle.output.specs.Put.{Room, Put};
 ghost use Rattle.lent.specs.Calls.{callAt};
-ghost use Rattle.rows.specs.Rows.{rowIn, wordsOf, filled, spilled};
-
-// How many rows there are both as structs and in words.
-fn rows_both(structs: usize, words: usize) -> usize
-    ensures { λ r. ⌜ r ≡ min structs (words / 6) ⌝ }
-{
-    if structs < words / 6 {
-        structs
-    } else {
-        words / 6
-    }
-}
+ghost use Rattle.rows.specs.declared.CallRow.{CallRow};
+ghost use Rattle.rows.specs.Rows.{rowIn, numbered, wordsOf, movedOf, Moving, fillOf, spillOf};
 
 // The row of a call's six numbers.
 pub fn row_of(c: Call) -> CallRow
@@ -53,16 +48,18 @@ fn row_at(words: &[u32], i: usize) -> CallRow
     row_of(call_at(words, i))
 }
 
-// Fills the rows with those that the words give, as many as there are of both.
-pub fn fill_rows(rows: &mut [CallRow], words: &[u32])
-    ensures { λ r. ⌜ now (rows .exit) ≡ filled (now (words .entry)) (now (rows .entry)) ⌝ }
+// Fills the rows, from the first on, with those that the words give.
+pub fn fill_rows(rows: &mut [CallRow], words: &[u32]) -> Moved
+    ensures { λ r. ⌜ _≡_ {A = Moving CallRow} (record { answer = movedOf r; after = now (rows .exit) }) (fillOf (now (words .entry)) (now (rows .entry))) ⌝ }
 {
-    let n = rows_both(rows.len(), words.len());
+    let moved = fill_answer(rows.len(), words);
+    let n = turns_of(moved);
     let mut i = 0;
     while i < n {
         rows[i] = row_at(words, i * 6);
         i += 1;
     }
+    moved
 }
 
 // 1 or 0.
@@ -70,6 +67,29 @@ fn flag_of(b: bool) -> u32
     ensures { λ r. ⌜ r ≡ flag b ⌝ }
 {
     if b { 1 } else { 0 }
+}
+
+// The six numbers of a row: an annotation that is absent has no place.
+pub fn call_of(row: CallRow) -> Call
+    ensures { λ r. ⌜ r ≡ numbered row ⌝ }
+{
+    let bid = row.bid;
+    let alerted = flag_of(row.alerted);
+    let annotation = row.annotation;
+    match annotation {
+        MaybeSpan::Absent => Call {
+            bid,
+            alerted,
+            annotated: 0,
+            annotation: Span { start: 0, len: 0 },
+        },
+        MaybeSpan::Present(x) => Call {
+            bid,
+            alerted,
+            annotated: 1,
+            annotation: x,
+        },
+    }
 }
 
 // The six words of a row.
@@ -109,15 +129,17 @@ fn put_words(out: &mut [u32], at: usize, row: CallRow) -> usize
     copy_words(out, at, &w)
 }
 
-// Spills the rows into the words, as many as there is room for.
-pub fn spill_rows(rows: &[CallRow], words: &mut [u32])
-    ensures { λ r. ⌜ now (words .exit) ≡ spilled (now (rows .entry)) (now (words .entry)) ⌝ }
+// Spills the rows into the words, from the first on.
+pub fn spill_rows(rows: &[CallRow], words: &mut [u32]) -> Moved
+    ensures { λ r. ⌜ _≡_ {A = Moving ℕ} (record { answer = movedOf r; after = now (words .exit) }) (spillOf (now (rows .entry)) (now (words .entry))) ⌝ }
 {
-    let n = rows_both(rows.len(), words.len());
+    let moved = spill_answer(rows.len(), words.len());
+    let n = turns_of(moved);
     let mut i = 0;
     let mut at = 0;
     while i < n {
         at = put_words(words, at, rows[i]);
         i += 1;
     }
+    moved
 }

@@ -1,4 +1,5 @@
 pub mod FindLaws
+pub mod IndexLaws
 pub mod ListLaws
 pub mod PartLaws
 pub mod TornLaws

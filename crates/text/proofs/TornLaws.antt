@@ -1,19 +1,19 @@
--- A part of a text that is UTF-8 is UTF-8 itself exactly where it is empty, or neither starts nor ends within a character. (01: refusal 6)
+-- A start of a text that is UTF-8 is UTF-8 itself exactly where it does not end within a character; and no part that starts within one is. (01: refusal 6)
 -- Assumes nothing.
-use Prim.Native.Nat.{ℕ, zero, suc, _+_, _≤_, _<_}
+use Prim.Native.Nat.{ℕ, zero, suc, _≤_, _<_}
 use native.Mathlib.Omega.{arith}
 use mathlib.Core.Path.{_≡_, refl, ap, sym, _∙_}
-use mathlib.Core.Bool.{Bool, true, false, _&&_, _||_, not, false≢true}
+use mathlib.Core.Bool.{Bool, true, false, _&&_, not, false≢true}
 use mathlib.Core.List.{List, [], _∷_}
 use lib.ListN.{length, getD, take, drop, take-append-drop, List·getD-eq-default}
-use lib.Seq.{drop-cons, take-all, take-add}
+use lib.Seq.{drop-cons, take-all}
 use lib.Dec.{eqb, leb}
 use borrow.Author.Tests.{ne-eqb, leb-true, le-leb, lt-leb}
 use Rattle.lin_spec.specs.Records.{part}
 use Rattle.lin_spec.specs.Utf8.{Utf, first, tails, utfStep, utf, isWhole, utf8}
 use Rattle.lin_spec.specs.Utf8.Utf.{whole, needs, ill}
 use Rattle.lin_spec.proofs.Base.{and-left, and-right, picked, split}
-use Rattle.lin_spec.proofs.Utf8.{utf-append, utf-ill, utf8-whole, whole-utf8}
+use Rattle.lin_spec.proofs.Utf8.{utf-append, utf-ill, utf8-whole}
 use Rattle.text.specs.Utf8.{isTail, tailAt}
 
 -- The bytes that the machine needs are from 80 to BF hex
@@ -109,39 +109,20 @@ module _ (s : List ℕ) (w : utf8 s ≡ true) where
       go (needs n lo hi) f = refl
       go ill f = refl
 
-  -- a part that starts with a tail
-  ill-start : (a n : ℕ) → tailAt s a ≡ true → a < length s → utf8 (part s a (suc n)) ≡ false
-  unfolding part utf8
-  ill-start a n e h = rw (drop-cons s a 0 h) (ap isWhole (tail-first (getD s a 0) (take n (drop (suc a) s)) e))
-
-  -- where the machine stands after a part that starts between characters
-  part-whole : (a n : ℕ) → utf whole (take a s) ≡ whole → utf whole (take (a + n) s) ≡ utf whole (part s a n)
-  unfolding part
-  part-whole a n e = ap (utf whole) (take-add a n s) ∙ utf-append whole (take a s) (take n (drop a s)) ∙ ap (λ (u : Utf). utf u (take n (drop a s))) e
-
-  is-utf8 : (x : List ℕ) → utf8 x ≡ isWhole (utf whole x)
+  -- a start of it, by the byte that follows
+  pub start-is : (i : ℕ) → i ≤ length s → (t : Bool) → tailAt s i ≡ t → utf8 (take i s) ≡ not t
   unfolding utf8
-  is-utf8 x = refl
+  start-is i h true e = tail-within i e
+  start-is i h false e = ap isWhole (at-whole i h e)
 
-  empty-utf8 : (a : ℕ) → utf8 (part s a 0) ≡ true
-  unfolding part utf8 utf
-  empty-utf8 a = refl
+-- a part that starts with a tail
+pub ill-start : (s : List ℕ) (a n : ℕ) → tailAt s a ≡ true → a < length s → utf8 (part s a (suc n)) ≡ false
+unfolding part utf8
+ill-start s a n e h = rw (drop-cons s a 0 h) (ap isWhole (tail-first (getD s a 0) (take n (drop (suc a) s)) e))
 
-  tests : (a n : ℕ) → suc (a + n) ≤ length s → (t u : Bool) → tailAt s a ≡ t → tailAt s (a + suc n) ≡ u → (t || u) ≡ not (utf8 (part s a (suc n)))
-  tests a n h true u et eu = sym (ap not (ill-start a n et (omega arith)))
-  tests a n h false true et eu =
-      sym (ap not (is-utf8 (part s a (suc n)) ∙ sym (ap isWhole (part-whole a (suc n) (at-whole a (omega arith) et))) ∙ tail-within (a + suc n) eu))
-  tests a n h false false et eu =
-      sym (ap not (whole-utf8 (part s a (suc n)) (sym (part-whole a (suc n) (at-whole a (omega arith) et)) ∙ at-whole (a + suc n) (omega arith) eu)))
-
-  -- the test of a part
-  torn-is : (a n : ℕ) → a + n ≤ length s → (not (eqb n 0) && (tailAt s a || tailAt s (a + n))) ≡ not (utf8 (part s a n))
-  torn-is a zero h = sym (ap not (empty-utf8 a))
-  torn-is a (suc n) h = rw (ne-eqb (suc n) 0 (λ e. omega arith)) (tests a n (omega arith) (tailAt s a) (tailAt s (a + suc n)) refl refl)
-
-  -- by the tests of its two places
-  pub torn-by : (a n : ℕ) → a + n ≤ length s → (t u : Bool) → t ≡ tailAt s a → u ≡ tailAt s (a + n) → (not (eqb n 0) && (t || u)) ≡ not (utf8 (part s a n))
-  torn-by a n h t u et eu = rw (et, eu) (torn-is a n h)
+pub empty-utf8 : (s : List ℕ) (a : ℕ) → utf8 (part s a 0) ≡ true
+unfolding part utf8 utf
+empty-utf8 s a = refl
 
 -- beyond the end there is no tail
 pub tail-beyond : (s : List ℕ) (i : ℕ) → length s ≤ i → false ≡ tailAt s i

@@ -17,7 +17,7 @@ use Rattle.lin_spec.specs.Utf8.{Utf, first, tails, utfStep, utf, isWhole, utf8,
 use Rattle.lin_spec.specs.Utf8.Utf.{whole, needs, ill}
 use Rattle.lin_spec.proofs.Base.{and-left, and-right, allBelow, same-below}
 use Rattle.lin_spec.proofs.Utf8.{utf-append, whole-utf8, utf8-ascii, utf8-longest, longest-within, longest-after}
-use Rattle.text.specs.Utf8.{bytesOf, lowOf, highOf, Front, Past}
+use Rattle.text.specs.Utf8.{bytesOf, lowOf, highOf, Front, Past, Block, Stepped}
 
 -- From place to place
 
@@ -94,7 +94,7 @@ past-end s i p h =
     omega (arith, p .after)
 
 -- what the code hands over as the rest from i on
-rest : (s : List ℕ) (i : ℕ) → take (length s - i) (drop i s) ≡ drop i s
+pub rest : (s : List ℕ) (i : ℕ) → take (length s - i) (drop i s) ≡ drop i s
 rest s i = take-all (length s - i) (drop i s) (rw length-drop (omega arith))
 
 module _ (s : List ℕ) (i n : ℕ) (f : Front (take (length s - i) (drop i s)) n) where
@@ -112,6 +112,14 @@ module _ (s : List ℕ) (i n : ℕ) (f : Front (take (length s - i) (drop i s)) 
   -- a place that has no character is the end of the longest start, where it is reached
   pub char-none : Past s 0 i → n ≡ 0 → i ≡ longest s
   char-none p e = omega (arith, p .after, here .none e)
+
+  -- a step passes it, or there is none
+  pub step-char : Stepped s i (i + n)
+  step-char = record { past = char-past; none = λ e. here .none (omega arith) }
+
+-- a step passes sixteen bytes
+pub step-sixteen : (s : List ℕ) (i : ℕ) → Block s i 16 → Stepped s i (i + 16)
+step-sixteen s i b = record { past = b .past; none = λ e. absurd (omega arith) }
 
 -- the whole text is UTF-8 where its longest start is as long
 pub all-utf8 : (s : List ℕ) (n : ℕ) → n ≡ longest s → eqb n (length s) ≡ utf8 s

@@ -4,8 +4,8 @@ use mathlib.Core.Bool.{Bool}
 use mathlib.Core.List.{List}
 use Rattle.lin_spec.specs.Refusals.{passesEnd, illSpan}
 use Rattle.lin_spec.specs.declared.Span.{Span}
-use Rattle.text.specs.declared.parts.Fault.{Fault}
-use Rattle.text.specs.declared.parts.Fault.the-variants.{PastEnd, NotUtf8}
+use Rattle.text.specs.declared.index.Fault.{Fault}
+use Rattle.text.specs.declared.index.Fault.the-variants.{PastEnd, NotUtf8}
 
 abbrev pub faultOf : Fault → List ℕ → Span → Bool
 faultOf PastEnd s x = passesEnd s x

@@ -1,3 +1,4 @@
 pub mod Fault
 pub mod Find
+pub mod Index
 pub mod Utf8

@@ -1,17 +1,11 @@
-// Parts of a text, spans, and the next place of a byte. (01: Records; refusals 5 and 6)
-use crate::utf8::is_utf8;
+// Parts of a text, spans, and the next place of a byte. (01: Records; refusal 5)
 use lin_spec::Span;
 ghost use mathlib.Core.Path.{_≡_};
-ghost use Prim.Native.Nat.{_≤_};
-ghost use lib.ListN.{length};
-ghost use Rattle.lin_spec.specs.Records.{part as partOf, endOf, bytesAt};
-ghost use Rattle.lin_spec.specs.Refusals.{illSpan};
-ghost use Rattle.lin_spec.specs.Utf8.{utf8};
-ghost use Rattle.text.specs.Utf8.{tailAt};
+ghost use Rattle.lin_spec.specs.Records.{part as partOf, bytesAt};
+ghost use Rattle.lin_spec.specs.Refusals.{passesEnd};
 ghost use mathlib.Core.Bool.{true};
 ghost use Rattle.lin_spec.specs.Cursor.{findFrom};
 ghost use Rattle.text.specs.Find.{Without};
-ghost use Rattle.text.specs.Fault.{faultOf};
 
 // The len bytes of s from start on, or as many as there are.
 pub fn part(s: &[u8], start: usize, len: usize) -> &[u8]
@@ -33,40 +27,11 @@ pub fn shown(text: &[u8], x: Span) -> &[u8]
     part(text, x.start as usize, x.len as usize)
 }
 
-// What can be wrong with a span: refusals 5 and 6.
-pub enum Fault {
-    PastEnd,
-    NotUtf8,
-}
-
-// Whether a span of the text has this fault. Its end is a number of 33 bits.
-pub fn faulty(text: &[u8], x: Span, fault: Fault) -> bool
-    ensures { λ r. ⌜ r ≡ faultOf fault (now (text .entry)) x ⌝ }
+// Whether a span passes the end of the text. Its end is a number of 33 bits.
+pub fn past_end(text: &[u8], x: Span) -> bool
+    ensures { λ r. ⌜ r ≡ passesEnd (now (text .entry)) x ⌝ }
 {
-    match fault {
-        Fault::PastEnd => (text.len() as u64) < (x.start as u64) + (x.len as u64),
-        Fault::NotUtf8 => !is_utf8(part(text, x.start as usize, x.len as usize)),
-    }
-}
-
-// Whether the byte at a place is not the first of its character.
-fn tail_at(text: &[u8], i: usize) -> bool
-    ensures { λ r. ⌜ r ≡ tailAt (now (text .entry)) i ⌝ }
-{
-    if text.len() <= i {
-        return false;
-    }
-    (0x80 <= text[i]) & (text[i] <= 0xBF)
-}
-
-// Whether a span within a text that is UTF-8 is not: it starts or ends within a character.
-pub fn torn(text: &[u8], x: Span) -> bool
-    requires { ⌜ (utf8 (now text) ≡ true) × (endOf x ≤ length (now text)) ⌝ }
-    ensures { λ r. ⌜ r ≡ illSpan (now (text .entry)) x ⌝ }
-{
-    let start = x.start as usize;
-    let end = start + x.len as usize;
-    (x.len != 0) & (tail_at(text, start) | tail_at(text, end))
+    (text.len() as u64) < (x.start as u64) + (x.len as u64)
 }
 
 // Tests sixteen bytes from `i` on for c. Promised is what the search needs: where it says true, they are there and none of them is c.

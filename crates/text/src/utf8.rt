@@ -5,7 +5,7 @@ ghost use Prim.Native.Nat.{_+_, _≤_};
 ghost use lib.ListN.{length};
 ghost use lib.Dec.{leb};
 ghost use Rattle.lin_spec.specs.Utf8.{first, utf8, longest};
-ghost use Rattle.text.specs.Utf8.{bytesOf, lowOf, highOf, Front, Past, Block};
+ghost use Rattle.text.specs.Utf8.{bytesOf, lowOf, highOf, Front, Past, Block, Stepped};
 
 // How many bytes a character has that begins with `a`, 0 where none does. RFC 3629, 4: UTF8-1 to UTF8-4
 pub fn width(a: u8) -> usize
@@ -192,6 +192,17 @@ fn past_ascii(s: &[u8], from: usize) -> usize
         return from;
     }
     ascii_end(s, from)
+}
+
+// Passes sixteen bytes of ASCII from `i` on, or one character, and gives the place after them; `i` where there is no character.
+pub(crate) fn step(s: &[u8], i: usize) -> usize
+    requires { ⌜ i ≤ length (now s) ⌝ }
+    ensures { λ r. ⌜ Stepped (now (s .entry)) i r ⌝ }
+{
+    if ascii_sixteen(s, i) {
+        return i + 16;
+    }
+    i + char_len(&s[i..])
 }
 
 // The length of the longest well-formed start of `s`. Many texts are ASCII up to their end, or for long: these go by sixty-fours.

@@ -146,6 +146,15 @@ fn least(times: Vec<f64>) -> f64 {
     times.into_iter().fold(f64::INFINITY, f64::min)
 }
 
+/// The least time of a call that upstream has no match for.
+pub fn alone<A>(runs: usize, mut call: impl FnMut() -> A) -> f64 {
+    let mut times = Vec::new();
+    for _ in 0..runs {
+        timed(&mut times, || drop(black_box(call())));
+    }
+    least(times)
+}
+
 /// The bytes found to be UTF-8.
 fn opening(text: &str, runs: usize) -> Times {
     let bytes = text.as_bytes();

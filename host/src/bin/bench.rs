@@ -1,6 +1,7 @@
 //! Times upstream's calls against the exports, interleaved in one run of one
 //! driver: `bench [RUNS [WORD]]`, over all inputs or those whose name has the
-//! word. docs/BENCHMARKS.md says what the rows are.
+//! word; and the exports alone over hostile records, for the word `hostile`.
+//! docs/BENCHMARKS.md says what the rows are.
 
 #[path = "../bench/clock.rs"]
 mod clock;
@@ -9,9 +10,15 @@ mod inputs;
 #[path = "../bench/works.rs"]
 mod works;
 
-use lin_host_rust::LIMIT;
+use lin_host_rust::{
+    samples::hostile::{self, Hostile},
+    LIMIT,
+};
 use std::env;
 use works::Work;
+
+/// The word for the records that have no match in upstream.
+const HOSTILE: &str = "hostile records";
 
 fn main() {
     let runs = env::args().nth(1).and_then(|a| a.parse().ok());
@@ -40,6 +47,12 @@ fn main() {
             report(work, &texts, runs);
         }
     }
+    if HOSTILE.contains(&word) {
+        println!("{HOSTILE}");
+        for hostile in hostile::ALL.iter().chain(hostile::BY_NATURE) {
+            report_hostile(hostile, runs);
+        }
+    }
 }
 
 /// The row of a work: its times over the longest text, and how the exports'
@@ -58,6 +71,25 @@ fn report(work: &Work, texts: &[String; 3], runs: usize) {
         format!("{:.2}", whole.exports / half.exports),
     ];
     line(work.name, cells);
+}
+
+/// The row of a hostile record, which upstream's types can't hold.
+fn report_hostile(hostile: &Hostile, runs: usize) {
+    let [quarter, half, whole] = [LIMIT / 4, LIMIT / 2, LIMIT].map(|len| {
+        let asked = (hostile.made)(len);
+        works::alone(runs, || asked.answer())
+    });
+    let empty = String::new;
+    let cells = [
+        format!("{LIMIT}"),
+        empty(),
+        format!("{whole:.3}"),
+        empty(),
+        empty(),
+        format!("{:.2}", half / quarter),
+        format!("{:.2}", whole / half),
+    ];
+    line(hostile.name, cells);
 }
 
 fn line(what: &str, cells: [String; 7]) {

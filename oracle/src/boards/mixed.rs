@@ -91,6 +91,7 @@ pub type Fault = fn(&mut Rng, String) -> String;
 pub const FAULTS: [(Fault, usize); 4] =
     [(changed, 160), (repiped, 60), (rearranged, 40), (moved, 60)];
 
+/// Short records, each with one of the faults.
 pub fn damaged() -> Vec<String> {
     let rng = &mut Rng::new(6);
     let mut all = Vec::new();

@@ -22,8 +22,8 @@ fn brief(rng: &mut Rng, boards: usize, rows: usize) -> String {
     write_lin_file(&list)
 }
 
-/// Files of 0 to 12 boards, with and without qx, movies, and files in other
-/// clothes.
+/// Files of 0 to 12 boards, with and without qx, movies, and a file with texts
+/// before and after it, other ends of lines, other commands and another case.
 pub fn records() -> Vec<String> {
     let rng = &mut Rng::new(10);
     let mut all: Vec<String> = (0..=12).map(|n| brief(rng, n, 8)).collect();

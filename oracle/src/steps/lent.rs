@@ -7,7 +7,8 @@ use crate::{
     lin::LinData,
 };
 
-/// The board's words, its rows, and where the text, the rows and the cards are lent.
+/// The places of a lent board: its words, its rows, where its rows and its cards
+/// are lent, and the block that makes it blank.
 #[derive(Clone, Copy)]
 pub struct Side {
     board: usize,
@@ -17,6 +18,7 @@ pub struct Side {
     blank: usize,
 }
 
+/// The board that is written, or that is compared with the other.
 pub const ONE_BOARD: Side = Side {
     board: LENT_BOARD,
     rows: ROWS,
@@ -25,6 +27,7 @@ pub const ONE_BOARD: Side = Side {
     blank: BLANK,
 };
 
+/// The board that the first one is compared with.
 pub const OTHER_BOARD: Side = Side {
     board: LENT_BOARD2,
     rows: ROWS2,

@@ -8,17 +8,17 @@ use Rattle.annotation.proofs.entry.annotation_text.Tie as tie
 returns : tie.Need-returns
 returns c = write-long _ _ _ _ (c .if1 .taken)
 
-any-faulty-requires : tie.Need-any-faulty-requires
-any-faulty-requires c κs = search needs
+any-past-requires : tie.Need-any-past-requires
+any-past-requires c κs = search needs
 
 returns-2 : tie.Need-returns-2
-returns-2 c = write-past _ _ _ _ (c .before .before .if1 .left) _ (c .before .any-faulty .ensures) (c .if2 .taken)
+returns-2 c = write-past _ _ _ _ (c .before .before .if1 .left) _ (c .before .any-past .ensures) (c .if2 .taken)
 
-any-faulty-requires-2 : tie.Need-any-faulty-requires-2
-any-faulty-requires-2 c κs = search needs
+any-ill-requires : tie.Need-any-ill-requires
+any-ill-requires c κs = search needs
 
 returns-3 : tie.Need-returns-3
-returns-3 c = write-ill _ _ _ _ (c .before .before .before .before .if1 .left) _ (c .before .before .before .any-faulty .ensures) (c .before .before .if2 .left) _ (c .before .any-faulty2 .ensures) (c .if3 .taken)
+returns-3 c = write-ill _ _ _ _ (c .before .before .before .before .if1 .left) _ (c .before .before .before .any-past .ensures) (c .before .before .if2 .left) _ (c .before .any-ill .ensures) (c .if3 .taken)
 
 annotation-len-requires : tie.Need-annotation-len-requires
 annotation-len-requires c κs = search needs
@@ -27,10 +27,10 @@ room-requires : tie.Need-room-requires
 room-requires c κs = search needs
 
 returns-4 : tie.Need-returns-4
-returns-4 c = write-small _ _ _ _ (c .before .before .before .before .before .before .before .if1 .left) _ (c .before .before .before .before .before .before .any-faulty .ensures) (c .before .before .before .before .before .if2 .left) _ (c .before .before .before .before .any-faulty2 .ensures) (c .before .before .before .if3 .left) _ (c .before .before .annotation-len .ensures) _ (c .before .room .ensures) (c .if4 .taken)
+returns-4 c = write-small _ _ _ _ (c .before .before .before .before .before .before .before .if1 .left) _ (c .before .before .before .before .before .before .any-past .ensures) (c .before .before .before .before .before .if2 .left) _ (c .before .before .before .before .any-ill .ensures) (c .before .before .before .if3 .left) _ (c .before .before .annotation-len .ensures) _ (c .before .room .ensures) (c .if4 .taken)
 
 returns-5 : tie.Need-returns-5
-returns-5 c = write-absent _ _ _ _ (c .before .before .before .before .before .before .before .before .if1 .left) _ (c .before .before .before .before .before .before .before .any-faulty .ensures) (c .before .before .before .before .before .before .if2 .left) _ (c .before .before .before .before .before .any-faulty2 .ensures) (c .before .before .before .before .if3 .left) _ (c .before .before .before .annotation-len .ensures) _ (c .before .before .room .ensures) (c .before .if4 .left) (c .if5 .taken)
+returns-5 c = write-absent _ _ _ _ (c .before .before .before .before .before .before .before .before .if1 .left) _ (c .before .before .before .before .before .before .before .any-past .ensures) (c .before .before .before .before .before .before .if2 .left) _ (c .before .before .before .before .before .any-ill .ensures) (c .before .before .before .before .if3 .left) _ (c .before .before .before .annotation-len .ensures) _ (c .before .before .room .ensures) (c .before .if4 .left) (c .if5 .taken)
 
 put-annotation-requires : tie.Need-put-annotation-requires
 put-annotation-requires c κs = search needs
@@ -39,16 +39,16 @@ same-length : tie.Need-same-length
 same-length c = search needs
 
 returns-6 : tie.Need-returns-6
-returns-6 c = write-done _ _ _ _ (c .before .before .before .before .before .before .before .before .before .before .before .before .if1 .left) _ (c .before .before .before .before .before .before .before .before .before .before .before .any-faulty .ensures) (c .before .before .before .before .before .before .before .before .before .before .if2 .left) _ (c .before .before .before .before .before .before .before .before .before .any-faulty2 .ensures) (c .before .before .before .before .before .before .before .before .if3 .left) _ (c .before .before .before .before .before .before .before .annotation-len .ensures) _ (c .before .before .before .before .before .before .room .ensures) (c .before .before .before .before .before .if4 .left) (c .before .before .before .before .if5 .left) (c .before .before .put-annotation .ensures)
+returns-6 c = write-done _ _ _ _ (c .before .before .before .before .before .before .before .before .before .before .before .before .if1 .left) _ (c .before .before .before .before .before .before .before .before .before .before .before .any-past .ensures) (c .before .before .before .before .before .before .before .before .before .before .if2 .left) _ (c .before .before .before .before .before .before .before .before .before .any-ill .ensures) (c .before .before .before .before .before .before .before .before .if3 .left) _ (c .before .before .before .before .before .before .before .annotation-len .ensures) _ (c .before .before .before .before .before .before .room .ensures) (c .before .before .before .before .before .if4 .left) (c .before .before .before .before .if5 .left) (c .before .before .put-annotation .ensures)
 
 pub annotation-text-spec : {M : Type 1} → statement M
 annotation-text-spec =
     tie.close
     (tie.spec
     returns
-    any-faulty-requires
+    any-past-requires
     returns-2
-    any-faulty-requires-2
+    any-ill-requires
     returns-3
     annotation-len-requires
     room-requires

@@ -12,13 +12,13 @@ faulty-requires : tie.Need-faulty-requires
 faulty-requires c κs = search needs
 
 returns : tie.Need-returns
-returns c = raw-found (faultOf (c .before .before .before .args .fault) (now (c .before .before .before .args .text))) _ _ (sym (c .before .faulty .ensures) ∙ c .if1 .taken)
+returns c = raw-found (faultOf (c .before .before .before .before .args .fault) (now (c .before .before .before .before .args .text))) _ _ (sym (c .before .faulty .ensures) ∙ c .if1 .taken)
 
 any-note-faulty-requires : tie.Need-any-note-faulty-requires
 any-note-faulty-requires c κs = search needs
 
 returns-2 : tie.Need-returns-2
-returns-2 c = raw-next (faultOf (c .before .before .before .before .args .fault) (now (c .before .before .before .before .args .text))) _ _ (sym (c .before .before .faulty .ensures) ∙ c .before .if1 .left) _ (c .any-note-faulty .ensures)
+returns-2 c = raw-next (faultOf (c .before .before .before .before .before .args .fault) (now (c .before .before .before .before .before .args .text))) _ _ (sym (c .before .before .faulty .ensures) ∙ c .before .if1 .left) _ (c .any-note-faulty .ensures)
 
 pub any-faulty-spec : {M : Type 1} → statement M
 any-faulty-spec = tie.close (tie.spec faulty-requires returns any-note-faulty-requires returns-2)

@@ -3,6 +3,9 @@
 use denote.Ref.{now}
 use Rattle.text.specs.Fault.{faultOf}
 use Rattle.annotation.proofs.NoteLaws.{note-none, note-one}
+use lib.ListN.{length-set}
+use mathlib.Core.Path.{refl}
+use native.Mathlib.Omega.{arith}
 use borrow.Author.Needs.{needs}
 use Rattle.annotation.proofs.notes.note_faulty.Statement.{statement}
 use Rattle.annotation.proofs.notes.note_faulty.Tie as tie
@@ -14,31 +17,31 @@ shared-slice-read-if1 : tie.Need-shared-slice-read-if1
 shared-slice-read-if1 c = search needs
 
 returns : tie.Need-returns
-returns c = note-none (faultOf (c .before .before .before .before .args .fault) (now (c .before .before .before .before .args .text))) (now (c .before .before .before .before .args .words)) (c .before .before .before .before .args .i) (c .if1 .taken)
+returns c = note-none (faultOf (c .before .before .before .before .before .args .fault) (now (c .before .before .before .before .before .args .text))) (now (c .before .before .before .before .before .args .words)) (c .before .before .before .before .before .args .i) (c .if1 .taken)
 
-add-t6 : tie.Need-add-t6
-add-t6 c = search needs
+add-t7 : tie.Need-add-t7
+add-t7 c = search needs
 
-mul-t10 : tie.Need-mul-t10
-mul-t10 c = search needs
+mul-t11 : tie.Need-mul-t11
+mul-t11 c = search needs
 
-shared-slice-read-t8 : tie.Need-shared-slice-read-t8
-shared-slice-read-t8 c = search needs
+shared-slice-read-t9 : tie.Need-shared-slice-read-t9
+shared-slice-read-t9 c = search needs
 
-add-t12 : tie.Need-add-t12
-add-t12 c = search needs
+add-t13 : tie.Need-add-t13
+add-t13 c = search needs
 
-mul-t13 : tie.Need-mul-t13
-mul-t13 c = search needs
+mul-t14 : tie.Need-mul-t14
+mul-t14 c = search needs
 
-shared-slice-read-t15 : tie.Need-shared-slice-read-t15
-shared-slice-read-t15 c = search needs
+shared-slice-read-t16 : tie.Need-shared-slice-read-t16
+shared-slice-read-t16 c = search needs
 
 faulty-requires : tie.Need-faulty-requires
 faulty-requires c κs = search needs
 
 returns-2 : tie.Need-returns-2
-returns-2 c = note-one (faultOf (c .before .before .before .before .before .before .before .args .fault) (now (c .before .before .before .before .before .before .before .args .text))) (now (c .before .before .before .before .before .before .before .args .words)) (c .before .before .before .before .before .before .before .args .i) (c .before .before .before .if1 .left) _ (c .faulty .ensures)
+returns-2 c = note-one (faultOf (c .before .before .before .before .before .before .before .before .args .fault) (now (c .before .before .before .before .before .before .before .before .args .text))) (now (c .before .before .before .before .before .before .before .before .args .words)) (c .before .before .before .before .before .before .before .before .args .i) (c .before .before .before .if1 .left) _ (c .faulty .ensures)
 
 pub note-faulty-spec : {M : Type 1} → statement M
 note-faulty-spec =
@@ -47,11 +50,11 @@ note-faulty-spec =
     mul-if1
     shared-slice-read-if1
     returns
-    add-t6
-    mul-t10
-    shared-slice-read-t8
-    add-t12
-    mul-t13
-    shared-slice-read-t15
+    add-t7
+    mul-t11
+    shared-slice-read-t9
+    add-t13
+    mul-t14
+    shared-slice-read-t16
     faulty-requires
     returns-2)

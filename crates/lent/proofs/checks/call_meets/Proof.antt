@@ -10,16 +10,16 @@ meets-requires : tie.Need-meets-requires
 meets-requires c κs = search needs
 
 returns : tie.Need-returns
-returns c = call-bid _ (c .before .before .before .args .c) (sym (c .before .meets .ensures) ∙ c .if1 .taken)
+returns c = call-bid _ (c .before .before .before .before .args .c) (sym (c .before .meets .ensures) ∙ c .if1 .taken)
 
 returns-2 : tie.Need-returns-2
-returns-2 c = call-bare _ (c .before .before .before .before .before .args .c) (sym (c .before .before .before .meets .ensures) ∙ c .before .before .if1 .left) (c .if2 .taken)
+returns-2 c = call-bare _ (c .before .before .before .before .before .before .args .c) (sym (c .before .before .before .meets .ensures) ∙ c .before .before .if1 .left) (c .if2 .taken)
 
 meets-requires-2 : tie.Need-meets-requires-2
 meets-requires-2 c κs = search needs
 
 returns-3 : tie.Need-returns-3
-returns-3 c = c .meets2 .ensures ∙ call-annotated _ (c .before .before .before .before .before .before .args .c) (sym (c .before .before .before .before .meets .ensures) ∙ c .before .before .before .if1 .left) (c .before .if2 .left)
+returns-3 c = c .meets2 .ensures ∙ call-annotated _ (c .before .before .before .before .before .before .before .args .c) (sym (c .before .before .before .before .meets .ensures) ∙ c .before .before .before .if1 .left) (c .before .if2 .left)
 
 pub call-meets-spec : {M : Type 1} → statement M
 call-meets-spec =

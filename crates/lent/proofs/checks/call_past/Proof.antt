@@ -5,14 +5,14 @@ use Rattle.lent.proofs.LentLaws.{call-either}
 use Rattle.lent.proofs.checks.call_past.Statement.{statement}
 use Rattle.lent.proofs.checks.call_past.Tie as tie
 
-faulty-requires : tie.Need-faulty-requires
-faulty-requires c κs = search needs
+past-end-requires : tie.Need-past-end-requires
+past-end-requires c κs = search needs
 
-faulty-requires-2 : tie.Need-faulty-requires-2
-faulty-requires-2 c κs = search needs
+past-end-requires-2 : tie.Need-past-end-requires-2
+past-end-requires-2 c κs = search needs
 
 returns : tie.Need-returns
-returns c = call-either _ (c .before .before .before .before .args .c) _ _ (c .before .before .faulty .ensures) (c .before .faulty2 .ensures)
+returns c = call-either _ (c .before .before .before .before .args .c) _ _ (c .before .before .past-end .ensures) (c .before .past-end2 .ensures)
 
 pub call-past-spec : {M : Type 1} → statement M
-call-past-spec = tie.close (tie.spec faulty-requires faulty-requires-2 returns)
+call-past-spec = tie.close (tie.spec past-end-requires past-end-requires-2 returns)

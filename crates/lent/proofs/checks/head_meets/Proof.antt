@@ -18,7 +18,7 @@ present-meets-requires-3 : tie.Need-present-meets-requires-3
 present-meets-requires-3 c κs = search needs
 
 returns : tie.Need-returns
-returns c = head-four _ (c .before .before .before .before .before .before .args .head) _ _ _ _ (c .before .before .before .name-meets .ensures) (c .before .before .present-meets .ensures) (c .before .present-meets2 .ensures) (c .present-meets3 .ensures)
+returns c = head-four _ (c .before .before .before .before .before .before .before .args .head) _ _ _ _ (c .before .before .before .name-meets .ensures) (c .before .before .present-meets .ensures) (c .before .present-meets2 .ensures) (c .present-meets3 .ensures)
 
 pub head-meets-spec : {M : Type 1} → statement M
 head-meets-spec =

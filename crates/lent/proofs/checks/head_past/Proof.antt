@@ -8,24 +8,24 @@ use Rattle.lent.proofs.checks.head_past.Tie as tie
 name-past-requires : tie.Need-name-past-requires
 name-past-requires c κs = search needs
 
-present-faulty-requires : tie.Need-present-faulty-requires
-present-faulty-requires c κs = search needs
+present-past-requires : tie.Need-present-past-requires
+present-past-requires c κs = search needs
 
-present-faulty-requires-2 : tie.Need-present-faulty-requires-2
-present-faulty-requires-2 c κs = search needs
+present-past-requires-2 : tie.Need-present-past-requires-2
+present-past-requires-2 c κs = search needs
 
-present-faulty-requires-3 : tie.Need-present-faulty-requires-3
-present-faulty-requires-3 c κs = search needs
+present-past-requires-3 : tie.Need-present-past-requires-3
+present-past-requires-3 c κs = search needs
 
 returns : tie.Need-returns
-returns c = head-four _ (c .before .before .before .before .before .before .args .head) _ _ _ _ (c .before .before .before .name-past .ensures) (c .before .before .present-faulty .ensures) (c .before .present-faulty2 .ensures) (c .present-faulty3 .ensures)
+returns c = head-four _ (c .before .before .before .before .before .before .args .head) _ _ _ _ (c .before .before .before .name-past .ensures) (c .before .before .present-past .ensures) (c .before .present-past2 .ensures) (c .present-past3 .ensures)
 
 pub head-past-spec : {M : Type 1} → statement M
 head-past-spec =
     tie.close
     (tie.spec
     name-past-requires
-    present-faulty-requires
-    present-faulty-requires-2
-    present-faulty-requires-3
+    present-past-requires
+    present-past-requires-2
+    present-past-requires-3
     returns)

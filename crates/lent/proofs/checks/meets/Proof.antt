@@ -1,50 +1,28 @@
--- `lent::meets` meets its contract: the span passes the end; or in each arm the look is known.
+-- `lent::meets` meets its contract: the span passes the end, or the index says whether it is UTF-8.
 -- Assumes nothing.
 use denote.Ref.{now}
 use borrow.Author.Needs.{needs}
-use Rattle.lent.proofs.LentLaws.{amiss-past, amiss-within, look-whole, look-within}
+use Rattle.lent.proofs.LentLaws.{amiss-past, amiss-within}
 use Rattle.lent.proofs.checks.meets.Statement.{statement}
 use Rattle.lent.proofs.checks.meets.Tie as tie
 
-faulty-requires : tie.Need-faulty-requires
-faulty-requires c κs = search needs
+past-end-requires : tie.Need-past-end-requires
+past-end-requires c κs = search needs
 
 returns : tie.Need-returns
-returns c = let a = c .before .before .before .args in amiss-past (now (a .text)) (a .x) _ (c .before .faulty .ensures) (c .if1 .taken)
+returns c = let a = c .before .before .before .before .args in amiss-past (now (a .text)) (a .x) _ (c .before .past-end .ensures) (c .if1 .taken)
 
-enum-told : tie.Need-enum-told
-enum-told c = search needs
-
-faulty-requires-2 : tie.Need-faulty-requires-2
-faulty-requires-2 c κs = search needs
-
-enum-told-2 : tie.Need-enum-told-2
-enum-told-2 c = search needs
-
-torn-requires : tie.Need-torn-requires
-torn-requires c κs =
-    let a = c .before .before .before .before .before in
-    (look-whole _ _ (c .enum-told2 .given .1) (a .pre), look-within (now (a .args .text)) (a .args .x) _ (c .before .before .before .faulty .ensures) (c .before .before .if1 .left))
+span-ill-requires : tie.Need-span-ill-requires
+span-ill-requires c κs = search needs
 
 returns-2 : tie.Need-returns-2
-returns-2 c =
-    let a = c .before .before .before .before .before .before .args in
-    amiss-within (now (a .text)) (a .x) _ (c .before .before .before .before .faulty .ensures) (c .before .before .before .if1 .left) _ (c .faulty2 .ensures)
-
-returns-3 : tie.Need-returns-3
-returns-3 c =
-    let a = c .before .before .before .before .before .before .args in
-    amiss-within (now (a .text)) (a .x) _ (c .before .before .before .before .faulty .ensures) (c .before .before .before .if1 .left) _ (c .torn .ensures)
+returns-2 c = let a = c .before .before .before .before .before .args in amiss-within (now (a .text)) (a .x) _ (c .before .before .past-end .ensures) (c .before .if1 .left) _ (c .span-ill .ensures)
 
 pub meets-spec : {M : Type 1} → statement M
 meets-spec =
     tie.close
     (tie.spec
-    faulty-requires
+    past-end-requires
     returns
-    enum-told
-    faulty-requires-2
-    enum-told-2
-    torn-requires
-    returns-2
-    returns-3)
+    span-ill-requires
+    returns-2)

@@ -22,14 +22,14 @@ abbrev μ-loop : tie.MeasureT-loop
 loop-holds : tie.Need-loop-holds Inv-loop μ-loop
 loop-holds c = (refl, search needs)
 
-mul-faulty : tie.Need-mul-faulty Inv-loop μ-loop
-mul-faulty c = search needs
+mul-past-end : tie.Need-mul-past-end Inv-loop μ-loop
+mul-past-end c = search needs
 
-array-copy-out-faulty : tie.Need-array-copy-out-faulty Inv-loop μ-loop
-array-copy-out-faulty c = search needs
+array-copy-out-past-end : tie.Need-array-copy-out-past-end Inv-loop μ-loop
+array-copy-out-past-end c = search needs
 
-faulty-requires : tie.Need-faulty-requires Inv-loop μ-loop
-faulty-requires c κs = tt
+past-end-requires : tie.Need-past-end-requires Inv-loop μ-loop
+past-end-requires c κs = tt
 
 add-seat : tie.Need-add-seat Inv-loop μ-loop
 add-seat c = omega arith
@@ -38,7 +38,7 @@ loop-less : tie.Need-loop-less Inv-loop μ-loop
 loop-less c = omega arith
 
 loop-again : tie.Need-loop-again Inv-loop μ-loop
-loop-again c = let l = c .before .before .before .loop in (or-each _ (span 0 0) _ _ (l .past) (l .inv .0) (omega (arith, l .inv .1)) _ (c .faulty .ensures), l .inv .1)
+loop-again c = let l = c .before .before .before .loop in (or-each _ (span 0 0) _ _ (l .past) (l .inv .0) (omega (arith, l .inv .1)) _ (c .past-end .ensures), l .inv .1)
 
 returns : tie.Need-returns Inv-loop μ-loop
 returns c = let l = c .before .loop in all-each _ (span 0 0) _ (l .seat) _ (l .inv .0) (omega (arith, l .inv .1))
@@ -50,9 +50,9 @@ name-past-spec =
     Inv-loop
     μ-loop
     loop-holds
-    mul-faulty
-    array-copy-out-faulty
-    faulty-requires
+    mul-past-end
+    array-copy-out-past-end
+    past-end-requires
     add-seat
     loop-less
     loop-again

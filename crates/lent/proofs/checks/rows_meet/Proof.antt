@@ -14,12 +14,12 @@ use Rattle.lent.proofs.checks.rows_meet.Statement.{statement}
 use Rattle.lent.proofs.checks.rows_meet.Tie as tie
 
 abbrev Inv-loop : tie.InvT-loop
-Inv-loop text rows look found₀ i₀ found i =
+Inv-loop text next rows found₀ i₀ found i =
     (i ≤ length rows)
     × ((found || any (λ c. any (amiss text) (spansOf c)) (callRows (drop i rows))) ≡ any (λ c. any (amiss text) (spansOf c)) (callRows rows))
 
 abbrev μ-loop : tie.MeasureT-loop
-μ-loop text rows look found₀ i₀ found i = length rows - i
+μ-loop text next rows found₀ i₀ found i = length rows - i
 
 loop-holds : tie.Need-loop-holds Inv-loop μ-loop
 loop-holds c = (omega arith, refl)
@@ -31,7 +31,7 @@ call-at-requires : tie.Need-call-at-requires Inv-loop μ-loop
 call-at-requires c κs = omega arith
 
 call-meets-requires : tie.Need-call-meets-requires Inv-loop μ-loop
-call-meets-requires c κs = c .before .before .before .before .before .pre
+call-meets-requires c κs = c .before .before .before .before .before .before .pre
 
 add-i : tie.Need-add-i Inv-loop μ-loop
 add-i c = omega arith

@@ -17,20 +17,20 @@ bad-record-requires c κs = search needs
 returns-3 : tie.Need-returns-3
 returns-3 c = check-number _ _ (c .before .before .before .before .before .before .before .args .board) _ _ _ (c .before .before .before .if1 .left) (c .before .before .if2 .left) _ (c .before .bad-record .ensures) (c .if3 .taken)
 
-any-faulty-requires : tie.Need-any-faulty-requires
-any-faulty-requires c κs = search needs
+any-past-requires : tie.Need-any-past-requires
+any-past-requires c κs = search needs
 
 returns-4 : tie.Need-returns-4
-returns-4 c = check-past _ _ (c .before .before .before .before .before .before .before .before .before .args .board) _ _ _ (c .before .before .before .before .before .if1 .left) (c .before .before .before .before .if2 .left) _ (c .before .before .before .bad-record .ensures) (c .before .before .if3 .left) _ (c .before .any-faulty .ensures) (c .if4 .taken)
+returns-4 c = check-past _ _ (c .before .before .before .before .before .before .before .before .before .args .board) _ _ _ (c .before .before .before .before .before .if1 .left) (c .before .before .before .before .if2 .left) _ (c .before .before .before .bad-record .ensures) (c .before .before .if3 .left) _ (c .before .any-past .ensures) (c .if4 .taken)
 
-any-faulty-requires-2 : tie.Need-any-faulty-requires-2
-any-faulty-requires-2 c κs = search needs
+any-ill-requires : tie.Need-any-ill-requires
+any-ill-requires c κs = search needs
 
 returns-5 : tie.Need-returns-5
-returns-5 c = check-ill _ _ (c .before .before .before .before .before .before .before .before .before .before .before .args .board) _ _ _ (c .before .before .before .before .before .before .before .if1 .left) (c .before .before .before .before .before .before .if2 .left) _ (c .before .before .before .before .before .bad-record .ensures) (c .before .before .before .before .if3 .left) _ (c .before .before .before .any-faulty .ensures) (c .before .before .if4 .left) _ (c .before .any-faulty2 .ensures) (c .if5 .taken)
+returns-5 c = check-ill _ _ (c .before .before .before .before .before .before .before .before .before .before .before .args .board) _ _ _ (c .before .before .before .before .before .before .before .if1 .left) (c .before .before .before .before .before .before .if2 .left) _ (c .before .before .before .before .before .bad-record .ensures) (c .before .before .before .before .if3 .left) _ (c .before .before .before .any-past .ensures) (c .before .before .if4 .left) _ (c .before .any-ill .ensures) (c .if5 .taken)
 
 returns-6 : tie.Need-returns-6
-returns-6 c = check-good _ _ (c .before .before .before .before .before .before .before .before .before .before .before .args .board) _ _ _ (c .before .before .before .before .before .before .before .if1 .left) (c .before .before .before .before .before .before .if2 .left) _ (c .before .before .before .before .before .bad-record .ensures) (c .before .before .before .before .if3 .left) _ (c .before .before .before .any-faulty .ensures) (c .before .before .if4 .left) _ (c .before .any-faulty2 .ensures) (c .if5 .left)
+returns-6 c = check-good _ _ (c .before .before .before .before .before .before .before .before .before .before .before .args .board) _ _ _ (c .before .before .before .before .before .before .before .if1 .left) (c .before .before .before .before .before .before .if2 .left) _ (c .before .before .before .before .before .bad-record .ensures) (c .before .before .before .before .if3 .left) _ (c .before .before .before .any-past .ensures) (c .before .before .if4 .left) _ (c .before .any-ill .ensures) (c .if5 .left)
 
 pub check-spec : {M : Type 1} → statement M
 check-spec =
@@ -40,8 +40,8 @@ check-spec =
     returns-2
     bad-record-requires
     returns-3
-    any-faulty-requires
+    any-past-requires
     returns-4
-    any-faulty-requires-2
+    any-ill-requires
     returns-5
     returns-6)

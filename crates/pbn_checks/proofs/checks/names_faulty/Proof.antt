@@ -18,7 +18,7 @@ one-faulty-requires : tie.Need-one-faulty-requires
 one-faulty-requires c κs = search needs
 
 returns : tie.Need-returns
-returns c = c .one-faulty .ensures ∙ ap (λ (ms : List MaybeSpan). any (faultOf (c .before .before .before .args .fault) (now (c .before .before .before .args .text))) (nameSpans ms)) (c .before .names-of .ensures)
+returns c = c .one-faulty .ensures ∙ ap (λ (ms : List MaybeSpan). any (faultOf (c .before .before .before .before .args .fault) (now (c .before .before .before .before .args .text))) (nameSpans ms)) (c .before .names-of .ensures)
 
 pub names-faulty-spec : {M : Type 1} → statement M
 names-faulty-spec = tie.close (tie.spec names-of-requires one-faulty-requires returns)

@@ -16,10 +16,10 @@ use Rattle.pbn_checks.proofs.checks.one_faulty.Statement.{statement}
 use Rattle.pbn_checks.proofs.checks.one_faulty.Tie as tie
 
 abbrev Inv-loop : tie.InvT-loop
-Inv-loop text fault names seat₀ seat = (any (λ x. any (faultOf fault text) (spanIn (optionOf x))) (drop seat names) ≡ any (λ x. any (faultOf fault text) (spanIn (optionOf x))) names) × (length names ≡ 4)
+Inv-loop text next fault names seat₀ seat = (any (λ x. any (faultOf fault text) (spanIn (optionOf x))) (drop seat names) ≡ any (λ x. any (faultOf fault text) (spanIn (optionOf x))) names) × (length names ≡ 4)
 
 abbrev μ-loop : tie.MeasureT-loop
-μ-loop text fault names seat₀ seat = 4 - seat
+μ-loop text next fault names seat₀ seat = 4 - seat
 
 loop-holds : tie.Need-loop-holds Inv-loop μ-loop
 loop-holds c = (refl, search needs)
@@ -31,7 +31,7 @@ array-copy-out-name : tie.Need-array-copy-out-name Inv-loop μ-loop
 array-copy-out-name c = search needs
 
 present-faulty-requires : tie.Need-present-faulty-requires Inv-loop μ-loop
-present-faulty-requires c κs = tt
+present-faulty-requires c κs = c .before .before .before .before .before .pre
 
 returns : tie.Need-returns Inv-loop μ-loop
 returns c = let i = c .before .before .before .before .loop .inv in any-found _ Absent _ _ (i .0) (omega (arith, i .1)) _ (c .before .present-faulty .ensures) (c .if1 .taken) ∙ sym (names-any _ _)
@@ -46,7 +46,7 @@ loop-again : tie.Need-loop-again Inv-loop μ-loop
 loop-again c = let i = c .before .before .before .before .loop .inv in (any-next _ Absent _ _ (i .0) (omega (arith, i .1)) _ (c .before .present-faulty .ensures) (c .if1 .left), i .1)
 
 returns-2 : tie.Need-returns-2 Inv-loop μ-loop
-returns-2 c = let i = c .before .loop .inv in any-end _ Absent (c .before .before .before .args .t2) (c .before .loop .seat) (i .0) (omega (arith, i .1)) ∙ sym (names-any _ _)
+returns-2 c = let i = c .before .loop .inv in any-end _ Absent (c .before .before .before .before .args .t3) (c .before .loop .seat) (i .0) (omega (arith, i .1)) ∙ sym (names-any _ _)
 
 pub one-faulty-spec : {M : Type 1} → statement M
 one-faulty-spec =

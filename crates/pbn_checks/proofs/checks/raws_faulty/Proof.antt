@@ -14,10 +14,10 @@ use Rattle.pbn_checks.proofs.checks.raws_faulty.Statement.{statement}
 use Rattle.pbn_checks.proofs.checks.raws_faulty.Tie as tie
 
 abbrev Inv-loop : tie.InvT-loop
-Inv-loop text calls fault i₀ i = (i ≤ length calls) × (any (λ c. any (faultOf fault text) (spanIn (rawOf c))) (pbnRows (drop i calls)) ≡ any (λ c. any (faultOf fault text) (spanIn (rawOf c))) (pbnRows calls))
+Inv-loop text next calls fault i₀ i = (i ≤ length calls) × (any (λ c. any (faultOf fault text) (spanIn (rawOf c))) (pbnRows (drop i calls)) ≡ any (λ c. any (faultOf fault text) (spanIn (rawOf c))) (pbnRows calls))
 
 abbrev μ-loop : tie.MeasureT-loop
-μ-loop text calls fault i₀ i = length calls - i
+μ-loop text next calls fault i₀ i = length calls - i
 
 loop-holds : tie.Need-loop-holds Inv-loop μ-loop
 loop-holds c = (omega arith, refl)
@@ -29,7 +29,7 @@ call-at-requires : tie.Need-call-at-requires Inv-loop μ-loop
 call-at-requires c κs = omega arith
 
 raw-faulty-requires : tie.Need-raw-faulty-requires Inv-loop μ-loop
-raw-faulty-requires c κs = tt
+raw-faulty-requires c κs = c .before .before .before .before .before .before .pre
 
 returns : tie.Need-returns Inv-loop μ-loop
 returns c = (found-row pbnRow _ _ _ (c .before .before .before .before .loop .inv .1) (c .before .before .before .loop-test .taken) _ (c .before .before .call-at .ensures) _ (c .before .raw-faulty .ensures) (c .if1 .taken)) ∙ sym (raws-any _ _)

@@ -1,0 +1,3 @@
+pub mod Lending
+pub mod ScanLaws
+pub mod BeginLaws

@@ -1,0 +1,226 @@
+//! Records whose spans name the same bytes again and again: no reader gives
+//! such, and whoever lends one gets an answer, soon. Each is made for a text of
+//! so many bytes, with rows in proportion.
+
+use crate::{
+    boards::{Board, ROW},
+    pbn,
+    tokens::{write_document, Span},
+    writer::Gathered,
+    Refusal,
+};
+
+/// What is lent, and to which call.
+pub enum Asked {
+    /// A board to append.
+    Append(Gathered),
+    /// Two boards to compare.
+    Same(Gathered, Gathered),
+    /// A document to write: its text and its rows.
+    Document(Vec<u8>, Vec<u32>),
+    /// A PBN record to make a board of.
+    Convert(pbn::Gathered),
+    /// A raw annotation, the text's, and its notes.
+    Annotation(Vec<u8>, Box<pbn::NoteWords>),
+}
+
+impl Asked {
+    /// The call's value, or its refusal. The output is short, since what such
+    /// records name has no end.
+    pub fn answer(&self) -> Result<u64, Refusal> {
+        let out = &mut [0; 1];
+        match self {
+            Asked::Append(board) => board.lent().append(out, 0),
+            Asked::Same(one, other) => one.lent().same(other.lent()).map(u64::from),
+            Asked::Document(text, rows) => write_document(text, rows, Span::new(0, 0), out),
+            Asked::Convert(record) => {
+                let (out, rows) = (&mut [0; KEPT], &mut [0; ROW * KEPT]);
+                let made = record.lent().convert_numbers(out, rows, &mut []);
+                made.heading.answer.read().map(|_| made.len)
+            }
+            Asked::Annotation(text, notes) => {
+                let raw = Span::new(0, 0);
+                let written = pbn::annotation_numbers(text, raw, notes, out);
+                written.read().map(|len| len.unwrap_or(0))
+            }
+        }
+    }
+}
+
+/// A name, and what is lent for a text of so many bytes.
+pub struct Hostile {
+    /// The call, and what is hostile about its record.
+    pub name: &'static str,
+    /// The record for a text of so many bytes.
+    pub made: fn(usize) -> Asked,
+    /// What the call answers: the number of its refusal, 0 for none.
+    pub refusal: u32,
+}
+
+/// Those whose checks take time linear in the text and the rows, and all else too.
+pub const ALL: &[Hostile] = &[
+    Hostile {
+        name: "append, every span the whole text",
+        made: |len| Asked::Append(board(whole(len), len / 24 - 1, all)),
+        refusal: 7,
+    },
+    Hostile {
+        name: "append, FF after every span",
+        made: |len| Asked::Append(board(ill_last(len), len / 16, but_last)),
+        refusal: 7,
+    },
+    Hostile {
+        name: "append, FF before every span",
+        made: |len| Asked::Append(board(ill_first(len), len / 16, but_first)),
+        refusal: 7,
+    },
+    Hostile {
+        name: "append, every byte FF",
+        made: |len| Asked::Append(board(vec![0xFF; len], len / 16, but_first)),
+        refusal: 6,
+    },
+    Hostile {
+        name: "same_board, FF before every span",
+        made: |len| {
+            let one = board(ill_first(len), len / 32, but_first);
+            let other = one.clone();
+            Asked::Same(one, other)
+        },
+        refusal: 0,
+    },
+    Hostile {
+        name: "same_board, FF after every span",
+        made: |len| {
+            let one = board(ill_last(len), len / 32, but_last);
+            let other = one.clone();
+            Asked::Same(one, other)
+        },
+        refusal: 0,
+    },
+    Hostile {
+        name: "same_board, every span the whole text",
+        made: |len| {
+            let one = board(whole(len), len / 24 - 1, all);
+            let other = one.clone();
+            Asked::Same(one, other)
+        },
+        refusal: 0,
+    },
+    Hostile {
+        name: "write_document, FF after every span",
+        made: |len| Asked::Document(ill_last(len), document_rows(len / 16, but_last(len))),
+        refusal: 7,
+    },
+    Hostile {
+        name: "write_document, FF before every span",
+        made: |len| Asked::Document(ill_first(len), document_rows(len / 16, but_first(len))),
+        refusal: 7,
+    },
+    Hostile {
+        name: "from_board, dropped calls",
+        made: |len| Asked::Convert(record(ill_first(len), len / 16, CONTINUE, but_first(len))),
+        refusal: 0,
+    },
+    Hostile {
+        name: "annotation_text, 256 notes",
+        made: |len| Asked::Annotation(ill_first(len), notes(but_first(len))),
+        refusal: 0,
+    },
+];
+
+/// Those whose answer itself takes the bytes of all spans together: bytes that
+/// stand at different places are compared, and raw annotations are read: for the
+/// length that refusal 7 carries, and of an accepted record for its rows and its
+/// texts too.
+pub const BY_NATURE: &[Hostile] = &[
+    Hostile {
+        name: "same_board, 256 calls a byte apart",
+        made: |len| {
+            let text = vec![b'a'; len];
+            let one = board(text.clone(), KEPT, but_last);
+            Asked::Same(one, board(text, KEPT, but_first))
+        },
+        refusal: 0,
+    },
+    Hostile {
+        name: "from_board, 256 calls, refused by 7",
+        made: |len| Asked::Convert(record(vec![b'!'; len], KEPT, PASS, all(len))),
+        refusal: 7,
+    },
+    Hostile {
+        name: "from_board, 256 calls, accepted",
+        made: |len| Asked::Convert(record(vec![b'x'; len], KEPT, PASS, all(len))),
+        refusal: 0,
+    },
+];
+
+/// How many calls there are where time is of the bytes of all spans together.
+const KEPT: usize = 256;
+
+const PASS: u32 = 0;
+const CONTINUE: u32 = 4;
+
+/// Two-byte characters, which no quick look at ASCII passes.
+fn whole(len: usize) -> Vec<u8> {
+    "é".repeat(len / 2).into_bytes()
+}
+
+fn ill_last(len: usize) -> Vec<u8> {
+    let mut text = whole(len);
+    text[len - 2..].copy_from_slice(b"x\xFF");
+    text
+}
+
+fn ill_first(len: usize) -> Vec<u8> {
+    let mut text = whole(len);
+    text[..2].copy_from_slice(b"\xFFx");
+    text
+}
+
+fn span(start: usize, end: usize) -> Span {
+    Span::new(start as u32, (end - start) as u32)
+}
+
+fn all(len: usize) -> Span {
+    span(0, len)
+}
+
+fn but_last(len: usize) -> Span {
+    span(0, len - 1)
+}
+
+fn but_first(len: usize) -> Span {
+    span(1, len)
+}
+
+/// A board of so many calls, the bid and the annotation of each this span.
+fn board(text: Vec<u8>, calls: usize, place: fn(usize) -> Span) -> Gathered {
+    let x = place(text.len());
+    let row: [u32; ROW] = [x.start, x.len, 0, 1, x.start, x.len];
+    Gathered {
+        text,
+        rows: row.repeat(calls),
+        ..Gathered::from(&Board::default())
+    }
+}
+
+fn document_rows(rows: usize, x: Span) -> Vec<u32> {
+    [x.start, x.len, x.start, x.len].repeat(rows)
+}
+
+/// A record of so many calls of this kind, the raw annotation of each this span.
+fn record(text: Vec<u8>, calls: usize, kind: u32, x: Span) -> pbn::Gathered {
+    pbn::Gathered {
+        text,
+        calls: [kind, 0, 0, 1, x.start, x.len].repeat(calls),
+        ..pbn::Gathered::from(&pbn::Record::default())
+    }
+}
+
+fn notes(x: Span) -> Box<pbn::NoteWords> {
+    let mut words = Box::new([0; 768]);
+    for note in words.chunks_exact_mut(3) {
+        note.copy_from_slice(&[1, x.start, x.len]);
+    }
+    words
+}
