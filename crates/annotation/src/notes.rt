@@ -54,7 +54,6 @@ fn note_len(present: u32, len: u32) -> u64
 
 // How many bytes the spans of all notes have together.
 fn notes_len(notes: &[u32; 768]) -> u64
-    ensures { λ r. ⌜ r ≡ r ⌝ }
 {
     let words: &[u32] = notes;
     let mut n = 0;
@@ -66,10 +65,9 @@ fn notes_len(notes: &[u32; 768]) -> u64
     n
 }
 
-// Whether the notes have together more bytes than a text of so many, which is asked only where that is long. Nothing is promised of it: it chooses only how
-// faults are looked for.
+// Whether the notes have together more bytes than a text of so many, which is asked only where that is long. It says only how to look, which no answer depends
+// on, so it promises nothing.
 pub fn notes_pass(bytes: usize, notes: &[u32; 768]) -> bool
-    ensures { λ r. ⌜ r ≡ r ⌝ }
 {
     if bytes <= 4096 {
         return false;

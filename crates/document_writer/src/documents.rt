@@ -288,19 +288,16 @@ fn write_indexed(text: &[u8], first: usize, rows: &[u32], trailing: Span, out: &
     write_looked(text, first, &next, rows, trailing, out)
 }
 
-// Whether the rows have together more bytes than this. Nothing is promised of it: the answers are the same, and it chooses only how they are found.
-fn rows_pass(bytes: usize, rows: &[u32]) -> bool
-    ensures { λ r. ⌜ r ≡ r ⌝ }
-{
-    let most = bytes as u64;
-    let mut n = 0;
+// Whether the rows have together more bytes than so many. It says only how to look, which no answer depends on, so it promises nothing.
+fn rows_pass(bytes: usize, rows: &[u32]) -> bool {
+    let mut left = bytes as u64;
     let mut i = 0;
     while 4 <= rows.len() - i {
-        let more = row_size(row_at(rows, i));
-        if most - n < more {
+        let n = row_size(row_at(rows, i));
+        if left < n {
             return true;
         }
-        n += more;
+        left -= n;
         i += 4;
     }
     false

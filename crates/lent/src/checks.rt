@@ -228,9 +228,8 @@ pub fn call_bytes(c: Call) -> u64
     (c.bid.len as u64) + (c.annotation.len as u64)
 }
 
-// Whether the texts of the rows have together more bytes than the text. It says only how to look, which no answer depends on, so nothing is promised.
+// Whether the texts of the rows have together more bytes than the text. It says only how to look, which no answer depends on, so it promises nothing.
 fn spans_pass(len: usize, rows: &[u32]) -> bool
-    ensures { λ r. ⌜ r ≡ r ⌝ }
 {
     let mut left = len as u64;
     let mut i = 0;
@@ -245,10 +244,9 @@ fn spans_pass(len: usize, rows: &[u32]) -> bool
     false
 }
 
-// Whether the texts of the rows are best looked at one by one: in a text that is long for its rows, and has no fewer bytes than they have together. Nothing is
-// promised here either.
+// Whether the texts of the rows are best looked at one by one: in a text that is long for its rows, and has no fewer bytes than they have together. It promises
+// nothing either.
 pub fn one_by_one(len: usize, rows: &[u32]) -> bool
-    ensures { λ r. ⌜ r ≡ r ⌝ }
 {
     if (len <= 256) | (len / 4 <= rows.len()) {
         return false;

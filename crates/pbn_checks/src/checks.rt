@@ -225,19 +225,16 @@ fn raw_len(c: PbnCall) -> u64
     raw.len as u64
 }
 
-// Whether the raw annotations have together more bytes than this. Nothing is promised of it: it chooses only how faults are looked for.
-fn raws_pass(bytes: usize, calls: &[u32]) -> bool
-    ensures { λ r. ⌜ r ≡ r ⌝ }
-{
-    let most = bytes as u64;
-    let mut n = 0;
+// Whether the raw annotations have together more bytes than so many. It says only how to look, which no answer depends on, so it promises nothing.
+fn raws_pass(bytes: usize, calls: &[u32]) -> bool {
+    let mut left = bytes as u64;
     let mut i = 0;
     while 6 <= calls.len() - i {
-        let more = raw_len(call_at(calls, i));
-        if most - n < more {
+        let n = raw_len(call_at(calls, i));
+        if left < n {
             return true;
         }
-        n += more;
+        left -= n;
         i += 6;
     }
     false

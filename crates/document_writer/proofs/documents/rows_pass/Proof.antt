@@ -1,20 +1,19 @@
-use borrow.Author.Needs.{needs}
--- `document_writer::rows_pass` ends, and its sum does not pass the bound. Assumes nothing.
+-- `document_writer::rows_pass` ends. The loop's invariant: i is a place in the rows. The measure is what is left of them.
+-- Assumes nothing.
 use Prim.Native.Nat.{_-_, _≤_}
-use native.Mathlib.Omega.{arith}
-use mathlib.Core.Path.{refl}
 use lib.ListN.{length}
+use borrow.Author.Needs.{needs}
 use Rattle.document_writer.proofs.documents.rows_pass.Statement.{statement}
 use Rattle.document_writer.proofs.documents.rows_pass.Tie as tie
 
 abbrev Inv-loop : tie.InvT-loop
-Inv-loop bytes rows most n₀ i₀ n i = (i ≤ length rows) × (n ≤ most)
+Inv-loop bytes rows left₀ i₀ left i = i ≤ length rows
 
 abbrev μ-loop : tie.MeasureT-loop
-μ-loop bytes rows most n₀ i₀ n i = length rows - i
+μ-loop bytes rows left₀ i₀ left i = length rows - i
 
 loop-holds : tie.Need-loop-holds Inv-loop μ-loop
-loop-holds c = (omega arith, omega arith)
+loop-holds c = search needs
 
 sub-loop : tie.Need-sub-loop Inv-loop μ-loop
 sub-loop c = search needs
@@ -25,14 +24,8 @@ row-at-requires c κs = search needs
 row-size-requires : tie.Need-row-size-requires Inv-loop μ-loop
 row-size-requires c κs = search needs
 
-sub-if1 : tie.Need-sub-if1 Inv-loop μ-loop
-sub-if1 c = search needs
-
 returns : tie.Need-returns Inv-loop μ-loop
-returns c = refl
-
-add-n : tie.Need-add-n Inv-loop μ-loop
-add-n c = search needs
+returns c = tt
 
 add-i : tie.Need-add-i Inv-loop μ-loop
 add-i c = search needs
@@ -41,10 +34,10 @@ loop-less : tie.Need-loop-less Inv-loop μ-loop
 loop-less c = search needs
 
 loop-again : tie.Need-loop-again Inv-loop μ-loop
-loop-again c = (omega arith, omega arith)
+loop-again c = search needs
 
 returns-2 : tie.Need-returns-2 Inv-loop μ-loop
-returns-2 c = refl
+returns-2 c = tt
 
 pub rows-pass-spec : {M : Type 1} → statement M
 rows-pass-spec =
@@ -56,9 +49,7 @@ rows-pass-spec =
     sub-loop
     row-at-requires
     row-size-requires
-    sub-if1
     returns
-    add-n
     add-i
     loop-less
     loop-again

@@ -1,7 +1,6 @@
 -- `lent::spans_pass` ends. The loop's invariant: i is a place in the rows. The measure is what is left of them.
 -- Assumes nothing.
 use Prim.Native.Nat.{_-_, _≤_}
-use mathlib.Core.Path.{refl}
 use lib.ListN.{length}
 use borrow.Author.Needs.{needs}
 use Rattle.lent.proofs.checks.spans_pass.Statement.{statement}
@@ -26,7 +25,7 @@ call-bytes-requires : tie.Need-call-bytes-requires Inv-loop μ-loop
 call-bytes-requires c κs = search needs
 
 returns : tie.Need-returns Inv-loop μ-loop
-returns c = refl
+returns c = tt
 
 add-i : tie.Need-add-i Inv-loop μ-loop
 add-i c = search needs
@@ -38,7 +37,7 @@ loop-again : tie.Need-loop-again Inv-loop μ-loop
 loop-again c = search needs
 
 returns-2 : tie.Need-returns-2 Inv-loop μ-loop
-returns-2 c = refl
+returns-2 c = tt
 
 pub spans-pass-spec : {M : Type 1} → statement M
 spans-pass-spec =

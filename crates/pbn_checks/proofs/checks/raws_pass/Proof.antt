@@ -1,21 +1,19 @@
-use borrow.Author.Needs.{needs}
--- `pbn_checks::raws_pass` ends, and its sum does not pass the bound.
+-- `pbn_checks::raws_pass` ends. The loop's invariant: i is a place in the calls. The measure is what is left of them.
 -- Assumes nothing.
 use Prim.Native.Nat.{_-_, _≤_}
-use native.Mathlib.Omega.{arith}
-use mathlib.Core.Path.{refl}
 use lib.ListN.{length}
+use borrow.Author.Needs.{needs}
 use Rattle.pbn_checks.proofs.checks.raws_pass.Statement.{statement}
 use Rattle.pbn_checks.proofs.checks.raws_pass.Tie as tie
 
 abbrev Inv-loop : tie.InvT-loop
-Inv-loop bytes calls most n₀ i₀ n i = (i ≤ length calls) × (n ≤ most)
+Inv-loop bytes calls left₀ i₀ left i = i ≤ length calls
 
 abbrev μ-loop : tie.MeasureT-loop
-μ-loop bytes calls most n₀ i₀ n i = length calls - i
+μ-loop bytes calls left₀ i₀ left i = length calls - i
 
 loop-holds : tie.Need-loop-holds Inv-loop μ-loop
-loop-holds c = (omega arith, omega arith)
+loop-holds c = search needs
 
 sub-loop : tie.Need-sub-loop Inv-loop μ-loop
 sub-loop c = search needs
@@ -26,14 +24,8 @@ call-at-requires c κs = search needs
 raw-len-requires : tie.Need-raw-len-requires Inv-loop μ-loop
 raw-len-requires c κs = search needs
 
-sub-if1 : tie.Need-sub-if1 Inv-loop μ-loop
-sub-if1 c = search needs
-
 returns : tie.Need-returns Inv-loop μ-loop
-returns c = refl
-
-add-n : tie.Need-add-n Inv-loop μ-loop
-add-n c = search needs
+returns c = tt
 
 add-i : tie.Need-add-i Inv-loop μ-loop
 add-i c = search needs
@@ -42,10 +34,10 @@ loop-less : tie.Need-loop-less Inv-loop μ-loop
 loop-less c = search needs
 
 loop-again : tie.Need-loop-again Inv-loop μ-loop
-loop-again c = (omega arith, omega arith)
+loop-again c = search needs
 
 returns-2 : tie.Need-returns-2 Inv-loop μ-loop
-returns-2 c = refl
+returns-2 c = tt
 
 pub raws-pass-spec : {M : Type 1} → statement M
 raws-pass-spec =
@@ -57,9 +49,7 @@ raws-pass-spec =
     sub-loop
     call-at-requires
     raw-len-requires
-    sub-if1
     returns
-    add-n
     add-i
     loop-less
     loop-again
