@@ -53,8 +53,7 @@ fn note_len(present: u32, len: u32) -> u64
 }
 
 // How many bytes the spans of all notes have together.
-fn notes_len(notes: &[u32; 768]) -> u64
-{
+fn notes_len(notes: &[u32; 768]) -> u64 {
     let words: &[u32] = notes;
     let mut n = 0;
     let mut i = 0;
@@ -67,8 +66,7 @@ fn notes_len(notes: &[u32; 768]) -> u64
 
 // Whether the notes have together more bytes than a text of so many, which is asked only where that is long. It says only how to look, which no answer depends
 // on, so it promises nothing.
-pub fn notes_pass(bytes: usize, notes: &[u32; 768]) -> bool
-{
+pub fn notes_pass(bytes: usize, notes: &[u32; 768]) -> bool {
     if bytes <= 4096 {
         return false;
     }

@@ -1,1 +1,1 @@
-pub mod ByteLaws
+pub mod ApartLaws

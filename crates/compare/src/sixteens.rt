@@ -1,19 +1,21 @@
 // Bytes compared, by sixteens. (01: equality, "Fields compare by bytes"; names, "being the same when their bytes are")
+use text::lesser;
 ghost use mathlib.Core.Path.{_≡_};
 ghost use mathlib.Core.Bool.{true};
-ghost use lib.ListN.{length, drop};
+ghost use Prim.Native.Nat.{_≤_};
+ghost use lib.ListN.{length};
 ghost use Rattle.lin_spec.specs.Base.{eqList};
-ghost use Rattle.compare.specs.Bytes.{Sixteen};
+ghost use Rattle.compare.specs.Apart.{nextApart, Sixteen};
 
-// Tests sixteen bytes of each from `i` on. Promised is what the loop needs: where it says true, they are there and are the same.
-fn sixteen_same(a: &[u8], b: &[u8], i: usize) -> bool
-    requires { ⌜ length (now a) ≡ length (now b) ⌝ }
+// Tests sixteen of the first m bytes of each, from `i` on. Promised is what the loop needs: where it says true, they are there and are the same.
+fn sixteen_same(a: &[u8], b: &[u8], m: usize, i: usize) -> bool
+    requires { ⌜ (m ≤ length (now a)) × (m ≤ length (now b)) ⌝ }
     ensures { λ r. ⌜ (r ≡ true → Sixteen (now (a .entry)) (now (b .entry)) i) ⌝ }
 {
-    if a.len() < 16 {
+    if m < 16 {
         return false;
     }
-    if a.len() - 16 < i {
+    if m - 16 < i {
         return false;
     }
     (a[i] == b[i])
@@ -34,14 +36,29 @@ fn sixteen_same(a: &[u8], b: &[u8], i: usize) -> bool
         & (a[i + 15] == b[i + 15])
 }
 
-// Passes bytes that are the same, by sixteens, and gives the place after them.
-fn sixteens_end(a: &[u8], b: &[u8]) -> usize
-    requires { ⌜ length (now a) ≡ length (now b) ⌝ }
-    ensures { λ r. ⌜ eqList (drop r (now (a .entry))) (drop r (now (b .entry))) ≡ eqList (now (a .entry)) (now (b .entry)) ⌝ }
+// Passes bytes that are the same, of the first m of each, from `from` on and by sixteens, and gives the place after them.
+fn sixteens_end(a: &[u8], b: &[u8], m: usize, from: usize) -> usize
+    requires { ⌜ (m ≤ length (now a)) × (m ≤ length (now b)) ⌝ }
+    ensures { λ r. ⌜ nextApart (now (a .entry)) (now (b .entry)) r ≡ nextApart (now (a .entry)) (now (b .entry)) from ⌝ }
 {
-    let mut i = 0;
-    while sixteen_same(a, b, i) {
+    let mut i = from;
+    while sixteen_same(a, b, m, i) {
         i += 16;
+    }
+    i
+}
+
+// The first place at or after `from` where two texts differ, or where one of them has ended.
+pub fn next_apart(a: &[u8], b: &[u8], from: usize) -> usize
+    ensures { λ r. ⌜ r ≡ nextApart (now (a .entry)) (now (b .entry)) from ⌝ }
+{
+    let m = lesser(a.len(), b.len());
+    let mut i = sixteens_end(a, b, m, from);
+    while i < m {
+        if a[i] != b[i] {
+            return i;
+        }
+        i += 1;
     }
     i
 }
@@ -53,12 +70,5 @@ pub fn same_bytes(a: &[u8], b: &[u8]) -> bool
     if a.len() != b.len() {
         return false;
     }
-    let mut i = sixteens_end(a, b);
-    while i < a.len() {
-        if a[i] != b[i] {
-            return false;
-        }
-        i += 1;
-    }
-    true
+    next_apart(a, b, 0) == a.len()
 }

@@ -1,6 +1,7 @@
 -- Laws of equality: parts that are compared one after the other, hands, texts and calls, the checks of both boards. (01: equality)
 -- Assumes nothing.
 use Prim.Native.Nat.{ℕ, zero, suc, _+_, _-_, _/_, _≤_, _<_}
+use native.Mathlib.Nat.{not-suc-le-zero, add-sub-cancel-left}
 use native.Mathlib.Numerals.{add-one}
 use native.Mathlib.Omega.{arith}
 use mathlib.Core.Path.{_≡_, refl, ap, sym, _∙_}
@@ -12,7 +13,7 @@ use lib.Seq.{drop-cons, drop-nil}
 use lib.Dec.{eqb, ltb}
 use borrow.Author.Tests.{eq-eqb, ne-eqb, eqb-true, lt-ltb, le-ltb}
 use Rattle.lin_spec.specs.Base.{pick, any, eqAll, eqList}
-use Rattle.lin_spec.specs.Records.{span, limit, bytesAt, optionOf}
+use Rattle.lin_spec.specs.Records.{span, limit, part, bytesAt, optionOf}
 use Rattle.lin_spec.specs.Refusals.{Answer, refuseIf, unless, passesEnd, illSpan, spanNotUtf8}
 use Rattle.lin_spec.specs.Refusals.Answer.{refused, accepted}
 use Rattle.lin_spec.specs.Utf8.{utf8}
@@ -35,8 +36,10 @@ use Rattle.lent.specs.declared.checks.Bounds.{Bounds}
 use Rattle.lent.specs.Heads.{boardOf}
 use Rattle.lent.specs.Checks.{verdictOf, amiss, Bounded}
 use Rattle.lent.proofs.LentLaws.{rows-cons, rows-count, no-rows, rows-end, spans-any, head-any, amiss-ill, texts-ill}
+use Rattle.compare.specs.Apart.{nextApart}
+use Rattle.compare.proofs.ApartLaws.{apart-within, apart-first, apart-none, whole-same}
 use Rattle.equality.proofs.EqualityMeaning.{all-self, call-self, deal-self}
-use Rattle.equality.specs.Parts.{Alike, callBytes, callsBytes, sameDealt, sameText, sameTexts, samePlay, mostChecks, mostChecked, unlikeBut}
+use Rattle.equality.specs.Parts.{Started, callBytes, callsBytes, sameDealt, sameText, sameTexts, samePlay, mostChecks, mostChecked, unlikeBut}
 
 -- One part, and those after it: a part that differs decides, one that is the same leaves it to the others
 
@@ -128,16 +131,25 @@ module _ (x y : List ℕ) (i : ℕ) (v : heldIn (drop i x) (drop i y) ≡ heldIn
     pub held-on : (not (eqb m 0) && eqb n 0) ≡ false → heldIn (drop (i + 1) x) (drop (i + 1) y) ≡ heldIn x y
     held-on h = turn-on _ _ (eqb m 0 || not (eqb n 0)) (heldIn (drop (i + 1) x) (drop (i + 1) y)) v held-cons (held-test (eqb m 0) (eqb n 0) false h)
 
--- One place in two texts that are the same
+-- One place in two texts
 
-pub alike-span : (s : List ℕ) (x : Span) (t : List ℕ) (y : Span) (b : Bool) → Alike b s t → (b && (eqb (x .start) (y .start) && eqb (x .len) (y .len))) ≡ true
-    → true ≡ eqList (bytesAt s x) (bytesAt t y)
-alike-span s x t y b h e =
-    let p = h (and-left b (eqb (x .start) (y .start) && eqb (x .len) (y .len)) e) in
-    let q = and-right b (eqb (x .start) (y .start) && eqb (x .len) (y .len)) e in
-    let m = eqb-true (x .start) (y .start) (and-left (eqb (x .start) (y .start)) (eqb (x .len) (y .len)) q) in
-    let n = eqb-true (x .len) (y .len) (and-right (eqb (x .start) (y .start)) (eqb (x .len) (y .len)) q) in
-    rw (p, m, n) (sym (list-eq (bytesAt t y)))
+pub place-same : (s : List ℕ) (x : Span) (t : List ℕ) (y : Span) → (eqb (x .start) (y .start) && eqb (x .len) (y .len)) ≡ true → (r : Bool)
+    → r ≡ eqList (part s (x .start) (x .start + x .len - x .start)) (part t (x .start) (x .start + x .len - x .start)) → r ≡ eqList (bytesAt s x) (bytesAt t y)
+place-same s x t y e r h =
+    let m = eqb-true (x .start) (y .start) (and-left (eqb (x .start) (y .start)) (eqb (x .len) (y .len)) e) in
+    let n = eqb-true (x .len) (y .len) (and-right (eqb (x .start) (y .start)) (eqb (x .len) (y .len)) e) in
+    h ∙ rw (add-sub-cancel-left (x .start) (x .len), m, n) refl
+
+-- texts of which the first is no longer than what they have in common, and that are as long, are the same
+pub whole-alike : (s t : List ℕ) (p : ℕ) → p ≡ nextApart s t 0 → length s ≤ p → length s ≡ length t → s ≡ t
+whole-alike s t p e h l = eq-list s t (sym (whole-same s t l p e) ∙ eq-eqb p (length s) (let w = apart-within s t 0 (omega arith) in omega arith))
+
+-- the index that two boards are compared with first
+pub started : (s t : List ℕ) (n : ℕ) → n ≡ nextApart s t 0 → length s ≤ limit → Started s t (record { first = n; words = 1 })
+started s t n e h = record { few = omega arith; index = apart-first s t n e; short = λ _. h }
+
+pub started-none : (s t : List ℕ) → Started s t (record { first = 0; words = 0 })
+started-none s t = record { few = omega arith; index = apart-none s t; short = λ h. absurd (not-suc-le-zero h) }
 
 -- Names, seat by seat
 
@@ -251,10 +263,10 @@ module _ (s ws t us : List ℕ) where
             }
 
 -- those of the same rows over the same text are the same
-pub calls-copied : (s ws t us : List ℕ) (b : Bool) → Alike b s t → (u : Bool) → u ≡ eqList ws us → (b && u) ≡ true → true ≡ eqAll eqCall (callsBytes s ws) (callsBytes t us)
-calls-copied s ws t us b h u e k =
-    sym (ap (λ (x : List ℕ). eqAll eqCall (callsBytes s ws) (callsBytes x us)) (sym (h (and-left b u k)))
-    ∙ ap (λ (x : List ℕ). eqAll eqCall (callsBytes s ws) (callsBytes s x)) (sym (eq-list ws us (sym e ∙ and-right b u k)))
+pub calls-copied : (s ws t us : List ℕ) → s ≡ t → (u : Bool) → u ≡ eqList ws us → u ≡ true → true ≡ eqAll eqCall (callsBytes s ws) (callsBytes t us)
+calls-copied s ws t us h u e k =
+    sym (ap (λ (x : List ℕ). eqAll eqCall (callsBytes s ws) (callsBytes x us)) (sym h)
+    ∙ ap (λ (x : List ℕ). eqAll eqCall (callsBytes s ws) (callsBytes s x)) (sym (eq-list ws us (sym e ∙ k)))
     ∙ all-self eqCall call-self (callsBytes s ws))
 
 -- The whole: its parts in order

@@ -1,12 +1,13 @@
 -- The comparison of two lent boards in parts, and the checks of both. (01: equality; Eight refusals)
-use Prim.Native.Nat.{ℕ}
+use Prim.Native.Nat.{ℕ, _≤_, _<_}
 use mathlib.Core.Path.{_≡_}
-use mathlib.Core.Bool.{Bool, true, false, _&&_, _||_}
+use mathlib.Core.Bool.{Bool, false, _&&_, _||_}
 use mathlib.Core.List.{List, [], _∷_, map}
 use mathlib.Core.Option.{Option}
+use lib.ListN.{length, take}
 use lib.Dec.{eqb}
 use Rattle.lin_spec.specs.Base.{pick, any, eqList}
-use Rattle.lin_spec.specs.Records.{bytesAt, optionOf}
+use Rattle.lin_spec.specs.Records.{limit, bytesAt, optionOf}
 use Rattle.lin_spec.specs.Refusals.{Answer, refuseIf, unless, tooLong, pastEnd, spanNotUtf8}
 use Rattle.lin_spec.specs.Refusals.Answer.{refused, accepted}
 use Rattle.lin_spec.specs.Letters.{seatNumber, svLetter}
@@ -19,10 +20,14 @@ use Rattle.lin_spec.specs.declared.Board.{Board}
 use Rattle.lin_spec.specs.declared.Refusal.{Refusal}
 use Rattle.lin_spec.specs.declared.Refusal.the-variants.{OutOfRange, SpanNotUtf8}
 use Rattle.lent.specs.Checks.{amiss}
+use Rattle.lent.specs.declared.checks.Start.{Start}
+use Rattle.compare.specs.Apart.{Apart}
 
--- t is true only of texts that are the same
-abbrev pub Alike : (t : Bool) (s s2 : List ℕ) → Type 0
-Alike t s s2 = t ≡ true → s ≡ s2
+-- an index of the places where two texts differ, of one word or none, and where it has one, the first is no longer than a text may be
+pub record Started (s t : List ℕ) (r : Start) : Type 0 where
+  pub few : r .words ≤ 1
+  pub index : Apart s t (take (r .words) (r .first ∷ []))
+  pub short : 0 < r .words → length s ≤ limit
 
 -- a call with its texts as bytes, and the calls of the rows
 abbrev pub callBytes : (s : List ℕ) → Call → CallOf (List ℕ)

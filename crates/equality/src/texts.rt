@@ -1,57 +1,74 @@
 // Texts and calls compared by bytes, each span out of its own text. (01: equality)
+use compare::index_apart;
+use compare::next_apart;
+use compare::same_at;
 use compare::same_bytes;
+use lent::Start;
 use lent::call_at;
 use lent::one_by_one;
+use lent::spans_pass;
 use lin_spec::Call;
+use lin_spec::LIMIT;
 use lin_spec::MaybeSpan;
 use lin_spec::Span;
 use text::shown;
 ghost use mathlib.Core.Path.{_≡_};
 ghost use mathlib.Core.Bool.{not};
 ghost use mathlib.Core.List.{map};
+ghost use Prim.Native.Nat.{_≤_, _<_};
+ghost use lib.ListN.{length};
 ghost use lib.Dec.{eqb};
 ghost use Rattle.lin_spec.specs.Base.{eqAll, eqList};
-ghost use Rattle.lin_spec.specs.Records.{bytesAt, optionOf};
+ghost use Rattle.lin_spec.specs.Records.{limit, bytesAt, optionOf};
 ghost use Rattle.lin_spec.specs.Board.{mapOption};
 ghost use Rattle.lin_spec.specs.Equality.{eqOption, eqFlag, eqCall};
-ghost use Rattle.equality.specs.Parts.{Alike, callBytes, callsBytes};
+ghost use Rattle.compare.specs.Apart.{Apart};
+ghost use Rattle.equality.specs.Parts.{Started, callBytes, callsBytes};
 
-// Tests whether two texts are the same, unless the texts of the rows are best looked at one by one. Promised is what its users need: where it says true, they
-// are.
-pub(crate) fn texts_alike(text: &[u8], rows: &[u32], text2: &[u8]) -> bool
-    ensures { λ r. ⌜ Alike r (now (text .entry)) (now (text2 .entry)) ⌝ }
+// The index that two boards are compared with first: no word where the texts of the rows are looked at one by one; else how many bytes the two texts have in
+// common from the first on. (A text that is too long was refused before.)
+pub(crate) fn apart_of(text: &[u8], rows: &[u32], text2: &[u8]) -> Start
+    ensures { λ r. ⌜ Started (now (text .entry)) (now (text2 .entry)) r ⌝ }
 {
-    if one_by_one(text.len(), rows) {
-        return false;
+    if LIMIT < text.len() {
+        return Start { first: 0, words: 0 };
     }
-    same_bytes(text, text2)
+    if one_by_one(text.len(), rows) {
+        return Start { first: 0, words: 0 };
+    }
+    let n = next_apart(text, text2, 0);
+    Start {
+        first: n as u32,
+        words: 1,
+    }
 }
 
-// Whether two spans name the same bytes. `alike` is true only of texts that are the same: one place in both names the same bytes.
-fn same_span(alike: bool, text: &[u8], x: Span, text2: &[u8], y: Span) -> bool
-    requires { ⌜ Alike alike (now text) (now text2) ⌝ }
+// Whether two spans name the same bytes. Where they stand at one place, an index of the places where the texts differ tells it.
+fn same_span(next: &[u32], text: &[u8], x: Span, text2: &[u8], y: Span) -> bool
+    requires { ⌜ Apart (now text) (now text2) (now next) ⌝ }
     ensures { λ r. ⌜ r ≡ eqList (bytesAt (now (text .entry)) x) (bytesAt (now (text2 .entry)) y) ⌝ }
 {
-    if alike & ((x.start == y.start) & (x.len == y.len)) {
-        return true;
+    if (x.start == y.start) & (x.len == y.len) {
+        let start = x.start as usize;
+        return same_at(text, text2, next, start, start + x.len as usize);
     }
     same_bytes(shown(text, x), shown(text2, y))
 }
 
 // Whether the names of each seat are the same.
 pub(crate) fn same_names(
-    alike: bool,
+    next: &[u32],
     text: &[u8],
     names: [Span; 4],
     text2: &[u8],
     names2: [Span; 4],
 ) -> bool
-    requires { ⌜ Alike alike (now text) (now text2) ⌝ }
+    requires { ⌜ Apart (now text) (now text2) (now next) ⌝ }
     ensures { λ r. ⌜ r ≡ eqAll eqList (map (bytesAt (now (text .entry))) names) (map (bytesAt (now (text2 .entry))) names2) ⌝ }
 {
     let mut seat = 0;
     while seat < 4 {
-        if !same_span(alike, text, names[seat], text2, names2[seat]) {
+        if !same_span(next, text, names[seat], text2, names2[seat]) {
             return false;
         }
         seat += 1;
@@ -60,8 +77,8 @@ pub(crate) fn same_names(
 }
 
 // Whether two texts are the same, or both are absent.
-pub(crate) fn same_text(alike: bool, text: &[u8], x: MaybeSpan, text2: &[u8], y: MaybeSpan) -> bool
-    requires { ⌜ Alike alike (now text) (now text2) ⌝ }
+pub(crate) fn same_text(next: &[u32], text: &[u8], x: MaybeSpan, text2: &[u8], y: MaybeSpan) -> bool
+    requires { ⌜ Apart (now text) (now text2) (now next) ⌝ }
     ensures { λ r. ⌜ r ≡ eqOption eqList (mapOption (bytesAt (now (text .entry))) (optionOf x)) (mapOption (bytesAt (now (text2 .entry))) (optionOf y)) ⌝ }
 {
     match x {
@@ -71,7 +88,7 @@ pub(crate) fn same_text(alike: bool, text: &[u8], x: MaybeSpan, text2: &[u8], y:
         },
         MaybeSpan::Present(a) => match y {
             MaybeSpan::Absent => false,
-            MaybeSpan::Present(b) => same_span(alike, text, a, text2, b),
+            MaybeSpan::Present(b) => same_span(next, text, a, text2, b),
         },
     }
 }
@@ -87,8 +104,8 @@ fn same_flag(a: u32, b: u32) -> bool
 }
 
 // Whether two calls have the same annotation, or none.
-fn same_annotation(alike: bool, text: &[u8], c: Call, text2: &[u8], d: Call) -> bool
-    requires { ⌜ Alike alike (now text) (now text2) ⌝ }
+fn same_annotation(next: &[u32], text: &[u8], c: Call, text2: &[u8], d: Call) -> bool
+    requires { ⌜ Apart (now text) (now text2) (now next) ⌝ }
     ensures { λ r. ⌜ r ≡ eqOption eqList (callBytes (now (text .entry)) c .annotation) (callBytes (now (text2 .entry)) d .annotation) ⌝ }
 {
     if c.annotated == 0 {
@@ -97,21 +114,21 @@ fn same_annotation(alike: bool, text: &[u8], c: Call, text2: &[u8], d: Call) -> 
     if d.annotated == 0 {
         return false;
     }
-    same_span(alike, text, c.annotation, text2, d.annotation)
+    same_span(next, text, c.annotation, text2, d.annotation)
 }
 
 // Whether two calls have the same bid, are both alerted or neither, and have the same annotation or none.
-fn same_call(alike: bool, text: &[u8], c: Call, text2: &[u8], d: Call) -> bool
-    requires { ⌜ Alike alike (now text) (now text2) ⌝ }
+fn same_call(next: &[u32], text: &[u8], c: Call, text2: &[u8], d: Call) -> bool
+    requires { ⌜ Apart (now text) (now text2) (now next) ⌝ }
     ensures { λ r. ⌜ r ≡ eqCall (callBytes (now (text .entry)) c) (callBytes (now (text2 .entry)) d) ⌝ }
 {
-    if !same_span(alike, text, c.bid, text2, d.bid) {
+    if !same_span(next, text, c.bid, text2, d.bid) {
         return false;
     }
     if !same_flag(c.alerted, d.alerted) {
         return false;
     }
-    same_annotation(alike, text, c, text2, d)
+    same_annotation(next, text, c, text2, d)
 }
 
 // Whether two lists have the same words.
@@ -131,8 +148,8 @@ pub(crate) fn same_words(a: &[u32], b: &[u32]) -> bool
 }
 
 // Whether there are as many calls, and each is the same.
-fn each_same(alike: bool, text: &[u8], rows: &[u32], text2: &[u8], rows2: &[u32]) -> bool
-    requires { ⌜ Alike alike (now text) (now text2) ⌝ }
+fn each_same(next: &[u32], text: &[u8], rows: &[u32], text2: &[u8], rows2: &[u32]) -> bool
+    requires { ⌜ Apart (now text) (now text2) (now next) ⌝ }
     ensures { λ r. ⌜ r ≡ eqAll eqCall (callsBytes (now (text .entry)) (now (rows .entry))) (callsBytes (now (text2 .entry)) (now (rows2 .entry))) ⌝ }
 {
     if rows.len() / 6 != rows2.len() / 6 {
@@ -140,7 +157,7 @@ fn each_same(alike: bool, text: &[u8], rows: &[u32], text2: &[u8], rows2: &[u32]
     }
     let mut i = 0;
     while 6 <= rows.len() - i {
-        if !same_call(alike, text, call_at(rows, i), text2, call_at(rows2, i)) {
+        if !same_call(next, text, call_at(rows, i), text2, call_at(rows2, i)) {
             return false;
         }
         i += 6;
@@ -148,19 +165,48 @@ fn each_same(alike: bool, text: &[u8], rows: &[u32], text2: &[u8], rows2: &[u32]
     true
 }
 
-// Whether the calls are the same. Those of the same rows over the same text are.
+// Whether the calls are the same, with a word for each block of the texts: no two texts at one place are compared for longer than a block.
+fn calls_by_blocks(text: &[u8], rows: &[u32], text2: &[u8], rows2: &[u32]) -> bool
+    requires { ⌜ length (now text) ≤ limit ⌝ }
+    ensures { λ r. ⌜ r ≡ eqAll eqCall (callsBytes (now (text .entry)) (now (rows .entry))) (callsBytes (now (text2 .entry)) (now (rows2 .entry))) ⌝ }
+{
+    let mut next = [0u32; 1025];
+    index_apart(text, text2, &mut next);
+    each_same(&next, text, rows, text2, rows2)
+}
+
+// The same, of texts of which the first differs from the second before its end. The index of all blocks is made only where the rows have more bytes than the text.
+fn calls_apart(next: &[u32], text: &[u8], rows: &[u32], text2: &[u8], rows2: &[u32]) -> bool
+    requires { ⌜ Apart (now text) (now text2) (now next) × (length (now text) ≤ limit) ⌝ }
+    ensures { λ r. ⌜ r ≡ eqAll eqCall (callsBytes (now (text .entry)) (now (rows .entry))) (callsBytes (now (text2 .entry)) (now (rows2 .entry))) ⌝ }
+{
+    if 1024 < text.len() {
+        if spans_pass(text.len(), rows) {
+            return calls_by_blocks(text, rows, text2, rows2);
+        }
+    }
+    each_same(next, text, rows, text2, rows2)
+}
+
+// The same of any texts. Those of the same rows over the same text are the same.
 pub(crate) fn same_calls(
-    alike: bool,
+    next: &[u32],
     text: &[u8],
     rows: &[u32],
     text2: &[u8],
     rows2: &[u32],
 ) -> bool
-    requires { ⌜ Alike alike (now text) (now text2) ⌝ }
+    requires { ⌜ Apart (now text) (now text2) (now next) × (0 < length (now next) → length (now text) ≤ limit) ⌝ }
     ensures { λ r. ⌜ r ≡ eqAll eqCall (callsBytes (now (text .entry)) (now (rows .entry))) (callsBytes (now (text2 .entry)) (now (rows2 .entry))) ⌝ }
 {
-    if alike & same_words(rows, rows2) {
+    if next.len() == 0 {
+        return each_same(next, text, rows, text2, rows2);
+    }
+    if (next[0] as usize) < text.len() {
+        return calls_apart(next, text, rows, text2, rows2);
+    }
+    if (text.len() == text2.len()) & same_words(rows, rows2) {
         return true;
     }
-    each_same(alike, text, rows, text2, rows2)
+    each_same(next, text, rows, text2, rows2)
 }

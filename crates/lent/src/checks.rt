@@ -7,8 +7,6 @@ use lin_spec::MaybeSpan;
 use lin_spec::Refusal;
 use lin_spec::Span;
 use lin_spec::Verdict;
-use text::Fault;
-use text::faulty;
 use text::index_text;
 use text::past_end;
 use text::span_ill;
@@ -21,7 +19,6 @@ ghost use Rattle.lin_spec.specs.Base.{any};
 ghost use Rattle.lin_spec.specs.Records.{limit, optionOf};
 ghost use Rattle.lin_spec.specs.Refusals.{passesEnd};
 ghost use Rattle.lin_spec.specs.Lent.{callRows, lent, lentSpans, spanIn, badFlag, badCards};
-ghost use Rattle.text.specs.Fault.{faultOf};
 ghost use Rattle.text.specs.Index.{Indexed};
 ghost use Rattle.lent.specs.Calls.{spansOf, textBytes};
 ghost use Rattle.lent.specs.Heads.{boardOf, headSpans};
@@ -71,17 +68,6 @@ fn name_meets(text: &[u8], next: &[u32], names: [Span; 4]) -> bool
         seat += 1;
     }
     false
-}
-
-// Whether a text that is present has this fault.
-pub fn present_faulty(text: &[u8], next: &[u32], x: MaybeSpan, fault: Fault) -> bool
-    requires { ⌜ Indexed (now text) (now next) ⌝ }
-    ensures { λ r. ⌜ r ≡ any (faultOf fault (now (text .entry))) (spanIn (optionOf x)) ⌝ }
-{
-    match x {
-        MaybeSpan::Absent => false,
-        MaybeSpan::Present(s) => faulty(text, next, s, fault),
-    }
 }
 
 // Whether 5 or 6 meets a text that is present.
@@ -229,8 +215,7 @@ pub fn call_bytes(c: Call) -> u64
 }
 
 // Whether the texts of the rows have together more bytes than the text. It says only how to look, which no answer depends on, so it promises nothing.
-fn spans_pass(len: usize, rows: &[u32]) -> bool
-{
+pub fn spans_pass(len: usize, rows: &[u32]) -> bool {
     let mut left = len as u64;
     let mut i = 0;
     while 6 <= rows.len() - i {
@@ -246,21 +231,21 @@ fn spans_pass(len: usize, rows: &[u32]) -> bool
 
 // Whether the texts of the rows are best looked at one by one: in a text that is long for its rows, and has no fewer bytes than they have together. It promises
 // nothing either.
-pub fn one_by_one(len: usize, rows: &[u32]) -> bool
-{
+pub fn one_by_one(len: usize, rows: &[u32]) -> bool {
     if (len <= 256) | (len / 4 <= rows.len()) {
         return false;
     }
     !spans_pass(len, rows)
 }
 
-// The index that a lent board is looked at with first: its first word, and how many words it has, one or none.
-struct Start {
-    first: u32,
-    words: usize,
+// An index of few words: its first word, and how many it has, one or none.
+pub struct Start {
+    pub first: u32,
+    pub words: usize,
 }
 
-// No word where the texts of the rows are looked at one by one; else the longest well-formed start. (A text that is too long was refused before.)
+// The index that a lent board is looked at with first: no word where the texts of the rows are looked at one by one; else the longest well-formed start.
+// (A text that is too long was refused before.)
 fn start_of(text: &[u8], rows: &[u32]) -> Start
     ensures { λ r. ⌜ Started (now (text .entry)) r ⌝ }
 {
@@ -287,7 +272,7 @@ fn rows_by_blocks(text: &[u8], rows: &[u32]) -> bool
     rows_meet(text, &next, rows)
 }
 
-// The same. Where the text is ill-formed, and the rows have more bytes than it, the blocks are worth their time.
+// The same. The index of all blocks is made only where the text is ill-formed and the rows have more bytes than it.
 fn rows_ill(text: &[u8], next: &[u32], rows: &[u32]) -> bool
     requires { ⌜ Indexed (now text) (now next) × (0 < length (now next) → length (now text) ≤ limit) ⌝ }
     ensures { λ r. ⌜ r ≡ any (λ c. any (amiss (now (text .entry))) (spansOf c)) (callRows (now (rows .entry))) ⌝ }

@@ -5,6 +5,7 @@ mod heads;
 
 pub use calls::call_at;
 pub use checks::Bounds;
+pub use checks::Start;
 pub use checks::bad_cards;
 pub use checks::bad_flag;
 pub use checks::bounds_of;
@@ -16,6 +17,6 @@ pub use checks::head_meets;
 pub use checks::head_past;
 pub use checks::ill_texts;
 pub use checks::one_by_one;
-pub use checks::present_faulty;
+pub use checks::spans_pass;
 pub use heads::Head;
 pub use heads::head_of;

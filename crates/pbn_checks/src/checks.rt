@@ -1,7 +1,6 @@
 // The checks of a PBN record: 1, 8, 5 and 6, each over all that is lent before the next. (01: From PBN; Eight refusals)
 use annotation::any_note_faulty;
 use annotation::notes_pass;
-use lent::present_faulty;
 use lin_spec::LIMIT;
 use lin_spec::MaybeNumber;
 use lin_spec::MaybeSpan;
@@ -19,7 +18,7 @@ ghost use mathlib.Core.List.{[]};
 ghost use Prim.Native.Nat.{_-_, _^_, _≤_, _<_};
 ghost use lib.ListN.{length};
 ghost use Rattle.lin_spec.specs.Base.{any};
-ghost use Rattle.lin_spec.specs.Records.{limit};
+ghost use Rattle.lin_spec.specs.Records.{limit, optionOf};
 ghost use Rattle.lin_spec.specs.Refusals.{passesEnd, illSpan};
 ghost use Rattle.lin_spec.specs.Lent.{spanIn};
 ghost use Rattle.lin_spec.specs.Pbn.{pbn, pbnNames, pbnRow, pbnRows, rawOf, badEntry, badCall, badBoardNumber, badPbn, rawSpans, nameSpans, pbnSpans};
@@ -97,6 +96,17 @@ fn bad_board_number(n: MaybeNumber) -> bool
     match n {
         MaybeNumber::Absent => false,
         MaybeNumber::Number(k) => (k == 0) | (65_535 < k),
+    }
+}
+
+// Whether a text that is present has this fault.
+fn present_faulty(text: &[u8], next: &[u32], x: MaybeSpan, fault: Fault) -> bool
+    requires { ⌜ Indexed (now text) (now next) ⌝ }
+    ensures { λ r. ⌜ r ≡ any (faultOf fault (now (text .entry))) (spanIn (optionOf x)) ⌝ }
+{
+    match x {
+        MaybeSpan::Absent => false,
+        MaybeSpan::Present(s) => faulty(text, next, s, fault),
     }
 }
 

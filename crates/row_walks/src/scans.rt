@@ -8,18 +8,11 @@ use lin_spec::Call;
 use output::sat_add;
 use rows::CallRow;
 use rows::call_of;
+use text::lesser;
 ghost use mathlib.Core.Path.{_≡_};
-ghost use Prim.Native.Nat.{min};
 ghost use lib.ListN.{take};
 ghost use Rattle.text.specs.Index.{Indexed};
 ghost use Rattle.row_walks.specs.Walks.{lookedAt, measured, scanRow, scanned};
-
-// The lesser of two numbers.
-fn lesser(a: usize, b: usize) -> usize
-    ensures { λ r. ⌜ r ≡ min a b ⌝ }
-{
-    if a < b { a } else { b }
-}
 
 // Looks at the bytes of a call's texts.
 fn look_at(text: &[u8], next: &[u32], c: Call, scan: Scan) -> Scan

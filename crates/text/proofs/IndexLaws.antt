@@ -34,6 +34,10 @@ module _ (t : List ℕ) (i m : ℕ) where
   pub tail-here : i < m → tailAt t i ≡ (ltb i m && tailAt t i)
   tail-here h = rw (lt-ltb i m h) refl
 
+-- and any place
+pub tail-any : (t : List ℕ) (i : ℕ) → (ltb i (length t) && tailAt t i) ≡ tailAt t i
+tail-any t i = split i (length t) (λ h. sym (tail-here t i (length t) h)) (λ h. sym (tail-after t i (length t) h) ∙ tail-beyond t i h)
+
 -- a start that is no longer is UTF-8 where it does not end within a character
 front : (t : List ℕ) (i : ℕ) → i ≤ longest t → utf8 (take i t) ≡ not (cuts t i (longest t))
 front t i h =

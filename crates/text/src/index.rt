@@ -25,7 +25,7 @@ pub enum Fault {
 }
 
 // Stores the place p for the blocks from k on that begin at or before it, and gives the block after them.
-fn put_blocks(next: &mut [u32], k: usize, p: usize) -> usize
+pub fn put_blocks(next: &mut [u32], k: usize, p: usize) -> usize
     requires { ⌜ p ≤ limit ⌝ }
     ensures { λ r. ⌜ Filled (now (next .entry)) k p (now (next .exit)) r × (r < length (now (next .exit)) → p < r * 1024) ⌝ }
 {
@@ -55,14 +55,22 @@ pub fn index_text(text: &[u8], next: &mut [u32])
     }
 }
 
+// Whether a place before `end` has a byte that is not the first of its character.
+fn tail_before(text: &[u8], end: usize, i: usize) -> bool
+    requires { ⌜ end ≤ length (now text) ⌝ }
+    ensures { λ r. ⌜ r ≡ (ltb i end && tailAt (now (text .entry)) i) ⌝ }
+{
+    if end <= i {
+        return false;
+    }
+    (0x80 <= text[i]) & (text[i] <= 0xBF)
+}
+
 // Whether the byte at a place is not the first of its character.
 fn tail_at(text: &[u8], i: usize) -> bool
     ensures { λ r. ⌜ r ≡ tailAt (now (text .entry)) i ⌝ }
 {
-    if text.len() <= i {
-        return false;
-    }
-    (0x80 <= text[i]) & (text[i] <= 0xBF)
+    tail_before(text, text.len(), i)
 }
 
 // The next ill-formed place at or after a, which is no tail, in a block that is not the last. Where one in the block stands before a, whole characters are
@@ -103,17 +111,6 @@ fn far_ill(text: &[u8], next: &[u32], start: usize, end: usize) -> bool
     }
     let ill = next_ill(text, next, start);
     (ill < end) | ((end != ill) & tail_at(text, end))
-}
-
-// Whether a place before `end` has a byte that is not the first of its character.
-fn tail_before(text: &[u8], end: usize, i: usize) -> bool
-    requires { ⌜ end ≤ length (now text) ⌝ }
-    ensures { λ r. ⌜ r ≡ (ltb i end && tailAt (now (text .entry)) i) ⌝ }
-{
-    if end <= i {
-        return false;
-    }
-    (0x80 <= text[i]) & (text[i] <= 0xBF)
 }
 
 // Whether a span that ends at or before the first ill-formed place is not UTF-8: it starts or ends within a character.

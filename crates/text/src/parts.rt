@@ -1,11 +1,19 @@
 // Parts of a text, spans, and the next place of a byte. (01: Records; refusal 5)
 use lin_spec::Span;
 ghost use mathlib.Core.Path.{_≡_};
+ghost use Prim.Native.Nat.{min};
 ghost use Rattle.lin_spec.specs.Records.{part as partOf, bytesAt};
 ghost use Rattle.lin_spec.specs.Refusals.{passesEnd};
 ghost use mathlib.Core.Bool.{true};
 ghost use Rattle.lin_spec.specs.Cursor.{findFrom};
 ghost use Rattle.text.specs.Find.{Without};
+
+// The lesser of two numbers.
+pub fn lesser(a: usize, b: usize) -> usize
+    ensures { λ r. ⌜ r ≡ min a b ⌝ }
+{
+    if a < b { a } else { b }
+}
 
 // The len bytes of s from start on, or as many as there are.
 pub fn part(s: &[u8], start: usize, len: usize) -> &[u8]

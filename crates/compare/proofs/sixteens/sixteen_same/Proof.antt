@@ -4,15 +4,12 @@ use native.Mathlib.Omega.{arith}
 use mathlib.Core.Bool.{false≢true}
 use denote.Ref.{now}
 use borrow.Author.Needs.{needs}
-use Rattle.compare.proofs.ByteLaws.{sixteen-same}
+use Rattle.compare.proofs.ApartLaws.{sixteen-same}
 use Rattle.compare.proofs.sixteens.sixteen_same.Statement.{statement}
 use Rattle.compare.proofs.sixteens.sixteen_same.Tie as tie
 
 returns : tie.Need-returns
 returns c = λ e. absurd (false≢true e)
-
-sub-if2 : tie.Need-sub-if2
-sub-if2 c = search needs
 
 returns-2 : tie.Need-returns-2
 returns-2 c = λ e. absurd (false≢true e)
@@ -204,14 +201,15 @@ shared-slice-read-result-32 : tie.Need-shared-slice-read-result-32
 shared-slice-read-result-32 c = search needs
 
 returns-3 : tie.Need-returns-3
-returns-3 c = sixteen-same (now (c .before .before .before .before .before .before .before .before .before .before .before .before .before .before .before .before .before .before .before .before .before .before .before .before .before .before .before .before .before .before .before .before .before .before .args .a)) (now (c .before .before .before .before .before .before .before .before .before .before .before .before .before .before .before .before .before .before .before .before .before .before .before .before .before .before .before .before .before .before .before .before .before .before .args .b)) (c .before .before .before .before .before .before .before .before .before .before .before .before .before .before .before .before .before .before .before .before .before .before .before .before .before .before .before .before .before .before .before .before .before .before .pre) (c .before .before .before .before .before .before .before .before .before .before .before .before .before .before .before .before .before .before .before .before .before .before .before .before .before .before .before .before .before .before .before .before .before .before .args .i) (omega arith)
+returns-3 c =
+    let b = c .before .before .before .before .before .before .before .before .before .before .before .before .before .before .before .before .before .before .before .before .before .before .before .before .before .before .before .before .before .before .before .before .before .before in
+    sixteen-same (now (b .args .a)) (now (b .args .b)) (b .args .m) (b .pre .0) (b .pre .1) (b .args .i) (omega arith)
 
 pub sixteen-same-spec : {M : Type 1} → statement M
 sixteen-same-spec =
     tie.close
     (tie.spec
     returns
-    sub-if2
     returns-2
     shared-slice-read-result
     shared-slice-read-result-2

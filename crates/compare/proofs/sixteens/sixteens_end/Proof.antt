@@ -1,24 +1,24 @@
 -- `compare::sixteens::sixteens_end` meets its contract. The loop's invariant: what is left decides. The measure is what is left of the length.
 -- Assumes nothing.
-use Prim.Native.Nat.{_-_}
+use Prim.Native.Nat.{_-_, _≤_}
 use native.Mathlib.Omega.{arith}
 use mathlib.Core.Path.{_≡_, refl, _∙_}
-use lib.ListN.{length, drop}
-use Rattle.lin_spec.specs.Base.{eqList}
+use lib.ListN.{length}
+use Rattle.compare.specs.Apart.{nextApart}
 use Rattle.compare.proofs.sixteens.sixteens_end.Statement.{statement}
 use Rattle.compare.proofs.sixteens.sixteens_end.Tie as tie
 
 abbrev Inv-loop : tie.InvT-loop
-Inv-loop a b i₀ i = (eqList (drop i a) (drop i b) ≡ eqList a b) × (length a ≡ length b)
+Inv-loop a b m from i₀ i = (nextApart a b i ≡ nextApart a b from) × (m ≤ length a) × (m ≤ length b)
 
 abbrev μ-loop : tie.MeasureT-loop
-μ-loop a b i₀ i = length a - i
+μ-loop a b m from i₀ i = length a - i
 
 loop-holds : tie.Need-loop-holds Inv-loop μ-loop
-loop-holds c = (refl, c .before .before .pre)
+loop-holds c = (refl, c .before .before .pre .0, c .before .before .pre .1)
 
 sixteen-same-requires : tie.Need-sixteen-same-requires Inv-loop μ-loop
-sixteen-same-requires c κs = c .loop .inv .1
+sixteen-same-requires c κs = (c .loop .inv .1, c .loop .inv .2)
 
 add-i : tie.Need-add-i Inv-loop μ-loop
 add-i c = omega (arith, c .before .sixteen-same .ensures (c .if1 .taken) .within)
@@ -27,7 +27,7 @@ loop-less : tie.Need-loop-less Inv-loop μ-loop
 loop-less c = omega (arith, c .before .sixteen-same .ensures (c .if1 .taken) .within)
 
 loop-again : tie.Need-loop-again Inv-loop μ-loop
-loop-again c = (c .before .sixteen-same .ensures (c .if1 .taken) .after ∙ c .before .before .loop .inv .0, c .before .before .loop .inv .1)
+loop-again c = (c .before .sixteen-same .ensures (c .if1 .taken) .after ∙ c .before .before .loop .inv .0, c .before .before .loop .inv .1, c .before .before .loop .inv .2)
 
 returns : tie.Need-returns Inv-loop μ-loop
 returns c = c .before .before .loop .inv .0

@@ -1,12 +1,26 @@
 -- `equality::same_span` meets its contract: what is compared is what the spans name.
 -- Assumes nothing.
+use native.Mathlib.Omega.{arith}
+use denote.Ref.{now}
 use borrow.Author.Needs.{needs}
-use Rattle.equality.proofs.EqualityLaws.{alike-span}
+use Rattle.equality.proofs.EqualityLaws.{place-same}
 use Rattle.equality.proofs.texts.same_span.Statement.{statement}
 use Rattle.equality.proofs.texts.same_span.Tie as tie
 
+cast-start : tie.Need-cast-start
+cast-start c = search needs
+
+cast-same-at : tie.Need-cast-same-at
+cast-same-at c = search needs
+
+add-same-at : tie.Need-add-same-at
+add-same-at c = search needs
+
+same-at-requires : tie.Need-same-at-requires
+same-at-requires c κs = (c .before .before .before .before .before .before .before .before .before .before .pre, omega arith)
+
 returns : tie.Need-returns
-returns c = let s = c .before .before .before .before .before .before .before in alike-span _ (s .args .x) _ (s .args .y) _ (s .pre) (c .if1 .taken)
+returns c = let a = c .before .before .before .before .before .before .before .before .before .before .before .args in place-same (now (a .text)) (a .x) (now (a .text2)) (a .y) (c .before .before .before .if1 .taken) _ (c .same-at .ensures)
 
 shown-requires : tie.Need-shown-requires
 shown-requires c κs = search needs
@@ -21,4 +35,4 @@ returns-2 : tie.Need-returns-2
 returns-2 c = rw (c .before .before .shown .ensures, c .before .shown2 .ensures) at (c .same-bytes .ensures)
 
 pub same-span-spec : {M : Type 1} → statement M
-same-span-spec = tie.close (tie.spec returns shown-requires shown-requires-2 same-bytes-requires returns-2)
+same-span-spec = tie.close (tie.spec cast-start cast-same-at add-same-at same-at-requires returns shown-requires shown-requires-2 same-bytes-requires returns-2)

@@ -1,10 +1,10 @@
--- `lent::present_faulty` meets its contract: in each arm the text is known.
+-- `pbn_checks::present_faulty` meets its contract: in each arm the text is known.
 -- Assumes nothing.
 use mathlib.Core.Path.{_∙_}
 use borrow.Author.Needs.{needs}
 use Rattle.lent.proofs.LentLaws.{absent-none, present-one}
-use Rattle.lent.proofs.checks.present_faulty.Statement.{statement}
-use Rattle.lent.proofs.checks.present_faulty.Tie as tie
+use Rattle.pbn_checks.proofs.checks.present_faulty.Statement.{statement}
+use Rattle.pbn_checks.proofs.checks.present_faulty.Tie as tie
 
 enum-told : tie.Need-enum-told
 enum-told c = search needs
