@@ -23,9 +23,9 @@ pub fn index_apart(a: &[u8], b: &[u8], next: &mut [u32])
     }
 }
 
-// Whether the bytes from start up to end, which may pass the first place where the texts differ, are the same in both. They are compared one by one where they are
-// few, or pass an end, or have no word in the index; else up to the next block at most.
-fn far_same(a: &[u8], b: &[u8], next: &[u32], start: usize, end: usize) -> bool
+// Whether the bytes from start up to end are the same in both texts. They are compared one by one where they are few, or pass an end, or have no word in the
+// index; else up to the next block at most.
+pub fn same_at(a: &[u8], b: &[u8], next: &[u32], start: usize, end: usize) -> bool
     requires { ⌜ Apart (now a) (now b) (now next) × (start ≤ end) ⌝ }
     ensures { λ r. ⌜ r ≡ eqList (partOf (now (a .entry)) start (end - start)) (partOf (now (b .entry)) start (end - start)) ⌝ }
 {
@@ -44,18 +44,4 @@ fn far_same(a: &[u8], b: &[u8], next: &[u32], start: usize, end: usize) -> bool
         return false;
     }
     end <= next[k + 1] as usize
-}
-
-// Whether the bytes from start up to end are the same in both texts.
-pub fn same_at(a: &[u8], b: &[u8], next: &[u32], start: usize, end: usize) -> bool
-    requires { ⌜ Apart (now a) (now b) (now next) × (start ≤ end) ⌝ }
-    ensures { λ r. ⌜ r ≡ eqList (partOf (now (a .entry)) start (end - start)) (partOf (now (b .entry)) start (end - start)) ⌝ }
-{
-    if next.len() == 0 {
-        return far_same(a, b, next, start, end);
-    }
-    if end <= next[0] as usize {
-        return true;
-    }
-    far_same(a, b, next, start, end)
 }

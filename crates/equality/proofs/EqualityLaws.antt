@@ -10,10 +10,10 @@ use mathlib.Core.List.{List, [], _∷_, map}
 use mathlib.Core.Option.{Option, none, some}
 use lib.ListN.{length, getD, drop, drop-of-length-le, length-map}
 use lib.Seq.{drop-cons, drop-nil}
-use lib.Dec.{eqb, ltb}
-use borrow.Author.Tests.{eq-eqb, ne-eqb, eqb-true, lt-ltb, le-ltb}
+use lib.Dec.{eqb, leb, ltb}
+use borrow.Author.Tests.{eq-eqb, ne-eqb, eqb-true, leb-true, lt-ltb, le-ltb}
 use Rattle.lin_spec.specs.Base.{pick, any, eqAll, eqList}
-use Rattle.lin_spec.specs.Records.{span, limit, part, bytesAt, optionOf}
+use Rattle.lin_spec.specs.Records.{span, limit, part, endOf, bytesAt, optionOf}
 use Rattle.lin_spec.specs.Refusals.{Answer, refuseIf, unless, passesEnd, illSpan, spanNotUtf8}
 use Rattle.lin_spec.specs.Refusals.Answer.{refused, accepted}
 use Rattle.lin_spec.specs.Utf8.{utf8}
@@ -36,10 +36,10 @@ use Rattle.lent.specs.declared.checks.Bounds.{Bounds}
 use Rattle.lent.specs.Heads.{boardOf}
 use Rattle.lent.specs.Checks.{verdictOf, amiss, Bounded}
 use Rattle.lent.proofs.LentLaws.{rows-cons, rows-count, no-rows, rows-end, spans-any, head-any, amiss-ill, texts-ill}
-use Rattle.compare.specs.Apart.{nextApart}
-use Rattle.compare.proofs.ApartLaws.{apart-within, apart-first, apart-none, whole-same}
+use Rattle.compare.specs.Apart.{nextApart, Apart}
+use Rattle.compare.proofs.ApartLaws.{apart-within, near-same, apart-first, apart-none, whole-same}
 use Rattle.equality.proofs.EqualityMeaning.{all-self, call-self, deal-self}
-use Rattle.equality.specs.Parts.{Started, callBytes, callsBytes, sameDealt, sameText, sameTexts, samePlay, mostChecks, mostChecked, unlikeBut}
+use Rattle.equality.specs.Parts.{Started, Near, callBytes, callsBytes, sameDealt, sameText, sameTexts, samePlay, mostChecks, mostChecked, unlikeBut}
 
 -- One part, and those after it: a part that differs decides, one that is the same leaves it to the others
 
@@ -139,6 +139,21 @@ place-same s x t y e r h =
     let m = eqb-true (x .start) (y .start) (and-left (eqb (x .start) (y .start)) (eqb (x .len) (y .len)) e) in
     let n = eqb-true (x .len) (y .len) (and-right (eqb (x .start) (y .start)) (eqb (x .len) (y .len)) e) in
     h ∙ rw (add-sub-cancel-left (x .start) (x .len), m, n) refl
+
+-- near ones name the same bytes
+pub near-told : (next : List ℕ) (x y : Span) → 0 < length next → ((eqb (x .start) (y .start) && eqb (x .len) (y .len)) && leb (endOf x) (getD next 0 0)) ≡ true → Near next x y
+near-told next x y h e =
+    let p = and-left (eqb (x .start) (y .start) && eqb (x .len) (y .len)) (leb (endOf x) (getD next 0 0)) e in
+    record {
+      starts = eqb-true (x .start) (y .start) (and-left (eqb (x .start) (y .start)) (eqb (x .len) (y .len)) p);
+      lengths = eqb-true (x .len) (y .len) (and-right (eqb (x .start) (y .start)) (eqb (x .len) (y .len)) p);
+      some = h;
+      ends = leb-true (endOf x) (getD next 0 0) (and-right (eqb (x .start) (y .start) && eqb (x .len) (y .len)) (leb (endOf x) (getD next 0 0)) e);
+    }
+
+pub near-span : (s t next : List ℕ) → Apart s t next → (x y : Span) → Near next x y → true ≡ eqList (bytesAt s x) (bytesAt t y)
+near-span s t next a x y n =
+    near-same s t next a (n .some) (x .start) (endOf x) (omega arith) (n .ends) ∙ rw (add-sub-cancel-left (x .start) (x .len), n .starts, n .lengths) refl
 
 -- texts of which the first is no longer than what they have in common, and that are as long, are the same
 pub whole-alike : (s t : List ℕ) (p : ℕ) → p ≡ nextApart s t 0 → length s ≤ p → length s ≡ length t → s ≡ t

@@ -13,7 +13,7 @@ use lin_spec::MaybeSpan;
 use lin_spec::Span;
 use text::shown;
 ghost use mathlib.Core.Path.{_≡_};
-ghost use mathlib.Core.Bool.{not};
+ghost use mathlib.Core.Bool.{true, not};
 ghost use mathlib.Core.List.{map};
 ghost use Prim.Native.Nat.{_≤_, _<_};
 ghost use lib.ListN.{length};
@@ -23,7 +23,7 @@ ghost use Rattle.lin_spec.specs.Records.{limit, bytesAt, optionOf};
 ghost use Rattle.lin_spec.specs.Board.{mapOption};
 ghost use Rattle.lin_spec.specs.Equality.{eqOption, eqFlag, eqCall};
 ghost use Rattle.compare.specs.Apart.{Apart};
-ghost use Rattle.equality.specs.Parts.{Started, callBytes, callsBytes};
+ghost use Rattle.equality.specs.Parts.{Started, Near, callBytes, callsBytes};
 
 // The index that two boards are compared with first: no word where the texts of the rows are looked at one by one; else how many bytes the two texts have in
 // common from the first on. (A text that is too long was refused before.)
@@ -43,8 +43,20 @@ pub(crate) fn apart_of(text: &[u8], rows: &[u32], text2: &[u8]) -> Start
     }
 }
 
-// Whether two spans name the same bytes. Where they stand at one place, an index of the places where the texts differ tells it.
-fn same_span(next: &[u32], text: &[u8], x: Span, text2: &[u8], y: Span) -> bool
+// Tests whether two spans stand at one place and end at or before the first place where the texts differ. Promised is what its user needs: where it says true,
+// they do.
+fn near(next: &[u32], x: Span, y: Span) -> bool
+    ensures { λ r. ⌜ (r ≡ true → Near (now (next .entry)) x y) ⌝ }
+{
+    if next.len() == 0 {
+        return false;
+    }
+    let end = x.start as usize + x.len as usize;
+    ((x.start == y.start) & (x.len == y.len)) & (end <= next[0] as usize)
+}
+
+// Whether two spans name the same bytes, by a look at these or, where the spans stand at one place, by an index of the places where the texts differ.
+fn same_compared(next: &[u32], text: &[u8], x: Span, text2: &[u8], y: Span) -> bool
     requires { ⌜ Apart (now text) (now text2) (now next) ⌝ }
     ensures { λ r. ⌜ r ≡ eqList (bytesAt (now (text .entry)) x) (bytesAt (now (text2 .entry)) y) ⌝ }
 {
@@ -53,6 +65,17 @@ fn same_span(next: &[u32], text: &[u8], x: Span, text2: &[u8], y: Span) -> bool
         return same_at(text, text2, next, start, start + x.len as usize);
     }
     same_bytes(shown(text, x), shown(text2, y))
+}
+
+// Whether two spans name the same bytes.
+fn same_span(next: &[u32], text: &[u8], x: Span, text2: &[u8], y: Span) -> bool
+    requires { ⌜ Apart (now text) (now text2) (now next) ⌝ }
+    ensures { λ r. ⌜ r ≡ eqList (bytesAt (now (text .entry)) x) (bytesAt (now (text2 .entry)) y) ⌝ }
+{
+    if near(next, x, y) {
+        return true;
+    }
+    same_compared(next, text, x, text2, y)
 }
 
 // Whether the names of each seat are the same.

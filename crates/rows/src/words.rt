@@ -48,7 +48,7 @@ fn row_at(words: &[u32], i: usize) -> CallRow
     row_of(call_at(words, i))
 }
 
-// Fills the rows, from the first on, with those that the words give.
+// Fills the rows, from the first on, with those that the words give, and says how many; or refuses, and changes nothing.
 pub fn fill_rows(rows: &mut [CallRow], words: &[u32]) -> Moved
     ensures { λ r. ⌜ _≡_ {A = Moving CallRow} (record { answer = movedOf r; after = now (rows .exit) }) (fillOf (now (words .entry)) (now (rows .entry))) ⌝ }
 {
@@ -129,7 +129,7 @@ fn put_words(out: &mut [u32], at: usize, row: CallRow) -> usize
     copy_words(out, at, &w)
 }
 
-// Spills the rows into the words, from the first on.
+// Spills the rows into the words, from the first on, and says how many; or refuses, and changes nothing.
 pub fn spill_rows(rows: &[CallRow], words: &mut [u32]) -> Moved
     ensures { λ r. ⌜ _≡_ {A = Moving ℕ} (record { answer = movedOf r; after = now (words .exit) }) (spillOf (now (rows .entry)) (now (words .entry))) ⌝ }
 {

@@ -22,7 +22,8 @@ fn measuring() -> Scan
 }
 
 // A scan of the bytes after one that has measured n rows. A text that is short, or short for its rows or for their texts, is looked at as a whole first, so
-// that no byte of it is looked at often; so all looks together take time linear in the text and the rows. A text that is too long is not looked at.
+// that no text of a row is looked at for much longer than a block; so all looks together take time linear in the text and the rows. A text that is too long is
+// not looked at.
 fn looking(text: &[u8], n: usize, seen: Scan, next: &mut [u32]) -> Scan
     ensures { λ r. ⌜ Looks (now (text .entry)) seen r (now (next .exit)) ⌝ }
 {

@@ -95,6 +95,6 @@ fn report_hostile(hostile: &Hostile, runs: usize) {
 fn line(what: &str, cells: [String; 7]) {
     let [bytes, rust, exports, ratio, from_bytes, first, second] = cells;
     println!(
-        "  {what:38}{bytes:>9}{rust:>9}{exports:>12}{ratio:>7}{from_bytes:>12}{first:>8}{second:>6}"
+        "  {what:46}{bytes:>9}{rust:>9}{exports:>12}{ratio:>7}{from_bytes:>12}{first:>8}{second:>6}"
     );
 }

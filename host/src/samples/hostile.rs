@@ -9,6 +9,7 @@ use crate::{
     writer::Gathered,
     Refusal,
 };
+use oracle::random::Rng;
 
 /// What is lent, and to which call.
 pub enum Asked {
@@ -25,8 +26,9 @@ pub enum Asked {
 }
 
 impl Asked {
-    /// The call's value, or its refusal. The output is short, since what such
-    /// records name has no end.
+    /// The call's value, or its refusal. The output has one byte, and that of
+    /// `from_board` one for each of `KEPT` bids. What would write more is refused
+    /// by 7, also where the text is short.
     pub fn answer(&self) -> Result<u64, Refusal> {
         let out = &mut [0; 1];
         match self {
@@ -61,49 +63,47 @@ pub struct Hostile {
 pub const ALL: &[Hostile] = &[
     Hostile {
         name: "append, every span the whole text",
-        made: |len| Asked::Append(board(whole(len), len / 24 - 1, all)),
+        made: |len| Asked::Append(board(whole(len), len / 24 - 1, all(len))),
         refusal: 7,
     },
     Hostile {
         name: "append, FF after every span",
-        made: |len| Asked::Append(board(ill_last(len), len / 16, but_last)),
+        made: |len| Asked::Append(board(ill_last(len), len / 16, but_last(len))),
         refusal: 7,
     },
     Hostile {
         name: "append, FF before every span",
-        made: |len| Asked::Append(board(ill_first(len), len / 16, but_first)),
+        made: |len| Asked::Append(board(ill_first(len), len / 16, but_first(len))),
         refusal: 7,
     },
     Hostile {
         name: "append, every byte FF",
-        made: |len| Asked::Append(board(vec![0xFF; len], len / 16, but_first)),
+        made: |len| Asked::Append(board(vec![0xFF; len], len / 16, but_first(len))),
         refusal: 6,
     },
     Hostile {
         name: "same_board, FF before every span",
-        made: |len| {
-            let one = board(ill_first(len), len / 32, but_first);
-            let other = one.clone();
-            Asked::Same(one, other)
-        },
+        made: |len| with_itself(board(ill_first(len), len / 32, but_first(len))),
         refusal: 0,
     },
     Hostile {
         name: "same_board, FF after every span",
-        made: |len| {
-            let one = board(ill_last(len), len / 32, but_last);
-            let other = one.clone();
-            Asked::Same(one, other)
-        },
+        made: |len| with_itself(board(ill_last(len), len / 32, but_last(len))),
         refusal: 0,
     },
     Hostile {
         name: "same_board, every span the whole text",
-        made: |len| {
-            let one = board(whole(len), len / 24 - 1, all);
-            let other = one.clone();
-            Asked::Same(one, other)
-        },
+        made: |len| with_itself(board(whole(len), len / 24 - 1, all(len))),
+        refusal: 0,
+    },
+    Hostile {
+        name: "same_board, texts that differ at their end",
+        made: |len| apart(len, len - 2, span(0, len - 2)),
+        refusal: 0,
+    },
+    Hostile {
+        name: "same_board, texts that differ at their start",
+        made: |len| apart(len, 0, span(2, len)),
         refusal: 0,
     },
     Hostile {
@@ -128,40 +128,43 @@ pub const ALL: &[Hostile] = &[
     },
 ];
 
-/// Those whose answer itself takes the bytes of all spans together: bytes that
-/// stand at different places are compared, and raw annotations are read: for the
-/// length that refusal 7 carries, and of an accepted record for its rows and its
-/// texts too.
+/// Those that take time in proportion to the bytes of all spans together. Bytes
+/// at different places are compared one span after another. Raw annotations are
+/// read for the length that refusal 7 carries, and again for the texts and the
+/// rows of an accepted record. Of the mixes of bytes that were tried, these took
+/// longest.
 pub const BY_NATURE: &[Hostile] = &[
     Hostile {
-        name: "same_board, 256 calls a byte apart",
+        name: "same_board, 32 calls a byte apart",
         made: |len| {
             let text = vec![b'a'; len];
-            let one = board(text.clone(), KEPT, but_last);
-            Asked::Same(one, board(text, KEPT, but_first))
+            let one = board(text.clone(), KEPT, but_last(len));
+            Asked::Same(one, board(text, KEPT, but_first(len)))
         },
         refusal: 0,
     },
     Hostile {
-        name: "from_board, 256 calls, refused by 7",
-        made: |len| Asked::Convert(record(vec![b'!'; len], KEPT, PASS, all(len))),
+        name: "from_board, 32 calls, refused by 7",
+        made: |len| Asked::Convert(record(mixed(len, b"!$x+"), KEPT, PASS, all(len))),
         refusal: 7,
     },
     Hostile {
-        name: "from_board, 256 calls, accepted",
-        made: |len| Asked::Convert(record(vec![b'x'; len], KEPT, PASS, all(len))),
+        name: "from_board, 32 calls, accepted",
+        made: |len| Asked::Convert(record(mixed(len, b"$x+"), KEPT, PASS, all(len))),
         refusal: 0,
     },
 ];
 
-/// How many calls there are where time is of the bytes of all spans together.
-const KEPT: usize = 256;
+/// How many calls the records of [`BY_NATURE`] have.
+const KEPT: usize = 32;
 
 const PASS: u32 = 0;
-const CONTINUE: u32 = 4;
 
-/// Two-byte characters, which no quick look at ASCII passes.
-fn whole(len: usize) -> Vec<u8> {
+/// The kind of a call that is dropped.
+pub const CONTINUE: u32 = 4;
+
+/// So many bytes of two-byte characters. ASCII could be passed faster.
+pub fn whole(len: usize) -> Vec<u8> {
     "é".repeat(len / 2).into_bytes()
 }
 
@@ -177,7 +180,14 @@ fn ill_first(len: usize) -> Vec<u8> {
     text
 }
 
-fn span(start: usize, end: usize) -> Span {
+/// Bytes picked by chance out of these, the same ones each time.
+fn mixed(len: usize, of: &[u8]) -> Vec<u8> {
+    let rng = &mut Rng::new(7);
+    (0..len).map(|_| *rng.pick(of)).collect()
+}
+
+/// The span from one place up to another.
+pub fn span(start: usize, end: usize) -> Span {
     Span::new(start as u32, (end - start) as u32)
 }
 
@@ -194,8 +204,7 @@ fn but_first(len: usize) -> Span {
 }
 
 /// A board of so many calls, the bid and the annotation of each this span.
-fn board(text: Vec<u8>, calls: usize, place: fn(usize) -> Span) -> Gathered {
-    let x = place(text.len());
+pub fn board(text: Vec<u8>, calls: usize, x: Span) -> Gathered {
     let row: [u32; ROW] = [x.start, x.len, 0, 1, x.start, x.len];
     Gathered {
         text,
@@ -204,12 +213,28 @@ fn board(text: Vec<u8>, calls: usize, place: fn(usize) -> Span) -> Gathered {
     }
 }
 
-fn document_rows(rows: usize, x: Span) -> Vec<u32> {
+/// Two equal boards.
+fn with_itself(one: Gathered) -> Asked {
+    let other = one.clone();
+    Asked::Same(one, other)
+}
+
+/// Two boards of the same rows, all their texts this span, over texts of which
+/// one has another character at this place.
+fn apart(len: usize, at: usize, x: Span) -> Asked {
+    let one = board(whole(len), len / 32, x);
+    let mut other = one.clone();
+    other.text[at..at + 2].copy_from_slice("è".as_bytes());
+    Asked::Same(one, other)
+}
+
+/// The rows of a document of so many tokens, each piece this span.
+pub fn document_rows(rows: usize, x: Span) -> Vec<u32> {
     [x.start, x.len, x.start, x.len].repeat(rows)
 }
 
 /// A record of so many calls of this kind, the raw annotation of each this span.
-fn record(text: Vec<u8>, calls: usize, kind: u32, x: Span) -> pbn::Gathered {
+pub fn record(text: Vec<u8>, calls: usize, kind: u32, x: Span) -> pbn::Gathered {
     pbn::Gathered {
         text,
         calls: [kind, 0, 0, 1, x.start, x.len].repeat(calls),
@@ -217,7 +242,8 @@ fn record(text: Vec<u8>, calls: usize, kind: u32, x: Span) -> pbn::Gathered {
     }
 }
 
-fn notes(x: Span) -> Box<pbn::NoteWords> {
+/// All 256 notes, each this span.
+pub fn notes(x: Span) -> Box<pbn::NoteWords> {
     let mut words = Box::new([0; 768]);
     for note in words.chunks_exact_mut(3) {
         note.copy_from_slice(&[1, x.start, x.len]);

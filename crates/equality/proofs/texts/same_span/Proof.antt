@@ -1,38 +1,24 @@
--- `equality::same_span` meets its contract: what is compared is what the spans name.
+-- `equality::same_span` meets its contract: near spans name the same bytes.
 -- Assumes nothing.
-use native.Mathlib.Omega.{arith}
 use denote.Ref.{now}
 use borrow.Author.Needs.{needs}
-use Rattle.equality.proofs.EqualityLaws.{place-same}
+use Rattle.equality.proofs.EqualityLaws.{near-span}
 use Rattle.equality.proofs.texts.same_span.Statement.{statement}
 use Rattle.equality.proofs.texts.same_span.Tie as tie
 
-cast-start : tie.Need-cast-start
-cast-start c = search needs
-
-cast-same-at : tie.Need-cast-same-at
-cast-same-at c = search needs
-
-add-same-at : tie.Need-add-same-at
-add-same-at c = search needs
-
-same-at-requires : tie.Need-same-at-requires
-same-at-requires c κs = (c .before .before .before .before .before .before .before .before .before .before .pre, omega arith)
+near-requires : tie.Need-near-requires
+near-requires c κs = search needs
 
 returns : tie.Need-returns
-returns c = let a = c .before .before .before .before .before .before .before .before .before .before .before .args in place-same (now (a .text)) (a .x) (now (a .text2)) (a .y) (c .before .before .before .if1 .taken) _ (c .same-at .ensures)
+returns c =
+    let b = c .before .before .before .before .before in
+    near-span (now (b .args .text)) (now (b .args .text2)) (now (b .args .next)) (b .pre) (b .args .x) (b .args .y) (c .before .near .ensures (c .if1 .taken))
 
-shown-requires : tie.Need-shown-requires
-shown-requires c κs = search needs
-
-shown-requires-2 : tie.Need-shown-requires-2
-shown-requires-2 c κs = search needs
-
-same-bytes-requires : tie.Need-same-bytes-requires
-same-bytes-requires c κs = search needs
+same-compared-requires : tie.Need-same-compared-requires
+same-compared-requires c κs = search needs
 
 returns-2 : tie.Need-returns-2
-returns-2 c = rw (c .before .before .shown .ensures, c .before .shown2 .ensures) at (c .same-bytes .ensures)
+returns-2 c = search needs
 
 pub same-span-spec : {M : Type 1} → statement M
-same-span-spec = tie.close (tie.spec cast-start cast-same-at add-same-at same-at-requires returns shown-requires shown-requires-2 same-bytes-requires returns-2)
+same-span-spec = tie.close (tie.spec near-requires returns same-compared-requires returns-2)
