@@ -11,7 +11,7 @@ use mathlib.Core.List.{List, [], _∷_}
 use lib.ListN.{length, getD, take, drop, drop-of-length-le, length-drop}
 use lib.Seq.{drop-cons, drop-drop, take-length}
 use lib.Dec.{T, eqb, leb, ltb, ltb→lt}
-use borrow.Author.Tests.{eq-eqb, ne-eqb, eqb-true, eqb-false, le-leb, lt-leb, leb-true, leb-false, ltb-false}
+use borrow.Author.Tests.{eq-eqb, ne-eqb, le-leb, lt-leb, leb-true, leb-false, ltb-false}
 use Rattle.lin_spec.specs.Base.{pick, eqList, eqAll}
 use Rattle.lin_spec.specs.Records.{limit, part}
 use Rattle.lin_spec.proofs.Base.{split, and-left, and-right, or-none, eq-length}

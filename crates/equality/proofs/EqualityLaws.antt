@@ -28,7 +28,7 @@ use Rattle.lin_spec.specs.declared.Verdict.{Verdict}
 use Rattle.lin_spec.specs.declared.Verdict.the-variants.{Accepted, Refused}
 use Rattle.lin_spec.specs.declared.Refusal.{Refusal}
 use Rattle.lin_spec.specs.declared.Refusal.the-variants.{TextTooLong, OutOfRange, SpanPastEnd, SpanNotUtf8}
-use Rattle.lin_spec.proofs.Base.{split, list-eq, eq-list, and-left, and-right}
+use Rattle.lin_spec.proofs.Base.{split, eq-list, and-left, and-right}
 use Rattle.lin_spec.proofs.Checks.{unmet, unless-refused, unless-passed}
 use Rattle.lent.specs.Calls.{callAt, spansOf}
 use Rattle.lent.specs.declared.heads.Head.{Head}

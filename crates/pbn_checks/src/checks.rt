@@ -21,7 +21,7 @@ ghost use Rattle.lin_spec.specs.Base.{any};
 ghost use Rattle.lin_spec.specs.Records.{limit, optionOf};
 ghost use Rattle.lin_spec.specs.Refusals.{passesEnd, illSpan};
 ghost use Rattle.lin_spec.specs.Lent.{spanIn};
-ghost use Rattle.lin_spec.specs.Pbn.{pbn, pbnNames, pbnRow, pbnRows, rawOf, badEntry, badCall, badBoardNumber, badPbn, rawSpans, nameSpans, pbnSpans};
+ghost use Rattle.lin_spec.specs.Pbn.{pbn, pbnNames, pbnRow, pbnRows, rawOf, badEntry, badCall, badBoardNumber, rawSpans, nameSpans, pbnSpans};
 ghost use Rattle.text.specs.Fault.{faultOf};
 ghost use Rattle.text.specs.Index.{Indexed};
 ghost use Rattle.lent.specs.Calls.{rowAt};

@@ -1,7 +1,7 @@
 -- Laws of moved rows: rows spilled and lent mean the structs, rows filled and lent mean the words, rows spilled and filled again are the rows, and
 -- a refused call leaves everything. (01: Records; Eight refusals, "All lent memory stays. Rows and bytes not named by a success stay too.")
 -- Assumes nothing.
-use Prim.Native.Nat.{ℕ, zero, suc, _*_, _/_, _≤_}
+use Prim.Native.Nat.{ℕ, _*_, _/_, _≤_}
 use native.Mathlib.Nat.{not-suc-le-zero, le-of-suc-le-suc}
 use native.Mathlib.Omega.{arith}
 use mathlib.Core.Path.{_≡_, refl, ap, sym, _∙_}
@@ -12,13 +12,13 @@ use lib.ListN.{length, take}
 use lib.Dec.{ltb}
 use borrow.Author.Tests.{ltb-false}
 use Rattle.lin_spec.specs.Base.{any}
-use Rattle.lin_spec.specs.Records.{bytesAt, optionOf}
+use Rattle.lin_spec.specs.Records.{bytesAt}
 use Rattle.lin_spec.specs.Refusals.{Answer, unless}
 use Rattle.lin_spec.specs.Refusals.Answer.{refused, accepted}
 use Rattle.lin_spec.specs.Output.{overlay, outputAfter}
 use Rattle.lin_spec.specs.Board.{CallOf, BoardOf, mapBoard}
 use Rattle.lin_spec.specs.Reading.{callWords, tooFew}
-use Rattle.lin_spec.specs.Lent.{rowsOf, callRows, callIn, rowOf, badFlag, Lent, lent, lentBoard, meaning}
+use Rattle.lin_spec.specs.Lent.{rowsOf, callRows, callIn, badFlag, lent, lentBoard, meaning}
 use Rattle.lin_spec.specs.declared.Span.{Span}
 use Rattle.lin_spec.specs.declared.Call.{Call}
 use Rattle.lin_spec.specs.declared.MaybeSpan.{MaybeSpan}
@@ -30,8 +30,8 @@ use Rattle.lin_spec.specs.declared.Refusal.the-variants.{TooFewRows, OutOfRange
 use Rattle.lin_spec.proofs.Checks.{unmet, unless-same}
 use Rattle.lin_spec.proofs.ThirdDemand.{front-of}
 use Rattle.rows.specs.declared.CallRow.{CallRow}
-use Rattle.rows.specs.Rows.{called, rowIn, numbered, lentRows, laid, wordsOf, Moving, spillOf, rowsIn, fillAnswer, rowsAfter, fillOf}
-use Rattle.rows.proofs.Laws.{words-cons, words-many, rows-in, spill-all, fill-all}
+use Rattle.rows.specs.Rows.{called, rowIn, numbered, lentRows, laid, Moving, spillOf, rowsIn, fillAnswer, rowsAfter, fillOf}
+use Rattle.rows.proofs.Laws.{words-many, rows-in, fill-all}
 
 -- A row means its struct, and a struct is its row
 

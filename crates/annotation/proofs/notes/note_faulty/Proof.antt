@@ -3,9 +3,6 @@
 use denote.Ref.{now}
 use Rattle.text.specs.Fault.{faultOf}
 use Rattle.annotation.proofs.NoteLaws.{note-none, note-one}
-use lib.ListN.{length-set}
-use mathlib.Core.Path.{refl}
-use native.Mathlib.Omega.{arith}
 use borrow.Author.Needs.{needs}
 use Rattle.annotation.proofs.notes.note_faulty.Statement.{statement}
 use Rattle.annotation.proofs.notes.note_faulty.Tie as tie

@@ -2,7 +2,7 @@
 -- Assumes nothing.
 use mathlib.Core.Path.{_≡_, refl, sym, _∙_, subst, ap}
 use mathlib.Core.Bool.{Bool}
-use Prim.Native.Nat.{ℕ, zero, suc, _<_, _≤_, _+_, _^_}
+use Prim.Native.Nat.{ℕ, zero, suc, _<_, _≤_, _+_}
 use native.Mathlib.Nat.{add-zero, zero-add, lt-suc-self}
 use native.Mathlib.Omega.{arith}
 use mathlib.Core.List.{List, [], _∷_}
