@@ -157,6 +157,10 @@ module _ (s t : List ℕ) (a n : ℕ) where
       let lt = rw length-drop at (common-right (drop a s) (drop a t)) in
       sym (front n (drop a s) (drop a t) (rw length-drop (omega arith)) (rw length-drop (omega arith)) ∙ le-leb n (common (drop a s) (drop a t)) (omega arith))
 
+  -- so do all spans among the first bytes that they have in common
+  pub near-same : a + n ≤ common s t → true ≡ eqList (part s a n) (part t a n)
+  near-same h = let w = within s t 0 a (omega arith) (omega arith) in span-same (omega arith)
+
   -- or after it, within both
   pub span-apart : nextApart s t a < a + n → a + n ≤ length s → a + n ≤ length t → false ≡ eqList (part s a n) (part t a n)
   unfolding part
@@ -215,22 +219,11 @@ looked-up a b m n k e =
 
 -- An index
 
--- one word, what they have in common from the first on
-pub apart-first : (s t : List ℕ) (p : ℕ) → p ≡ nextApart s t 0 → Apart s t (p ∷ [])
-apart-first s t p e zero h = e
-apart-first s t p e (suc k) h = absurd (omega arith)
-
+-- no word at all
 pub apart-none : (s t : List ℕ) → Apart s t []
 apart-none s t k h = absurd (not-suc-le-zero h)
 
 module _ (s t next : List ℕ) (x : Apart s t next) where
-  -- a span that ends at or before the first word
-  pub near-same : 0 < length next → (a b : ℕ) → a ≤ b → b ≤ getD next 0 0 → true ≡ eqList (part s a (b - a)) (part t a (b - a))
-  near-same h a b l k =
-      let e = x 0 h in
-      let w = within s t 0 a (omega arith) (omega arith) in
-      span-same s t a (b - a) (omega arith)
-
   -- the word of the block that a is in, where it is not before a
   pub word-here : (a : ℕ) → a / 1024 < length next → a ≤ getD next (a / 1024) 0 → getD next (a / 1024) 0 ≡ nextApart s t a
   word-here a h l =

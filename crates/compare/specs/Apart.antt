@@ -17,7 +17,7 @@ abbrev pub nextApart : (s t : List ℕ) (x : ℕ) → ℕ
 nextApart s t x = x + common (drop x s) (drop x t)
 
 -- next holds, for each block of 1,024 bytes that it has a word for, the first such place at or after the block's first byte. No word at all is an
--- index too, and so is one, the number of bytes that they have in common from the first on
+-- index too
 abbrev pub Apart : (s t next : List ℕ) → Type 0
 Apart s t next = (k : ℕ) → k < length next → getD next k 0 ≡ nextApart s t (k * 1024)
 

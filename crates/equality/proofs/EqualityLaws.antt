@@ -1,7 +1,7 @@
 -- Laws of equality: parts that are compared one after the other, hands, texts and calls, the checks of both boards. (01: equality)
 -- Assumes nothing.
 use Prim.Native.Nat.{ℕ, zero, suc, _+_, _-_, _/_, _≤_, _<_}
-use native.Mathlib.Nat.{not-suc-le-zero, add-sub-cancel-left}
+use native.Mathlib.Nat.{add-sub-cancel-left}
 use native.Mathlib.Numerals.{add-one}
 use native.Mathlib.Omega.{arith}
 use mathlib.Core.Path.{_≡_, refl, ap, sym, _∙_}
@@ -36,10 +36,10 @@ use Rattle.lent.specs.declared.checks.Bounds.{Bounds}
 use Rattle.lent.specs.Heads.{boardOf}
 use Rattle.lent.specs.Checks.{verdictOf, amiss, Bounded}
 use Rattle.lent.proofs.LentLaws.{rows-cons, rows-count, no-rows, rows-end, spans-any, head-any, amiss-ill, texts-ill}
-use Rattle.compare.specs.Apart.{nextApart, Apart}
-use Rattle.compare.proofs.ApartLaws.{apart-within, near-same, apart-first, apart-none, whole-same}
+use Rattle.compare.specs.Apart.{common}
+use Rattle.compare.proofs.ApartLaws.{common-left, near-same, whole-same}
 use Rattle.equality.proofs.EqualityMeaning.{all-self, call-self, deal-self}
-use Rattle.equality.specs.Parts.{Started, Near, callBytes, callsBytes, sameDealt, sameText, sameTexts, samePlay, mostChecks, mostChecked, unlikeBut}
+use Rattle.equality.specs.Parts.{callBytes, callsBytes, sameDealt, sameText, sameTexts, samePlay, mostChecks, mostChecked, unlikeBut}
 
 -- One part, and those after it: a part that differs decides, one that is the same leaves it to the others
 
@@ -140,31 +140,19 @@ place-same s x t y e r h =
     let n = eqb-true (x .len) (y .len) (and-right (eqb (x .start) (y .start)) (eqb (x .len) (y .len)) e) in
     h ∙ rw (add-sub-cancel-left (x .start) (x .len), m, n) refl
 
--- near ones name the same bytes
-pub near-told : (next : List ℕ) (x y : Span) → 0 < length next → ((eqb (x .start) (y .start) && eqb (x .len) (y .len)) && leb (endOf x) (getD next 0 0)) ≡ true → Near next x y
-near-told next x y h e =
-    let p = and-left (eqb (x .start) (y .start) && eqb (x .len) (y .len)) (leb (endOf x) (getD next 0 0)) e in
-    record {
-      starts = eqb-true (x .start) (y .start) (and-left (eqb (x .start) (y .start)) (eqb (x .len) (y .len)) p);
-      lengths = eqb-true (x .len) (y .len) (and-right (eqb (x .start) (y .start)) (eqb (x .len) (y .len)) p);
-      some = h;
-      ends = leb-true (endOf x) (getD next 0 0) (and-right (eqb (x .start) (y .start) && eqb (x .len) (y .len)) (leb (endOf x) (getD next 0 0)) e);
-    }
-
-pub near-span : (s t next : List ℕ) → Apart s t next → (x y : Span) → Near next x y → true ≡ eqList (bytesAt s x) (bytesAt t y)
-near-span s t next a x y n =
-    near-same s t next a (n .some) (x .start) (endOf x) (omega arith) (n .ends) ∙ rw (add-sub-cancel-left (x .start) (x .len), n .starts, n .lengths) refl
+-- among the first bytes that the texts have in common
+pub near-span : (s t : List ℕ) (n : ℕ) → n ≤ common s t → (x y : Span) → ((eqb (x .start) (y .start) && eqb (x .len) (y .len)) && leb (endOf x) n) ≡ true
+    → true ≡ eqList (bytesAt s x) (bytesAt t y)
+near-span s t n h x y e =
+    let p = and-left (eqb (x .start) (y .start) && eqb (x .len) (y .len)) (leb (endOf x) n) e in
+    let k = leb-true (endOf x) n (and-right (eqb (x .start) (y .start) && eqb (x .len) (y .len)) (leb (endOf x) n) e) in
+    let a = eqb-true (x .start) (y .start) (and-left (eqb (x .start) (y .start)) (eqb (x .len) (y .len)) p) in
+    let b = eqb-true (x .len) (y .len) (and-right (eqb (x .start) (y .start)) (eqb (x .len) (y .len)) p) in
+    near-same s t (x .start) (x .len) (omega arith) ∙ rw (a, b) refl
 
 -- texts of which the first is no longer than what they have in common, and that are as long, are the same
-pub whole-alike : (s t : List ℕ) (p : ℕ) → p ≡ nextApart s t 0 → length s ≤ p → length s ≡ length t → s ≡ t
-whole-alike s t p e h l = eq-list s t (sym (whole-same s t l p e) ∙ eq-eqb p (length s) (let w = apart-within s t 0 (omega arith) in omega arith))
-
--- the index that two boards are compared with first
-pub started : (s t : List ℕ) (n : ℕ) → n ≡ nextApart s t 0 → length s ≤ limit → Started s t (record { first = n; words = 1 })
-started s t n e h = record { few = omega arith; index = apart-first s t n e; short = λ _. h }
-
-pub started-none : (s t : List ℕ) → Started s t (record { first = 0; words = 0 })
-started-none s t = record { few = omega arith; index = apart-none s t; short = λ h. absurd (not-suc-le-zero h) }
+pub whole-alike : (s t : List ℕ) (n : ℕ) → n ≤ common s t → length s ≤ n → length s ≡ length t → s ≡ t
+whole-alike s t n h k l = let w = common-left s t in eq-list s t (sym (whole-same s t l (common s t) (omega arith)) ∙ eq-eqb (common s t) (length s) (omega arith))
 
 -- Names, seat by seat
 

@@ -1,41 +1,29 @@
 -- The comparison of two lent boards in parts, and the checks of both. (01: equality; Eight refusals)
-use Prim.Native.Nat.{ℕ, _≤_, _<_}
+use Prim.Native.Nat.{ℕ, _≤_}
 use mathlib.Core.Path.{_≡_}
 use mathlib.Core.Bool.{Bool, false, _&&_, _||_}
 use mathlib.Core.List.{List, [], _∷_, map}
 use mathlib.Core.Option.{Option}
-use lib.ListN.{length, getD, take}
 use lib.Dec.{eqb}
 use Rattle.lin_spec.specs.Base.{pick, any, eqList}
-use Rattle.lin_spec.specs.Records.{limit, endOf, bytesAt, optionOf}
+use Rattle.lin_spec.specs.Records.{bytesAt, optionOf}
 use Rattle.lin_spec.specs.Refusals.{Answer, refuseIf, unless, tooLong, pastEnd, spanNotUtf8}
 use Rattle.lin_spec.specs.Refusals.Answer.{refused, accepted}
 use Rattle.lin_spec.specs.Letters.{seatNumber, svLetter}
 use Rattle.lin_spec.specs.Board.{CallOf, mapOption, mapCall}
 use Rattle.lin_spec.specs.Lent.{callRows, callIn, Lent, claimOf, lentSpans, badNumber}
 use Rattle.lin_spec.specs.Equality.{eqOption, sameDeal}
-use Rattle.lin_spec.specs.declared.Span.{Span}
 use Rattle.lin_spec.specs.declared.MaybeSpan.{MaybeSpan}
 use Rattle.lin_spec.specs.declared.Call.{Call}
 use Rattle.lin_spec.specs.declared.Board.{Board}
 use Rattle.lin_spec.specs.declared.Refusal.{Refusal}
 use Rattle.lin_spec.specs.declared.Refusal.the-variants.{OutOfRange, SpanNotUtf8}
 use Rattle.lent.specs.Checks.{amiss}
-use Rattle.lent.specs.declared.checks.Start.{Start}
-use Rattle.compare.specs.Apart.{Apart}
+use Rattle.compare.specs.Apart.{common, Apart}
 
--- an index of the places where two texts differ, of one word or none, and where it has one, the first is no longer than a text may be
-pub record Started (s t : List ℕ) (r : Start) : Type 0 where
-  pub few : r .words ≤ 1
-  pub index : Apart s t (take (r .words) (r .first ∷ []))
-  pub short : 0 < r .words → length s ≤ limit
-
--- two spans stand at one place, and end at or before the first word of next
-pub record Near (next : List ℕ) (x y : Span) : Type 0 where
-  pub starts : x .start ≡ y .start
-  pub lengths : x .len ≡ y .len
-  pub some : 0 < length next
-  pub ends : endOf x ≤ getD next 0 0
+-- what is known of where two texts differ: they have so many bytes in common from the first on, and next is an index of the places where they differ
+abbrev pub Known : (s t : List ℕ) (first : ℕ) (next : List ℕ) → Type 0
+Known s t first next = (first ≤ common s t) × Apart s t next
 
 -- a call with its texts as bytes, and the calls of the rows
 abbrev pub callBytes : (s : List ℕ) → Call → CallOf (List ℕ)

@@ -1,6 +1,6 @@
 // Boards compared: the checks of both, then field by field up to the first that differs. (01: equality; Eight refusals)
 use crate::hands::same_deal;
-use crate::texts::apart_of;
+use crate::texts::front_of;
 use crate::texts::same_calls;
 use crate::texts::same_names;
 use crate::texts::same_text;
@@ -15,18 +15,16 @@ use lin_spec::LIMIT;
 use lin_spec::MaybeClaim;
 use lin_spec::Refusal;
 use lin_spec::Verdict;
-ghost use Prim.Native.Nat.{ℕ, _≤_, _<_};
+ghost use Prim.Native.Nat.{ℕ};
 ghost use mathlib.Core.Path.{_≡_};
 ghost use mathlib.Core.List.{List, []};
 ghost use lib.ListN.{length};
 ghost use lib.Dec.{eqb};
-ghost use Rattle.lin_spec.specs.Records.{limit};
 ghost use Rattle.lin_spec.specs.Lent.{lent, claimOf, meaning};
 ghost use Rattle.lin_spec.specs.Equality.{equalityOf, eqOption, equal as equalTo, sameBoards, sameBoard};
 ghost use Rattle.lent.specs.Heads.{boardOf};
 ghost use Rattle.lent.specs.Checks.{verdictOf};
-ghost use Rattle.compare.specs.Apart.{Apart};
-ghost use Rattle.equality.specs.Parts.{mostChecked, unlikeBut, sameDealt, sameTexts, samePlay};
+ghost use Rattle.equality.specs.Parts.{Known, mostChecked, unlikeBut, sameDealt, sameTexts, samePlay};
 
 // Whether the claims are the same, or both are absent.
 fn same_claim(a: MaybeClaim, b: MaybeClaim) -> bool
@@ -62,23 +60,30 @@ fn same_dealt(head: Head, counts: &[u32; 208], head2: Head, counts2: &[u32; 208]
 }
 
 // Whether title, room and header are the same.
-fn same_texts(next: &[u32], text: &[u8], head: Head, text2: &[u8], head2: Head) -> bool
-    requires { ⌜ Apart (now text) (now text2) (now next) ⌝ }
+fn same_texts(
+    first: usize,
+    next: &[u32],
+    text: &[u8],
+    head: Head,
+    text2: &[u8],
+    head2: Head,
+) -> bool
+    requires { ⌜ Known (now text) (now text2) first (now next) ⌝ }
     ensures { λ r. ⌜ r ≡ sameTexts (now (text .entry)) (boardOf head []) (now (text2 .entry)) (boardOf head2 []) ⌝ }
 {
     let title = head.title;
     let title2 = head2.title;
-    if !same_text(next, text, title, text2, title2) {
+    if !same_text(first, next, text, title, text2, title2) {
         return false;
     }
     let room_board = head.room_board;
     let room_board2 = head2.room_board;
-    if !same_text(next, text, room_board, text2, room_board2) {
+    if !same_text(first, next, text, room_board, text2, room_board2) {
         return false;
     }
     let board_header = head.board_header;
     let board_header2 = head2.board_header;
-    same_text(next, text, board_header, text2, board_header2)
+    same_text(first, next, text, board_header, text2, board_header2)
 }
 
 // Whether cards and claim are the same.
@@ -93,8 +98,9 @@ fn same_play(cards: &[u8], head: Head, cards2: &[u8], head2: Head) -> bool
     same_claim(claim, claim2)
 }
 
-// Whether the first board equals the second, by an index of the places where their texts differ.
+// Whether the first board equals the second, by what is known of where their texts differ.
 fn equal_by(
+    first: usize,
     next: &[u32],
     text: &[u8],
     head: Head,
@@ -107,21 +113,21 @@ fn equal_by(
     rows2: &[u32],
     cards2: &[u8],
 ) -> bool
-    requires { ⌜ Apart (now text) (now text2) (now next) × (0 < length (now next) → length (now text) ≤ limit) ⌝ }
+    requires { ⌜ Known (now text) (now text2) first (now next) ⌝ }
     ensures { λ r. ⌜ r ≡ equalTo (meaning (lent (now (text .entry)) (boardOf head (now (counts .entry))) (now (rows .entry)) (now (cards .entry)))) (meaning (lent (now (text2 .entry)) (boardOf head2 (now (counts2 .entry))) (now (rows2 .entry)) (now (cards2 .entry)))) ⌝ }
 {
     let names = head.names;
     let names2 = head2.names;
-    if !same_names(next, text, names, text2, names2) {
+    if !same_names(first, next, text, names, text2, names2) {
         return false;
     }
     if !same_dealt(head, counts, head2, counts2) {
         return false;
     }
-    if !same_texts(next, text, head, text2, head2) {
+    if !same_texts(first, next, text, head, text2, head2) {
         return false;
     }
-    if !same_calls(next, text, rows, text2, rows2) {
+    if !same_calls(first, next, text, rows, text2, rows2) {
         return false;
     }
     same_play(cards, head, cards2, head2)
@@ -142,12 +148,10 @@ fn equal(
 ) -> bool
     ensures { λ r. ⌜ r ≡ equalTo (meaning (lent (now (text .entry)) (boardOf head (now (counts .entry))) (now (rows .entry)) (now (cards .entry)))) (meaning (lent (now (text2 .entry)) (boardOf head2 (now (counts2 .entry))) (now (rows2 .entry)) (now (cards2 .entry)))) ⌝ }
 {
-    let start = apart_of(text, rows, text2);
-    let words = start.words;
-    let word = start.first;
-    let first = [word; 1];
+    let first = front_of(text, rows, text2);
     equal_by(
-        &first[..words],
+        first,
+        &rows[..0],
         text,
         head,
         counts,

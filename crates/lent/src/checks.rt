@@ -238,14 +238,13 @@ pub fn one_by_one(len: usize, rows: &[u32]) -> bool {
     !spans_pass(len, rows)
 }
 
-// An index of few words: its first word, and how many it has, one or none.
-pub struct Start {
-    pub first: u32,
-    pub words: usize,
+// The index that a lent board is looked at with first: its first word, and how many words it has, one or none.
+struct Start {
+    first: u32,
+    words: usize,
 }
 
-// The index that a lent board is looked at with first: no word where the texts of the rows are looked at one by one; else the longest well-formed start.
-// (A text that is too long was refused before.)
+// No word where the texts of the rows are looked at one by one; else the longest well-formed start. (A text that is too long was refused before.)
 fn start_of(text: &[u8], rows: &[u32]) -> Start
     ensures { λ r. ⌜ Started (now (text .entry)) r ⌝ }
 {

@@ -5,7 +5,6 @@ mod heads;
 
 pub use calls::call_at;
 pub use checks::Bounds;
-pub use checks::Start;
 pub use checks::bad_cards;
 pub use checks::bad_flag;
 pub use checks::bounds_of;

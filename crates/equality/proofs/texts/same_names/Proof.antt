@@ -13,10 +13,10 @@ use Rattle.equality.proofs.texts.same_names.Statement.{statement}
 use Rattle.equality.proofs.texts.same_names.Tie as tie
 
 abbrev Inv-loop : tie.InvT-loop
-Inv-loop next text text2 names names2 seat₀ seat = (eqAll eqList (map (bytesAt text) (drop seat names)) (map (bytesAt text2) (drop seat names2)) ≡ eqAll eqList (map (bytesAt text) names) (map (bytesAt text2) names2)) × (length names ≡ 4) × (length names2 ≡ 4)
+Inv-loop first next text text2 names names2 seat₀ seat = (eqAll eqList (map (bytesAt text) (drop seat names)) (map (bytesAt text2) (drop seat names2)) ≡ eqAll eqList (map (bytesAt text) names) (map (bytesAt text2) names2)) × (length names ≡ 4) × (length names2 ≡ 4)
 
 abbrev μ-loop : tie.MeasureT-loop
-μ-loop next text text2 names names2 seat₀ seat = 4 - seat
+μ-loop first next text text2 names names2 seat₀ seat = 4 - seat
 
 loop-holds : tie.Need-loop-holds Inv-loop μ-loop
 loop-holds c = (refl, search needs, search needs)

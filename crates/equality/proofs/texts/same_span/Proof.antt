@@ -1,5 +1,6 @@
 -- `equality::same_span` meets its contract: near spans name the same bytes.
 -- Assumes nothing.
+use mathlib.Core.Path.{sym, _∙_}
 use denote.Ref.{now}
 use borrow.Author.Needs.{needs}
 use Rattle.equality.proofs.EqualityLaws.{near-span}
@@ -12,7 +13,7 @@ near-requires c κs = search needs
 returns : tie.Need-returns
 returns c =
     let b = c .before .before .before .before .before in
-    near-span (now (b .args .text)) (now (b .args .text2)) (now (b .args .next)) (b .pre) (b .args .x) (b .args .y) (c .before .near .ensures (c .if1 .taken))
+    near-span (now (b .args .text)) (now (b .args .text2)) (b .args .first) (b .pre .0) (b .args .x) (b .args .y) (sym (c .before .near .ensures) ∙ c .if1 .taken)
 
 same-compared-requires : tie.Need-same-compared-requires
 same-compared-requires c κs = search needs

@@ -1,5 +1,6 @@
 -- `equality::same_text` meets its contract: in each arm both texts are known.
 -- Assumes nothing.
+use mathlib.Core.Path.{refl}
 use borrow.Author.Needs.{needs}
 use Rattle.equality.proofs.texts.same_text.Statement.{statement}
 use Rattle.equality.proofs.texts.same_text.Tie as tie
@@ -26,13 +27,13 @@ same-span-requires : tie.Need-same-span-requires
 same-span-requires c κs = search needs
 
 returns : tie.Need-returns
-returns c = search needs
+returns c = rw (c .before .before .enum-told .given .1, c .enum-told2 .given .1) refl
 
 returns-2 : tie.Need-returns-2
-returns-2 c = search needs
+returns-2 c = rw (c .before .before .enum-told .given .1, c .enum-told3 .given .1) refl
 
 returns-3 : tie.Need-returns-3
-returns-3 c = search needs
+returns-3 c = rw (c .before .before .before .x .given .1, c .enum-told4 .given .1) refl
 
 returns-4 : tie.Need-returns-4
 returns-4 c = rw (c .before .before .before .before .before .x .given .1, c .before .before .y .given .1) (c .same-span .ensures)
