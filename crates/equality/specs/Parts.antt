@@ -1,6 +1,5 @@
 -- The comparison of two lent boards in parts, and the checks of both. (01: equality; Eight refusals)
 use Prim.Native.Nat.{ℕ, _≤_}
-use mathlib.Core.Path.{_≡_}
 use mathlib.Core.Bool.{Bool, false, _&&_, _||_}
 use mathlib.Core.List.{List, [], _∷_, map}
 use mathlib.Core.Option.{Option}
