@@ -1,5 +1,5 @@
 -- The comparison of two lent boards in parts, and the checks of both. (01: equality; Eight refusals)
-use Prim.Native.Nat.{ℕ, _≤_}
+use Prim.Native.Nat.{ℕ}
 use mathlib.Core.Bool.{Bool, false, _&&_, _||_}
 use mathlib.Core.List.{List, [], _∷_, map}
 use mathlib.Core.Option.{Option}
@@ -18,11 +18,6 @@ use Rattle.lin_spec.specs.declared.Board.{Board}
 use Rattle.lin_spec.specs.declared.Refusal.{Refusal}
 use Rattle.lin_spec.specs.declared.Refusal.the-variants.{OutOfRange, SpanNotUtf8}
 use Rattle.lent.specs.Checks.{amiss}
-use Rattle.compare.specs.Apart.{common, Apart}
-
--- what is known of where two texts differ: they have so many bytes in common from the first on, and next is an index of the places where they differ
-abbrev pub Known : (s t : List ℕ) (first : ℕ) (next : List ℕ) → Type 0
-Known s t first next = (first ≤ common s t) × Apart s t next
 
 -- a call with its texts as bytes, and the calls of the rows
 abbrev pub callBytes : (s : List ℕ) → Call → CallOf (List ℕ)

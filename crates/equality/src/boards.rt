@@ -15,7 +15,7 @@ use lin_spec::LIMIT;
 use lin_spec::MaybeClaim;
 use lin_spec::Refusal;
 use lin_spec::Verdict;
-ghost use Prim.Native.Nat.{ℕ};
+ghost use Prim.Native.Nat.{ℕ, _≤_};
 ghost use mathlib.Core.Path.{_≡_};
 ghost use mathlib.Core.List.{List, []};
 ghost use lib.ListN.{length};
@@ -24,7 +24,8 @@ ghost use Rattle.lin_spec.specs.Lent.{lent, claimOf, meaning};
 ghost use Rattle.lin_spec.specs.Equality.{equalityOf, eqOption, equal as equalTo, sameBoards, sameBoard};
 ghost use Rattle.lent.specs.Heads.{boardOf};
 ghost use Rattle.lent.specs.Checks.{verdictOf};
-ghost use Rattle.equality.specs.Parts.{Known, mostChecked, unlikeBut, sameDealt, sameTexts, samePlay};
+ghost use Rattle.compare.specs.Apart.{common};
+ghost use Rattle.equality.specs.Parts.{mostChecked, unlikeBut, sameDealt, sameTexts, samePlay};
 
 // Whether the claims are the same, or both are absent.
 fn same_claim(a: MaybeClaim, b: MaybeClaim) -> bool
@@ -60,30 +61,23 @@ fn same_dealt(head: Head, counts: &[u32; 208], head2: Head, counts2: &[u32; 208]
 }
 
 // Whether title, room and header are the same.
-fn same_texts(
-    first: usize,
-    next: &[u32],
-    text: &[u8],
-    head: Head,
-    text2: &[u8],
-    head2: Head,
-) -> bool
-    requires { ⌜ Known (now text) (now text2) first (now next) ⌝ }
+fn same_texts(first: usize, text: &[u8], head: Head, text2: &[u8], head2: Head) -> bool
+    requires { ⌜ first ≤ common (now text) (now text2) ⌝ }
     ensures { λ r. ⌜ r ≡ sameTexts (now (text .entry)) (boardOf head []) (now (text2 .entry)) (boardOf head2 []) ⌝ }
 {
     let title = head.title;
     let title2 = head2.title;
-    if !same_text(first, next, text, title, text2, title2) {
+    if !same_text(first, text, title, text2, title2) {
         return false;
     }
     let room_board = head.room_board;
     let room_board2 = head2.room_board;
-    if !same_text(first, next, text, room_board, text2, room_board2) {
+    if !same_text(first, text, room_board, text2, room_board2) {
         return false;
     }
     let board_header = head.board_header;
     let board_header2 = head2.board_header;
-    same_text(first, next, text, board_header, text2, board_header2)
+    same_text(first, text, board_header, text2, board_header2)
 }
 
 // Whether cards and claim are the same.
@@ -96,41 +90,6 @@ fn same_play(cards: &[u8], head: Head, cards2: &[u8], head2: Head) -> bool
     let claim = head.claim;
     let claim2 = head2.claim;
     same_claim(claim, claim2)
-}
-
-// Whether the first board equals the second, by what is known of where their texts differ.
-fn equal_by(
-    first: usize,
-    next: &[u32],
-    text: &[u8],
-    head: Head,
-    counts: &[u32; 208],
-    rows: &[u32],
-    cards: &[u8],
-    text2: &[u8],
-    head2: Head,
-    counts2: &[u32; 208],
-    rows2: &[u32],
-    cards2: &[u8],
-) -> bool
-    requires { ⌜ Known (now text) (now text2) first (now next) ⌝ }
-    ensures { λ r. ⌜ r ≡ equalTo (meaning (lent (now (text .entry)) (boardOf head (now (counts .entry))) (now (rows .entry)) (now (cards .entry)))) (meaning (lent (now (text2 .entry)) (boardOf head2 (now (counts2 .entry))) (now (rows2 .entry)) (now (cards2 .entry)))) ⌝ }
-{
-    let names = head.names;
-    let names2 = head2.names;
-    if !same_names(first, next, text, names, text2, names2) {
-        return false;
-    }
-    if !same_dealt(head, counts, head2, counts2) {
-        return false;
-    }
-    if !same_texts(first, next, text, head, text2, head2) {
-        return false;
-    }
-    if !same_calls(first, next, text, rows, text2, rows2) {
-        return false;
-    }
-    same_play(cards, head, cards2, head2)
 }
 
 // Whether the first board equals the second.
@@ -149,20 +108,21 @@ fn equal(
     ensures { λ r. ⌜ r ≡ equalTo (meaning (lent (now (text .entry)) (boardOf head (now (counts .entry))) (now (rows .entry)) (now (cards .entry)))) (meaning (lent (now (text2 .entry)) (boardOf head2 (now (counts2 .entry))) (now (rows2 .entry)) (now (cards2 .entry)))) ⌝ }
 {
     let first = front_of(text, rows, text2);
-    equal_by(
-        first,
-        &rows[..0],
-        text,
-        head,
-        counts,
-        rows,
-        cards,
-        text2,
-        head2,
-        counts2,
-        rows2,
-        cards2,
-    )
+    let names = head.names;
+    let names2 = head2.names;
+    if !same_names(first, text, names, text2, names2) {
+        return false;
+    }
+    if !same_dealt(head, counts, head2, counts2) {
+        return false;
+    }
+    if !same_texts(first, text, head, text2, head2) {
+        return false;
+    }
+    if !same_calls(first, text, rows, text2, rows2) {
+        return false;
+    }
+    same_play(cards, head, cards2, head2)
 }
 
 // The first of the checks that meets the call, each over both boards before the next but 6, which is over the first, whatever the deals.

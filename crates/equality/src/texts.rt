@@ -22,10 +22,10 @@ ghost use Rattle.lin_spec.specs.Records.{limit, endOf, bytesAt, optionOf};
 ghost use Rattle.lin_spec.specs.Board.{mapOption};
 ghost use Rattle.lin_spec.specs.Equality.{eqOption, eqFlag, eqCall};
 ghost use Rattle.compare.specs.Apart.{common, Apart};
-ghost use Rattle.equality.specs.Parts.{Known, callBytes, callsBytes};
+ghost use Rattle.equality.specs.Parts.{callBytes, callsBytes};
 
 // How many bytes two texts have in common from the first on; 0 where the texts of the rows are looked at one by one. Promised is what its users need: that they
-// have so many in common.
+// have at least so many in common.
 pub(crate) fn front_of(text: &[u8], rows: &[u32], text2: &[u8]) -> usize
     ensures { λ r. ⌜ r ≤ common (now (text .entry)) (now (text2 .entry)) ⌝ }
 {
@@ -35,7 +35,7 @@ pub(crate) fn front_of(text: &[u8], rows: &[u32], text2: &[u8]) -> usize
     next_apart(text, text2, 0)
 }
 
-// Whether two spans stand at one place, and end at or before another.
+// Whether two spans stand at one place, and end at or before `first`.
 fn near(first: usize, x: Span, y: Span) -> bool
     ensures { λ r. ⌜ r ≡ ((eqb (x .start) (y .start) && eqb (x .len) (y .len)) && leb (endOf x) first) ⌝ }
 {
@@ -43,8 +43,19 @@ fn near(first: usize, x: Span, y: Span) -> bool
     ((x.start == y.start) & (x.len == y.len)) & (end <= first)
 }
 
-// Whether two spans name the same bytes, by a look at these or, where the spans stand at one place, by an index of the places where the texts differ.
-fn same_compared(next: &[u32], text: &[u8], x: Span, text2: &[u8], y: Span) -> bool
+// Whether two spans name the same bytes. Those that stand at one place, among the first bytes that the texts have in common, do.
+fn same_span(first: usize, text: &[u8], x: Span, text2: &[u8], y: Span) -> bool
+    requires { ⌜ first ≤ common (now text) (now text2) ⌝ }
+    ensures { λ r. ⌜ r ≡ eqList (bytesAt (now (text .entry)) x) (bytesAt (now (text2 .entry)) y) ⌝ }
+{
+    if near(first, x, y) {
+        return true;
+    }
+    same_bytes(shown(text, x), shown(text2, y))
+}
+
+// The same, by an index of the places where the texts differ: of two spans that stand at one place it tells whether such a place lies in them.
+fn same_indexed(next: &[u32], text: &[u8], x: Span, text2: &[u8], y: Span) -> bool
     requires { ⌜ Apart (now text) (now text2) (now next) ⌝ }
     ensures { λ r. ⌜ r ≡ eqList (bytesAt (now (text .entry)) x) (bytesAt (now (text2 .entry)) y) ⌝ }
 {
@@ -55,32 +66,20 @@ fn same_compared(next: &[u32], text: &[u8], x: Span, text2: &[u8], y: Span) -> b
     same_bytes(shown(text, x), shown(text2, y))
 }
 
-// Whether two spans name the same bytes. Those that stand at one place, among the first bytes that the texts have in common, do.
-fn same_span(first: usize, next: &[u32], text: &[u8], x: Span, text2: &[u8], y: Span) -> bool
-    requires { ⌜ Known (now text) (now text2) first (now next) ⌝ }
-    ensures { λ r. ⌜ r ≡ eqList (bytesAt (now (text .entry)) x) (bytesAt (now (text2 .entry)) y) ⌝ }
-{
-    if near(first, x, y) {
-        return true;
-    }
-    same_compared(next, text, x, text2, y)
-}
-
 // Whether the names of each seat are the same.
 pub(crate) fn same_names(
     first: usize,
-    next: &[u32],
     text: &[u8],
     names: [Span; 4],
     text2: &[u8],
     names2: [Span; 4],
 ) -> bool
-    requires { ⌜ Known (now text) (now text2) first (now next) ⌝ }
+    requires { ⌜ first ≤ common (now text) (now text2) ⌝ }
     ensures { λ r. ⌜ r ≡ eqAll eqList (map (bytesAt (now (text .entry))) names) (map (bytesAt (now (text2 .entry))) names2) ⌝ }
 {
     let mut seat = 0;
     while seat < 4 {
-        if !same_span(first, next, text, names[seat], text2, names2[seat]) {
+        if !same_span(first, text, names[seat], text2, names2[seat]) {
             return false;
         }
         seat += 1;
@@ -89,15 +88,8 @@ pub(crate) fn same_names(
 }
 
 // Whether two texts are the same, or both are absent.
-pub(crate) fn same_text(
-    first: usize,
-    next: &[u32],
-    text: &[u8],
-    x: MaybeSpan,
-    text2: &[u8],
-    y: MaybeSpan,
-) -> bool
-    requires { ⌜ Known (now text) (now text2) first (now next) ⌝ }
+pub(crate) fn same_text(first: usize, text: &[u8], x: MaybeSpan, text2: &[u8], y: MaybeSpan) -> bool
+    requires { ⌜ first ≤ common (now text) (now text2) ⌝ }
     ensures { λ r. ⌜ r ≡ eqOption eqList (mapOption (bytesAt (now (text .entry))) (optionOf x)) (mapOption (bytesAt (now (text2 .entry))) (optionOf y)) ⌝ }
 {
     match x {
@@ -107,7 +99,7 @@ pub(crate) fn same_text(
         },
         MaybeSpan::Present(a) => match y {
             MaybeSpan::Absent => false,
-            MaybeSpan::Present(b) => same_span(first, next, text, a, text2, b),
+            MaybeSpan::Present(b) => same_span(first, text, a, text2, b),
         },
     }
 }
@@ -123,8 +115,8 @@ fn same_flag(a: u32, b: u32) -> bool
 }
 
 // Whether two calls have the same annotation, or none.
-fn same_annotation(first: usize, next: &[u32], text: &[u8], c: Call, text2: &[u8], d: Call) -> bool
-    requires { ⌜ Known (now text) (now text2) first (now next) ⌝ }
+fn same_annotation(next: &[u32], text: &[u8], c: Call, text2: &[u8], d: Call) -> bool
+    requires { ⌜ Apart (now text) (now text2) (now next) ⌝ }
     ensures { λ r. ⌜ r ≡ eqOption eqList (callBytes (now (text .entry)) c .annotation) (callBytes (now (text2 .entry)) d .annotation) ⌝ }
 {
     if c.annotated == 0 {
@@ -133,21 +125,21 @@ fn same_annotation(first: usize, next: &[u32], text: &[u8], c: Call, text2: &[u8
     if d.annotated == 0 {
         return false;
     }
-    same_span(first, next, text, c.annotation, text2, d.annotation)
+    same_indexed(next, text, c.annotation, text2, d.annotation)
 }
 
 // Whether two calls have the same bid, are both alerted or neither, and have the same annotation or none.
-fn same_call(first: usize, next: &[u32], text: &[u8], c: Call, text2: &[u8], d: Call) -> bool
-    requires { ⌜ Known (now text) (now text2) first (now next) ⌝ }
+fn same_call(next: &[u32], text: &[u8], c: Call, text2: &[u8], d: Call) -> bool
+    requires { ⌜ Apart (now text) (now text2) (now next) ⌝ }
     ensures { λ r. ⌜ r ≡ eqCall (callBytes (now (text .entry)) c) (callBytes (now (text2 .entry)) d) ⌝ }
 {
-    if !same_span(first, next, text, c.bid, text2, d.bid) {
+    if !same_indexed(next, text, c.bid, text2, d.bid) {
         return false;
     }
     if !same_flag(c.alerted, d.alerted) {
         return false;
     }
-    same_annotation(first, next, text, c, text2, d)
+    same_annotation(next, text, c, text2, d)
 }
 
 // Whether two lists have the same words.
@@ -167,15 +159,8 @@ pub(crate) fn same_words(a: &[u32], b: &[u32]) -> bool
 }
 
 // Whether there are as many calls, and each is the same.
-fn each_same(
-    first: usize,
-    next: &[u32],
-    text: &[u8],
-    rows: &[u32],
-    text2: &[u8],
-    rows2: &[u32],
-) -> bool
-    requires { ⌜ Known (now text) (now text2) first (now next) ⌝ }
+fn each_same(next: &[u32], text: &[u8], rows: &[u32], text2: &[u8], rows2: &[u32]) -> bool
+    requires { ⌜ Apart (now text) (now text2) (now next) ⌝ }
     ensures { λ r. ⌜ r ≡ eqAll eqCall (callsBytes (now (text .entry)) (now (rows .entry))) (callsBytes (now (text2 .entry)) (now (rows2 .entry))) ⌝ }
 {
     if rows.len() / 6 != rows2.len() / 6 {
@@ -183,14 +168,7 @@ fn each_same(
     }
     let mut i = 0;
     while 6 <= rows.len() - i {
-        if !same_call(
-            first,
-            next,
-            text,
-            call_at(rows, i),
-            text2,
-            call_at(rows2, i),
-        ) {
+        if !same_call(next, text, call_at(rows, i), text2, call_at(rows2, i)) {
             return false;
         }
         i += 6;
@@ -199,53 +177,42 @@ fn each_same(
 }
 
 // Whether the calls are the same, with a word for each block of the texts: no two texts at one place are compared for longer than a block.
-fn calls_by_blocks(first: usize, text: &[u8], rows: &[u32], text2: &[u8], rows2: &[u32]) -> bool
-    requires { ⌜ (first ≤ common (now text) (now text2)) × (length (now text) ≤ limit) ⌝ }
+fn calls_by_blocks(text: &[u8], rows: &[u32], text2: &[u8], rows2: &[u32]) -> bool
+    requires { ⌜ length (now text) ≤ limit ⌝ }
     ensures { λ r. ⌜ r ≡ eqAll eqCall (callsBytes (now (text .entry)) (now (rows .entry))) (callsBytes (now (text2 .entry)) (now (rows2 .entry))) ⌝ }
 {
     let mut next = [0u32; 1025];
     index_apart(text, text2, &mut next);
-    each_same(first, &next, text, rows, text2, rows2)
+    each_same(&next, text, rows, text2, rows2)
 }
 
-// The same, of texts that may differ anywhere. The index of all blocks is made only where the text is long and the rows have more bytes than it. (A text that is
-// too long was refused before.)
-fn calls_apart(
-    first: usize,
-    next: &[u32],
-    text: &[u8],
-    rows: &[u32],
-    text2: &[u8],
-    rows2: &[u32],
-) -> bool
-    requires { ⌜ Known (now text) (now text2) first (now next) ⌝ }
+// The same, of texts that may differ anywhere. The index is made only where the text is longer than a block and the rows have more bytes than it; else there is
+// none. (A text that is too long was refused before.)
+fn calls_apart(text: &[u8], rows: &[u32], text2: &[u8], rows2: &[u32]) -> bool
     ensures { λ r. ⌜ r ≡ eqAll eqCall (callsBytes (now (text .entry)) (now (rows .entry))) (callsBytes (now (text2 .entry)) (now (rows2 .entry))) ⌝ }
 {
     if (1024 < text.len()) & (text.len() <= LIMIT) {
         if spans_pass(text.len(), rows) {
-            return calls_by_blocks(first, text, rows, text2, rows2);
+            return calls_by_blocks(text, rows, text2, rows2);
         }
     }
-    each_same(first, next, text, rows, text2, rows2)
+    each_same(&rows[..0], text, rows, text2, rows2)
 }
 
 // The same. Those of the same rows over the same text are the same.
 pub(crate) fn same_calls(
     first: usize,
-    next: &[u32],
     text: &[u8],
     rows: &[u32],
     text2: &[u8],
     rows2: &[u32],
 ) -> bool
-    requires { ⌜ Known (now text) (now text2) first (now next) ⌝ }
+    requires { ⌜ first ≤ common (now text) (now text2) ⌝ }
     ensures { λ r. ⌜ r ≡ eqAll eqCall (callsBytes (now (text .entry)) (now (rows .entry))) (callsBytes (now (text2 .entry)) (now (rows2 .entry))) ⌝ }
 {
-    if first < text.len() {
-        return calls_apart(first, next, text, rows, text2, rows2);
-    }
-    if (text.len() == text2.len()) & same_words(rows, rows2) {
+    let alike = (first == text.len()) & (first == text2.len());
+    if alike & same_words(rows, rows2) {
         return true;
     }
-    each_same(first, next, text, rows, text2, rows2)
+    calls_apart(text, rows, text2, rows2)
 }

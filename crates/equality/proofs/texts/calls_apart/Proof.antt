@@ -7,6 +7,7 @@ use borrow.Author.Needs.{needs}
 use borrow.Author.Tests.{leb-true}
 use Rattle.lin_spec.specs.Records.{limit}
 use Rattle.lin_spec.proofs.Base.{and-right}
+use Rattle.compare.proofs.ApartLaws.{apart-none}
 use Rattle.equality.proofs.texts.calls_apart.Statement.{statement}
 use Rattle.equality.proofs.texts.calls_apart.Tie as tie
 
@@ -15,15 +16,18 @@ spans-pass-requires c κs = search needs
 
 calls-by-blocks-requires : tie.Need-calls-by-blocks-requires
 calls-by-blocks-requires c κs =
-    let b = c .before .before .before .before .before .before .before .before in
+    let b = c .before .before .before .before .before .before .before in
     let n = length (now (b .args .text)) in
-    (b .pre .0, leb-true n limit (and-right (ltb 1024 n) (leb n limit) (c .before .before .if1 .taken)))
+    leb-true n limit (and-right (ltb 1024 n) (leb n limit) (c .before .before .if1 .taken))
 
 returns : tie.Need-returns
 returns c = search needs
 
+slice-aggregate-each-same : tie.Need-slice-aggregate-each-same
+slice-aggregate-each-same c = search needs
+
 each-same-requires : tie.Need-each-same-requires
-each-same-requires c κs = search needs
+each-same-requires c κs = apart-none _ _
 
 returns-2 : tie.Need-returns-2
 returns-2 c = search needs
@@ -35,5 +39,6 @@ calls-apart-spec =
     spans-pass-requires
     calls-by-blocks-requires
     returns
+    slice-aggregate-each-same
     each-same-requires
     returns-2)

@@ -8,10 +8,10 @@ use Rattle.equality.proofs.texts.each_same.Statement.{statement}
 use Rattle.equality.proofs.texts.each_same.Tie as tie
 
 abbrev Inv-loop : tie.InvT-loop
-Inv-loop first next text rows text2 rows2 i₀ i = Rows text rows text2 rows2 i
+Inv-loop next text rows text2 rows2 i₀ i = Rows text rows text2 rows2 i
 
 abbrev μ-loop : tie.MeasureT-loop
-μ-loop first next text rows text2 rows2 i₀ i = length rows - i
+μ-loop next text rows text2 rows2 i₀ i = length rows - i
 
 returns : tie.Need-returns Inv-loop μ-loop
 returns c = rows-differ _ _ _ _ (c .if1 .taken)
@@ -35,7 +35,7 @@ returns-2 : tie.Need-returns-2 Inv-loop μ-loop
 returns-2 c = row-differs _ _ _ _ _ (c .before .before .before .before .before .loop .inv) (c .before .before .before .before .loop-test .taken) _ (c .before .before .before .call-at .ensures) _ (c .before .before .call-at2 .ensures) _ (c .before .same-call .ensures) (c .if2 .taken)
 
 add-i : tie.Need-add-i Inv-loop μ-loop
-add-i c = omega (arith, c .before .before .before .before .before .before .before .before .before .before .before .before .good .1 .1 .1 .0)
+add-i c = omega (arith, c .before .before .before .before .before .before .before .before .before .before .before .before .good .1 .1 .0)
 
 loop-less : tie.Need-loop-less Inv-loop μ-loop
 loop-less c = omega arith

@@ -12,11 +12,11 @@ returns c = let a = c .before .before .before .before .before .before .args in b
 returns-2 : tie.Need-returns-2
 returns-2 c = let a = c .before .before .before .before .before .before .before .args in bare-right (now (a .text)) (a .c) (now (a .text2)) (a .d) (c .before .before .if1 .left) (c .if2 .taken)
 
-same-span-requires : tie.Need-same-span-requires
-same-span-requires c κs = search needs
+same-indexed-requires : tie.Need-same-indexed-requires
+same-indexed-requires c κs = search needs
 
 returns-3 : tie.Need-returns-3
-returns-3 c = let a = c .before .before .before .before .before .before .before .before .args in both-annotated (now (a .text)) (a .c) (now (a .text2)) (a .d) (c .before .before .before .if1 .left) (c .before .if2 .left) _ (c .same-span .ensures)
+returns-3 c = let a = c .before .before .before .before .before .before .before .before .args in both-annotated (now (a .text)) (a .c) (now (a .text2)) (a .d) (c .before .before .before .if1 .left) (c .before .if2 .left) _ (c .same-indexed .ensures)
 
 pub same-annotation-spec : {M : Type 1} → statement M
-same-annotation-spec = tie.close (tie.spec returns returns-2 same-span-requires returns-3)
+same-annotation-spec = tie.close (tie.spec returns returns-2 same-indexed-requires returns-3)

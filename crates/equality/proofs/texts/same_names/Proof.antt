@@ -13,10 +13,10 @@ use Rattle.equality.proofs.texts.same_names.Statement.{statement}
 use Rattle.equality.proofs.texts.same_names.Tie as tie
 
 abbrev Inv-loop : tie.InvT-loop
-Inv-loop first next text text2 names names2 seat₀ seat = (eqAll eqList (map (bytesAt text) (drop seat names)) (map (bytesAt text2) (drop seat names2)) ≡ eqAll eqList (map (bytesAt text) names) (map (bytesAt text2) names2)) × (length names ≡ 4) × (length names2 ≡ 4)
+Inv-loop first text text2 names names2 seat₀ seat = (eqAll eqList (map (bytesAt text) (drop seat names)) (map (bytesAt text2) (drop seat names2)) ≡ eqAll eqList (map (bytesAt text) names) (map (bytesAt text2) names2)) × (length names ≡ 4) × (length names2 ≡ 4)
 
 abbrev μ-loop : tie.MeasureT-loop
-μ-loop first next text text2 names names2 seat₀ seat = 4 - seat
+μ-loop first text text2 names names2 seat₀ seat = 4 - seat
 
 loop-holds : tie.Need-loop-holds Inv-loop μ-loop
 loop-holds c = (refl, search needs, search needs)
@@ -34,7 +34,7 @@ array-copy-out-same-span-2 : tie.Need-array-copy-out-same-span-2 Inv-loop μ-loo
 array-copy-out-same-span-2 c = search needs
 
 same-span-requires : tie.Need-same-span-requires Inv-loop μ-loop
-same-span-requires c κs = c .before .before .before .before .before .before .before .pre
+same-span-requires c κs = c .before .before .before .before .before .before .pre
 
 returns : tie.Need-returns Inv-loop μ-loop
 returns c = let v = c .before .before .before .before .before .loop .inv in names-differ _ _ _ _ (v .1) (v .2) _ (v .0) (c .before .before .before .before .loop-test .taken) _ (c .before .same-span .ensures) (c .if1 .taken)

@@ -1,4 +1,4 @@
--- `equality::same_span` meets its contract: near spans name the same bytes.
+-- `equality::same_span` meets its contract: near spans name the same bytes, and of others these are compared.
 -- Assumes nothing.
 use mathlib.Core.Path.{sym, _∙_}
 use denote.Ref.{now}
@@ -12,14 +12,20 @@ near-requires c κs = search needs
 
 returns : tie.Need-returns
 returns c =
-    let b = c .before .before .before .before .before in
-    near-span (now (b .args .text)) (now (b .args .text2)) (b .args .first) (b .pre .0) (b .args .x) (b .args .y) (sym (c .before .near .ensures) ∙ c .if1 .taken)
+    let b = c .before .before .before .before in
+    near-span (now (b .args .text)) (now (b .args .text2)) (b .args .first) (b .pre) (b .args .x) (b .args .y) (sym (c .before .near .ensures) ∙ c .if1 .taken)
 
-same-compared-requires : tie.Need-same-compared-requires
-same-compared-requires c κs = search needs
+shown-requires : tie.Need-shown-requires
+shown-requires c κs = search needs
+
+shown-requires-2 : tie.Need-shown-requires-2
+shown-requires-2 c κs = search needs
+
+same-bytes-requires : tie.Need-same-bytes-requires
+same-bytes-requires c κs = search needs
 
 returns-2 : tie.Need-returns-2
-returns-2 c = search needs
+returns-2 c = rw (c .before .before .shown .ensures, c .before .shown2 .ensures) at (c .same-bytes .ensures)
 
 pub same-span-spec : {M : Type 1} → statement M
-same-span-spec = tie.close (tie.spec near-requires returns same-compared-requires returns-2)
+same-span-spec = tie.close (tie.spec near-requires returns shown-requires shown-requires-2 same-bytes-requires returns-2)

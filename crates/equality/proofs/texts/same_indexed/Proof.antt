@@ -1,11 +1,11 @@
--- `equality::same_compared` meets its contract: what is compared is what the spans name.
+-- `equality::same_indexed` meets its contract: what is compared is what the spans name.
 -- Assumes nothing.
 use native.Mathlib.Omega.{arith}
 use denote.Ref.{now}
 use borrow.Author.Needs.{needs}
 use Rattle.equality.proofs.EqualityLaws.{place-same}
-use Rattle.equality.proofs.texts.same_compared.Statement.{statement}
-use Rattle.equality.proofs.texts.same_compared.Tie as tie
+use Rattle.equality.proofs.texts.same_indexed.Statement.{statement}
+use Rattle.equality.proofs.texts.same_indexed.Tie as tie
 
 cast-start : tie.Need-cast-start
 cast-start c = search needs
@@ -34,5 +34,16 @@ same-bytes-requires c κs = search needs
 returns-2 : tie.Need-returns-2
 returns-2 c = rw (c .before .before .shown .ensures, c .before .shown2 .ensures) at (c .same-bytes .ensures)
 
-pub same-compared-spec : {M : Type 1} → statement M
-same-compared-spec = tie.close (tie.spec cast-start cast-same-at add-same-at same-at-requires returns shown-requires shown-requires-2 same-bytes-requires returns-2)
+pub same-indexed-spec : {M : Type 1} → statement M
+same-indexed-spec =
+    tie.close
+    (tie.spec
+    cast-start
+    cast-same-at
+    add-same-at
+    same-at-requires
+    returns
+    shown-requires
+    shown-requires-2
+    same-bytes-requires
+    returns-2)
