@@ -161,7 +161,7 @@ module _ (s t : List ℕ) (a n : ℕ) where
   pub near-same : a + n ≤ common s t → true ≡ eqList (part s a n) (part t a n)
   near-same h = let w = within s t 0 a (omega arith) (omega arith) in span-same (omega arith)
 
-  -- or after it, within both
+  -- it ends after that place, within both
   pub span-apart : nextApart s t a < a + n → a + n ≤ length s → a + n ≤ length t → false ≡ eqList (part s a n) (part t a n)
   unfolding part
   span-apart h ls lt = sym (front n (drop a s) (drop a t) (rw length-drop (omega arith)) (rw length-drop (omega arith)) ∙ lt-leb n (common (drop a s) (drop a t)) (omega arith))

@@ -21,7 +21,7 @@ nextApart s t x = x + common (drop x s) (drop x t)
 abbrev pub Apart : (s t next : List ℕ) → Type 0
 Apart s t next = (k : ℕ) → k < length next → getD next k 0 ≡ nextApart s t (k * 1024)
 
--- both texts have sixteen bytes from the place i on, and these are the same: what follows decides
+-- s has sixteen bytes from the place i on, and t has the same: what follows decides
 pub record Sixteen (s t : List ℕ) (i : ℕ) : Type 0 where
   pub within : i + 16 ≤ length s
   pub after : nextApart s t (i + 16) ≡ nextApart s t i

@@ -1,5 +1,5 @@
 // An index of the places where two texts differ says whether a span that stands at one place in both names the same bytes, without a look at each of them: so
-// that takes time linear in the texts and the spans, however these overlap. (01: equality)
+// comparing takes time linear in the texts and the number of such spans, however they overlap. (01: equality)
 use crate::sixteens::next_apart;
 use crate::sixteens::same_bytes;
 use text::part;

@@ -117,7 +117,7 @@ pub struct Bounds {
     pub past: bool,
 }
 
-// Whether a text of a call passes the end, by one test for both texts.
+// Whether a text of a call passes the end. Both texts are looked at.
 pub fn call_past(text: &[u8], c: Call) -> bool
     ensures { λ r. ⌜ r ≡ any (passesEnd (now (text .entry))) (spansOf c) ⌝ }
 {

@@ -250,7 +250,7 @@ fn raws_pass(bytes: usize, calls: &[u32]) -> bool {
     false
 }
 
-// Whether a text that the record names is not UTF-8. Where its spans are together longer than the text, that is looked at once.
+// Whether a text that the record names is not UTF-8. Where its raw annotations, or its notes, are together longer than the text, that is looked at once.
 fn any_ill(text: &[u8], board: PbnBoard, calls: &[u32], notes: &[u32; 768]) -> bool
     requires { ⌜ length (now text) ≤ limit ⌝ }
     ensures { λ r. ⌜ r ≡ any (illSpan (now (text .entry))) (pbnSpans (pbn (now (text .entry)) board (now (calls .entry)) [] (now (notes .entry)))) ⌝ }

@@ -214,9 +214,6 @@ module _ (s next : List ℕ) (x : Indexed s next) where
   pub word-first : 0 < length next → getD next 0 0 ≡ longest s
   word-first h = x 0 h (omega arith) ∙ ill-here zero s 0 (omega arith)
 
-  pub word-within : 0 < length next → getD next 0 0 ≤ length s
-  word-within h = omega (arith, word-first h, longest-within s)
-
   module _ (a : ℕ) (h : a / 1024 + 1 < length next) (w : (a / 1024 + 1) * 1024 ≤ length s) where
     -- the word of the block that a is in, where it is not before a
     pub word-here : a ≤ getD next (a / 1024) 0 → getD next (a / 1024) 0 ≡ nextIll s a

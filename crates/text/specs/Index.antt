@@ -15,7 +15,7 @@ unfoldable pub illFrom : (turns : ℕ) → List ℕ → (x : ℕ) → ℕ
 illFrom zero s x = longest s
 illFrom (suc f) s x = pick (leb x (longest s)) (longest s) (longest s + 1 + illFrom f (drop (longest s + 1) s) (x - (longest s + 1)))
 
--- each turn passes a byte at least, so x of them are enough; the length where there is none
+-- each turn passes a byte at least, so x of them are enough. Where there is none, and x is within s, it is the length
 abbrev pub nextIll : List ℕ → (x : ℕ) → ℕ
 nextIll s x = illFrom x s x
 

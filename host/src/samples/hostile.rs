@@ -59,7 +59,7 @@ pub struct Hostile {
     pub refusal: u32,
 }
 
-/// Those whose checks take time linear in the text and the rows, and all else too.
+/// Those whose time is linear in the text and the rows.
 pub const ALL: &[Hostile] = &[
     Hostile {
         name: "append, every span the whole text",
