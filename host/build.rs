@@ -1,11 +1,12 @@
 //! Links liblin_host.a, which `rt staticlib lin_host` makes of the proved
 //! crates: that is run here unless the archive is newer than all that it is made
 //! of. The variable LIN_HOST_DIR names a folder whose archive is linked as it is.
+//! The tests are told the archive's folder as LIN_HOST_ARCHIVE_DIR.
 
 use std::{
     collections::BTreeSet,
     env, fs,
-    path::{Path, PathBuf},
+    path::{self, Path, PathBuf},
     process::Command,
     time::SystemTime,
 };
@@ -16,10 +17,13 @@ fn main() {
         Some(dir) => PathBuf::from(dir),
         None => built(),
     };
+    // the linker may be run in another folder, as for a crate that depends on this one
+    let dir = path::absolute(dir).expect("a folder");
     let archive = dir.join("liblin_host.a");
     println!("cargo:rerun-if-changed={}", archive.display());
     println!("cargo:rustc-link-search=native={}", dir.display());
     println!("cargo:rustc-link-lib=static=lin_host");
+    println!("cargo:rustc-env=LIN_HOST_ARCHIVE_DIR={}", dir.display());
 }
 
 /// The folder of the archive, once it is there and new.

@@ -1,5 +1,8 @@
 //! The exports as C sees them. A lent slice is two arguments, a pointer and a
-//! length.
+//! length. `include/lin_host.h` has the same declarations for C.
+
+#[cfg(test)]
+mod header;
 
 /// An answer or a refusal by its number.
 #[repr(C)]

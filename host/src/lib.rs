@@ -14,8 +14,6 @@
 //! read text is given as bytes, which the library checks; what it then shows of
 //! the text is `str`. Functions whose names end in `numbers`, and the types
 //! `Lent` and `Lin..`, are raw: they take and give the numbers of the exports.
-//! The other modules compare the exports with upstream and with document 01 in
-//! plain Rust.
 //!
 //! ```
 //! use lin_host_rust::{boards::Seat, files, writer::Appender, Refusal};
@@ -45,17 +43,11 @@
 
 pub mod boards;
 pub mod cards;
-pub mod compare;
-pub mod differential;
 mod ffi;
 pub mod files;
 mod gathered;
-pub mod log;
-pub mod model;
 pub mod pbn;
-pub mod samples;
 pub mod tokens;
-pub mod upstream;
 pub mod writer;
 
 pub use ffi::LinAnswer;

@@ -1,21 +1,16 @@
-//! The board reader against the oracle, and document 01's examples of it.
+//! One board from a text as Rust values: document 01's examples, the points of
+//! each field, and the refusals with what each carries.
 
 use lin_host_rust::{
     boards::{self, Board, Call, Card, Heading, Seat, Vulnerability},
-    compare, samples, Refusal, RowKind, LIMIT,
+    Refusal, RowKind, LIMIT,
 };
-use oracle::{random::Rng, records, texts};
 
-fn compared(text: &[u8]) {
-    if let Err(difference) = compare::board(text) {
-        panic!("{difference}\nfor {:?}", String::from_utf8_lossy(text));
-    }
-}
-
-/// The board of a text, which is compared with upstream's too.
+/// The board of a text. Its heading alone is the same.
 fn board(text: &str) -> Board<'_> {
-    compared(text.as_bytes());
-    boards::board(text.as_bytes()).unwrap()
+    let board = boards::board(text.as_bytes()).unwrap();
+    assert_eq!(boards::heading(text.as_bytes()), Ok(board.heading));
+    board
 }
 
 fn heading(text: &str) -> Heading<'_> {
@@ -45,13 +40,12 @@ fn lengths(heading: &Heading) -> [u64; 4] {
 #[test]
 fn nothing_read() {
     for text in ["", "a|b", "hello", "pg||", "xx|md|3SA|"] {
-        let numbers = boards::heading_numbers(text.as_bytes());
-        assert_eq!(numbers.board, lin_host_rust::model::fresh_board());
         let Board {
             heading,
             calls,
             play,
         } = board(text);
+        assert_eq!(heading, Heading::default());
         assert_eq!(heading.names, [""; 4]);
         assert_eq!(heading.dealer, Seat::North);
         assert_eq!(lengths(&heading), [0; 4]);
@@ -250,7 +244,6 @@ const TEXT: &[u8] = b"mb|p|pc|SA|mb|1C!|an|x|pc|HK|pc|D2|";
 #[test]
 fn refuses_1_then_2() {
     let refused = |text: &[u8]| {
-        compared(text);
         assert_eq!(boards::heading(text).err(), boards::board(text).err());
         boards::board(text).err()
     };
@@ -299,96 +292,35 @@ fn rows_beyond_those_needed() {
     assert_eq!(rows[..12], [3, 1, 0, 0, 0, 0, 14, 2, 1, 1, 21, 1]);
     assert_eq!(rows[12..], [7; 8]);
     assert_eq!(cards, [12, 24, 26, 8, 8]);
-    compared(TEXT);
 }
 
-// Against upstream
-
+/// A refusal gives the numbers of a fresh board, without calls and cards.
 #[test]
-fn stored_texts() {
-    for text in oracle::tokens::texts() {
-        compared(text.as_bytes());
+fn a_refusal_has_a_fresh_board() {
+    let fresh = boards::heading_numbers(b"");
+    let no_rows = || boards::parse_lin_numbers(TEXT, &mut [], &mut []);
+    for refused in [boards::heading_numbers(b"md|1|\xFF"), no_rows()] {
+        assert_ne!(refused.answer.refusal, 0);
+        assert_eq!(refused.board, fresh.board);
+        assert_eq!((refused.calls, refused.cards), (0, 0));
     }
-    oracle::utf8::texts().iter().for_each(|t| compared(t));
+    assert_eq!((fresh.answer.read(), fresh.board.dealer), (Ok(0), 2));
+    assert_eq!(fresh.board.names, [0; 8]);
+    assert_eq!(fresh.board.counts, [0; 208]);
 }
 
-#[test]
-fn short_values() {
-    for command in ["pn", "md", "sv", "mn", "qx", "ah", "mb", "an", "pc", "mc"] {
-        for value in texts::words(&["1", "S", "A", ",", "!", "+", " ", "n", "é"], 3) {
-            compared(format!("mb|p|{command}|{value}|").as_bytes());
-        }
-    }
-}
-
-/// Every character at both ends of what is trimmed.
-#[test]
-fn every_blank() {
-    let all: Vec<char> = ('\0'..=char::MAX).filter(|c| *c != '|').collect();
-    for some in all.chunks(1_000) {
-        let token = |c: &char| format!("{c}mb{c}|{c}|pc|{c}HK{c}|");
-        let text: String = some.iter().map(token).collect();
-        compared(text.as_bytes());
-    }
-    for c in all.iter().filter(|c| **c < '\u{3100}') {
-        let text = format!("md|{c}1SA,{c},|sv|{c}b{c}|mc|{c}7{c}|mb|{c}!{c}|");
-        compared(text.as_bytes());
-    }
-}
-
-#[test]
-fn random_records() {
-    let rng = &mut Rng::new(21);
-    for _ in 0..20_000 {
-        compared(samples::record(rng, 10).as_bytes());
-    }
-    for _ in 0..100 {
-        compared(samples::record(rng, 400).as_bytes());
-    }
-}
-
-#[test]
-fn realistic_texts() {
-    let rng = &mut Rng::new(22);
-    for n in 0..60 {
-        compared(records::file(rng, n % 4).as_bytes());
-        compared(records::lines(rng, n % 4).as_bytes());
-        compared(records::movie(rng, n).as_bytes());
-    }
-}
-
-#[test]
-fn damaged_records() {
-    let rng = &mut Rng::new(23);
-    for _ in 0..2_000 {
-        let text = records::file(rng, 1);
-        compared(&texts::damaged(rng, text.as_bytes(), 6));
-        let text = samples::record(rng, 10);
-        compared(&texts::damaged(rng, text.as_bytes(), 3));
-    }
-}
+// Lengths
 
 #[test]
 fn texts_at_the_limit() {
-    for unit in [
-        "mb||",
-        "pc|SA|",
-        "an|x|mb|!|",
-        "pn|a,b,c,d|",
-        "mc|7|sv|b|",
-        "|",
-    ] {
-        let mut text = unit.repeat(LIMIT / unit.len());
-        compared(text.as_bytes());
-        text += &" ".repeat(LIMIT - text.len());
-        compared(text.as_bytes());
-    }
     let calls = "mb||".repeat(LIMIT / 4);
     let read = boards::board(calls.as_bytes()).unwrap();
     assert_eq!(read.calls.len(), 262_144);
     let long = format!("md|1{}|", "SA".repeat((LIMIT - 5) / 2));
     assert_eq!(heading(&long).deal.hand(Seat::South)[12], 524_285);
 }
+
+// Cards
 
 #[test]
 fn cards_as_letters() {

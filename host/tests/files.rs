@@ -1,35 +1,35 @@
-//! The file reader and the name finder against the oracle, document 01's
-//! examples of them, and the growth of their times.
+//! Files as Rust values: count, boards by number, the board cursor and the step
+//! that reads, and the name finder, with document 01's examples and the refusals.
 
-#[path = "../src/bench/clock.rs"]
-mod clock;
-
-use clock::milliseconds;
 use lin_host_rust::{
-    boards::{Call, Seat, ROW},
-    compare,
+    boards::{self, Call, LinBoard, Seat},
     files::{self, BoardCursor, Boards, Section, Sections},
-    model, samples, Refusal, RowKind, LIMIT,
+    Refusal, RowKind, LIMIT,
 };
-use oracle::{random::Rng, records, texts};
 
-fn compared(text: &[u8]) {
-    if let Err(difference) = compare::file(text) {
-        panic!("{difference}\nfor {:?}", String::from_utf8_lossy(text));
-    }
-}
-
-/// How many boards a text has, which is compared with upstream too.
+/// How many boards a text has: as many as the cursor gives and the reader reads.
 fn count(text: &str) -> u64 {
-    compared(text.as_bytes());
-    files::count_boards(text.as_bytes()).unwrap()
+    let count = files::count_boards(text.as_bytes()).unwrap();
+    assert_eq!(parts(text).len() as u64, count);
+    count
 }
 
-/// The parts of the text that are its boards.
+/// The parts of the text that are its boards, each read the same by its number,
+/// as a text of its own, and by the step that reads.
 fn parts(text: &str) -> Vec<&str> {
-    compared(text.as_bytes());
-    let boards = Boards::open(text.as_bytes()).unwrap();
-    boards.map(|b| b.text).collect()
+    let bytes = text.as_bytes();
+    let mut reader = files::read_boards(bytes).unwrap();
+    let mut parts = Vec::new();
+    for board in files::boards(bytes).unwrap() {
+        let read = files::file_board(bytes, board.number).unwrap();
+        assert_eq!(board.board().as_ref(), Ok(&read));
+        let stepped = reader.read().unwrap();
+        assert_eq!((stepped.number, stepped.text()), (board.number, board.text));
+        assert_eq!(stepped.board(), read);
+        parts.push(board.text);
+    }
+    assert!(reader.read().is_none());
+    parts
 }
 
 // Document 01's examples
@@ -55,7 +55,6 @@ fn cases_of_files() {
 #[test]
 fn the_listed_board() {
     let text = b"qx|o1|md|3SAK,SQJ,ST9|mb|1C!|pc|SA|mc|9|";
-    compared(text);
     let board = files::file_board(text, 0).unwrap();
     assert_eq!(board.heading.dealer, Seat::North);
     assert_eq!(
@@ -66,16 +65,20 @@ fn the_listed_board() {
     assert_eq!(board.heading.claim, Some(9));
 }
 
+/// The numbers of a board before its first token, which a refusal gives.
+fn fresh() -> LinBoard {
+    boards::heading_numbers(b"").board
+}
+
 #[test]
 fn no_board_of_that_number() {
     let text = b"md|1|";
-    compared(text);
     for number in [1, 2, 1 << 32, u64::MAX] {
         let (mut rows, mut cards) = ([7; 12], [8; 3]);
         let got = files::file_board_numbers(text, number, &mut rows, &mut cards);
         let answer = got.answer;
         assert_eq!((answer.refusal, answer.kind, answer.value), (4, 0, 1));
-        assert_eq!(got.board, model::fresh_board());
+        assert_eq!(got.board, fresh());
         assert_eq!((rows, cards), ([7; 12], [8; 3]));
         assert_eq!(files::file_heading(text, number), Err(Refusal::NoBoard(1)));
     }
@@ -85,7 +88,6 @@ fn no_board_of_that_number() {
 #[test]
 fn too_few_rows() {
     let text = b"md|1|qx|b|md|2|mb|p|pc|SA|mb|1C!|an|x|pc|HK|pc|D2|";
-    compared(text);
     let few = |kind, n| Some(Refusal::TooFewRows(kind, n));
     for (words, places, refusal) in [
         (0, 0, few(RowKind::Calls, 2)),
@@ -111,10 +113,7 @@ fn too_few_rows() {
 
 #[test]
 fn refusals_in_order() {
-    let refused = |text: &[u8]| {
-        compared(text);
-        files::file_board_into(text, 9, &mut [], &mut []).err()
-    };
+    let refused = |text: &[u8]| files::file_board_into(text, 9, &mut [], &mut []).err();
     let long = Some(Refusal::TextTooLong);
     assert_eq!(refused(&vec![b' '; LIMIT + 1]), long);
     assert_eq!(refused(&vec![0xFF; LIMIT + 1]), long);
@@ -174,7 +173,6 @@ fn beginnings() {
 #[test]
 fn an_annotation_stays_in_its_part() {
     let text = "md|1|mb|p|qx|b|an|x|md|2|mb|d|an|y|";
-    compared(text.as_bytes());
     let calls = |n| files::file_board(text.as_bytes(), n).unwrap().calls;
     let call = |bid, annotation| Call {
         bid,
@@ -200,74 +198,59 @@ fn a_part_of_the_text() {
 // The cursor
 
 #[test]
-fn steps_from_any_place() {
-    let texts: [&[u8]; 8] = [
-        b"",
-        b"a|b|c",
-        b"md|1|mn|t|pn|a|qx|o|md|2|",
-        b"a\n\n md|1|\r\n \nb",
-        b"\xFFmd\xE2\x80|1|qx|\xC3|md||\xE2\x80\x80\n\xE2\x80",
-        "\u{3000}qx\u{2028}|\u{A0}|\nMD|é|".as_bytes(),
-        b"mn||mn||qx||mn||qx||qx||md||",
-        b"||||||\n||\n",
-    ];
-    for text in texts {
-        compare::visits(text).unwrap();
+fn sections_one_after_another() {
+    let text = b"mb|p|qx|a|md|1|qx|b|";
+    let mut cursor = BoardCursor::open(text).unwrap();
+    assert_eq!((cursor.place(), cursor.number()), (0, 0));
+    assert_eq!(cursor.sections(), Sections::Parts);
+    for (part, board) in [
+        (&b"mb|p|"[..], None),
+        (b"qx|a|md|1|", Some(0)),
+        (b"qx|b|", None),
+    ] {
+        let (after, section) = cursor.next(text);
+        let section: Section = section.unwrap();
+        assert_eq!((section.part.of(text), section.board), (part, board));
+        assert_eq!(section.part.start, cursor.place());
+        cursor = after;
     }
-    let rng = &mut Rng::new(31);
-    for _ in 0..300 {
-        let text = samples::file(rng, 8);
-        compare::visits(&texts::damaged(rng, text.as_bytes(), 3)).unwrap();
-    }
-}
+    assert_eq!((cursor.place(), cursor.number()), (20, 1));
+    assert_eq!(cursor.next(text), (cursor, None));
 
-#[test]
-fn sections_follow_one_another() {
-    let rng = &mut Rng::new(32);
-    for _ in 0..2_000 {
-        let text = samples::file(rng, 20);
-        let bytes = text.as_bytes();
-        let mut cursor = BoardCursor::open(bytes).unwrap();
-        assert_eq!((cursor.place(), cursor.number()), (0, 0));
-        loop {
-            let (after, section) = cursor.next(bytes);
-            let Some(Section { part, board }) = section else {
-                assert_eq!(after, cursor);
-                break;
-            };
-            let gap = u64::from(cursor.sections() == Sections::Lines);
-            assert_eq!(part.start, cursor.place());
-            assert_eq!(after.place(), part.start + part.len + gap);
-            assert!(cursor.place() < after.place());
-            assert_eq!(
-                board,
-                (after.number() > cursor.number()).then_some(cursor.number())
-            );
-            cursor = after;
-        }
-        assert_eq!(files::count_boards(bytes), Ok(cursor.number()));
+    let text = b"a\n\nb";
+    let mut cursor = BoardCursor::open(text).unwrap();
+    assert_eq!(cursor.sections(), Sections::Lines);
+    for (part, board) in [(&b"a"[..], Some(0)), (b"", None), (b"b", Some(1))] {
+        let (after, section) = cursor.next(text);
+        let section = section.unwrap();
+        assert_eq!((section.part.of(text), section.board), (part, board));
+        cursor = after;
     }
+    // one past the text's length
+    assert_eq!((cursor.place(), cursor.number()), (5, 2));
+    assert_eq!(cursor.next(text), (cursor, None));
 }
 
 // The step that reads
 
-/// The answer with so many words and places lent, which are compared with the
-/// model's too: refused, or the number of the board and the cursor after it, or
-/// none.
+/// The answer with so many words and places lent: refused, or the number of the
+/// board and the cursor after it, or none. Without a board nothing is stored.
 fn read(
     text: &[u8],
     cursor: BoardCursor,
     lent: [usize; 2],
 ) -> Result<Option<(u64, BoardCursor)>, Refusal> {
-    let lines = u32::from(cursor.sections() == Sections::Lines);
-    let standing = (cursor.place(), cursor.number(), lines);
-    compare::read_board(text, standing, lent).unwrap();
     let (mut rows, mut cards) = (vec![7; lent[0]], vec![8; lent[1]]);
-    let (after, board) = cursor.read(text, &mut rows, &mut cards)?;
-    if board.is_none() {
+    let answer = cursor.read(text, &mut rows, &mut cards);
+    let answer = answer.map(|(after, board)| (after, board.map(|b| b.number)));
+    if !matches!(answer, Ok((_, Some(_)))) {
+        assert_eq!((rows, cards), (vec![7; lent[0]], vec![8; lent[1]]));
+    }
+    let (after, number) = answer?;
+    if number.is_none() {
         assert_eq!(after, cursor);
     }
-    Ok(board.map(|b| (b.number, after)))
+    Ok(number.map(|number| (number, after)))
 }
 
 fn parts_from(at: u64, number: u64) -> BoardCursor {
@@ -282,14 +265,13 @@ fn lines_from(at: u64, number: u64) -> BoardCursor {
 fn not_read(text: &[u8], at: u64, refusal: Refusal) {
     for lines in [0, 1] {
         for lent in [[0, 0], [12, 3]] {
-            compare::read_board(text, (at, 5, lines), lent).unwrap();
             let (mut rows, mut cards) = (vec![7; lent[0]], vec![8; lent[1]]);
             let got = files::read_board_numbers(text, at, 5, lines, &mut rows, &mut cards);
             assert_eq!(got.answer.read(), Err(refusal), "{:?}", text.escape_ascii());
             let numbers = [got.number, got.start, got.stop, got.calls, got.cards];
             assert_eq!((got.found, numbers, got.heading()), (0, [0; 5], None));
             assert_eq!((got.next_at, got.next_number), (at, 5));
-            assert_eq!(got.board, model::fresh_board());
+            assert_eq!(got.board, fresh());
             assert_eq!((rows, cards), (vec![7; lent[0]], vec![8; lent[1]]));
         }
     }
@@ -404,51 +386,13 @@ fn too_long_is_refused_first() {
     assert_eq!(read(&long[1..], lines_from(0, 0), [0, 0]), Ok(None));
 }
 
-/// A walk gives the boards that the file has by number.
-#[test]
-fn walks_are_the_boards_by_number() {
-    let rng = &mut Rng::new(36);
-    for _ in 0..2_000 {
-        let text = samples::file(rng, 20);
-        let bytes = text.as_bytes();
-        let mut cursor = BoardCursor::open(bytes).unwrap();
-        let most = bytes.len() / 4;
-        let (mut rows, mut cards) = (vec![0; ROW * most], vec![0; most]);
-        for number in 0.. {
-            let (after, board) = cursor.read(bytes, &mut rows, &mut cards).unwrap();
-            let want = files::file_board(bytes, number);
-            let Some(board) = board else {
-                assert_eq!(want, Err(Refusal::NoBoard(number)));
-                break;
-            };
-            assert_eq!((board.number, Ok(board.board())), (number, want));
-            assert_eq!(board.text().as_bytes(), board.part.of(bytes));
-            // the spans are those of the whole text
-            let (mut again, mut places) = (vec![0; ROW * most], vec![0; most]);
-            let numbers = files::file_board_numbers(bytes, number, &mut again, &mut places);
-            let lines = u32::from(cursor.sections() == Sections::Lines);
-            let (at, from) = (cursor.place(), cursor.number());
-            let read = files::read_board_numbers(bytes, at, from, lines, &mut rows, &mut cards);
-            assert_eq!(read.heading(), Some(numbers));
-            let (calls, played) = (ROW * numbers.calls as usize, numbers.cards as usize);
-            assert_eq!(rows[..calls], again[..calls]);
-            assert_eq!(cards[..played], places[..played]);
-            cursor = after;
-        }
-    }
-}
-
 // The finder
 
 #[test]
 fn names() {
     let text = "pn|Ann,Bob,,Ann|md|1|qx||pn|Zoe,Bob,Cy,Di|pn|ann,Bob|md|2|";
     let text = format!("{text}qx||md|3|pn| Ann,José,Jose\u{301}|");
-    let found = |name: &str| {
-        compared(text.as_bytes());
-        compare::name(text.as_bytes(), name.as_bytes()).unwrap();
-        files::find_name(text.as_bytes(), name.as_bytes()).unwrap()
-    };
+    let found = |name: &str| files::find_name(text.as_bytes(), name.as_bytes()).unwrap();
     // at several seats a board counts once
     assert_eq!(found("Ann"), 1);
     assert_eq!(found("Bob"), 2);
@@ -470,10 +414,7 @@ fn names() {
 fn refusals_of_the_finder() {
     let long = vec![b' '; LIMIT + 1];
     let limit = vec![b' '; LIMIT];
-    let refused = |text: &[u8], name: &[u8]| {
-        compare::name(text, name).unwrap();
-        files::find_name(text, name).err()
-    };
+    let refused = |text: &[u8], name: &[u8]| files::find_name(text, name).err();
     assert_eq!(refused(b"a", &limit), None);
     assert_eq!(refused(&limit, &limit), None);
     let too_long = Some(Refusal::TextTooLong);
@@ -482,243 +423,4 @@ fn refusals_of_the_finder() {
     assert_eq!(refused(b"\xFF", &long), too_long);
     assert_eq!(refused(b"ab\xFF", b"\xFF"), Some(Refusal::NotUtf8(2)));
     assert_eq!(refused(b"ab", b"a\xC3"), Some(Refusal::NotUtf8(1)));
-}
-
-// Against upstream
-
-#[test]
-fn stored_texts() {
-    let all = [oracle::tokens::texts(), oracle::boards::texts()].concat();
-    for text in all.iter().filter(|t| t.len() < 10_000) {
-        compared(text.as_bytes());
-    }
-    oracle::utf8::texts().iter().for_each(|t| compared(t));
-}
-
-#[test]
-fn short_files() {
-    let tokens = ["qx||", "mn|t|", "pn|a|", "md|1|", "mb|p|", "\n", " |"];
-    for text in texts::words(&tokens, 5) {
-        compared(text.as_bytes());
-    }
-}
-
-#[test]
-fn random_files() {
-    let rng = &mut Rng::new(33);
-    for _ in 0..10_000 {
-        compared(samples::file(rng, 12).as_bytes());
-    }
-    for _ in 0..40 {
-        compared(samples::file(rng, 200).as_bytes());
-    }
-}
-
-#[test]
-fn realistic_files() {
-    let rng = &mut Rng::new(34);
-    for n in 0..24 {
-        compared(records::file(rng, n).as_bytes());
-        compared(records::lines(rng, n).as_bytes());
-        let some = [records::movie(rng, n), records::file(rng, 2)];
-        compared(some.concat().as_bytes());
-    }
-}
-
-#[test]
-fn damaged_files() {
-    let rng = &mut Rng::new(35);
-    for _ in 0..500 {
-        let text = records::file(rng, 3);
-        compared(&texts::damaged(rng, text.as_bytes(), 6));
-        let text = records::lines(rng, 3);
-        compared(&texts::damaged(rng, text.as_bytes(), 3));
-        let text = samples::file(rng, 16);
-        compared(&texts::damaged(rng, text.as_bytes(), 3));
-    }
-}
-
-// Growth
-
-/// The unit so many times, then blanks up to the length.
-fn repeated(unit: &str, times: usize, len: usize) -> Vec<u8> {
-    let mut text = unit.repeat(times).into_bytes();
-    assert!(text.len() <= len);
-    text.resize(len, b' ');
-    text
-}
-
-/// Counted, read and walked by the cursor, and searched: the boards and the
-/// sections.
-fn walk(text: &[u8]) -> (u64, u64) {
-    let boards = files::count_boards(text).unwrap();
-    assert_eq!(files::find_name(text, b""), Ok(boards));
-    let mut reader = files::read_boards(text).unwrap();
-    let read = std::iter::from_fn(|| reader.read().map(|b| b.number));
-    assert!(read.eq(0..boards));
-    let mut cursor = BoardCursor::open(text).unwrap();
-    for sections in 0.. {
-        let (after, section) = cursor.next(text);
-        if section.is_none() {
-            assert_eq!(cursor.number(), boards);
-            return (boards, sections);
-        }
-        cursor = after;
-    }
-    unreachable!()
-}
-
-/// The least of some times, in milliseconds.
-fn time(text: &[u8]) -> f64 {
-    let once = || {
-        let start = milliseconds();
-        walk(text);
-        milliseconds() - start
-    };
-    (0..5).map(|_| once()).fold(f64::INFINITY, f64::min)
-}
-
-/// A whole text within the bound, and twice the text in at most three times
-/// the time; a machine that is busy gets some tries.
-fn grows(unit: &str, times: usize, boards: u64, sections: u64) {
-    let whole = repeated(unit, times, LIMIT);
-    assert_eq!(walk(&whole), (boards, sections));
-    let half = repeated(unit, times / 2, LIMIT / 2);
-    let slack = 2.0;
-    let mut seen = Vec::new();
-    for _ in 0..4 {
-        let (short, long) = (time(&half), time(&whole));
-        assert!(long < 5000.0, "{long:?}");
-        if long <= 3.0 * short + slack {
-            return;
-        }
-        seen.push((short, long));
-    }
-    panic!("{unit:?}: {seen:?}");
-}
-
-/// A walk by the step that reads in which each board is asked for with no rows
-/// first, and the last step again and again: the boards, and how it ends.
-fn asked_twice(text: &[u8], lines: u32, rows: &mut [u32]) -> (u64, Result<u64, Refusal>) {
-    let (mut at, mut number) = (0, 0);
-    loop {
-        let few = files::read_board_numbers(text, at, number, lines, &mut [], &mut []);
-        let read = files::read_board_numbers(text, at, number, lines, rows, &mut []);
-        assert!(few.found == 0 || read.calls == 0);
-        if read.found == 0 {
-            assert_eq!((read.next_at, read.next_number), (at, number));
-            for _ in 0..100 {
-                let again = files::read_board_numbers(text, at, number, lines, rows, &mut []);
-                assert_eq!(again.answer, read.answer);
-            }
-            return (number, read.answer.read());
-        }
-        (at, number) = (read.next_at, read.next_number);
-    }
-}
-
-/// Such a walk over a text of the limit's length, with an end of its own, takes at
-/// most three times as long as over half of it.
-fn asked_grows(unit: &str, lines: u32, end: &[u8], boards: u64, ends: Result<u64, Refusal>) {
-    let text = |len: usize| {
-        let mut text = unit.repeat((len - end.len()) / unit.len()).into_bytes();
-        text.extend(end);
-        text
-    };
-    let (half, whole) = (text(LIMIT / 2), text(LIMIT));
-    let mut rows = vec![0; ROW * 8];
-    assert_eq!(asked_twice(&whole, lines, &mut rows), (boards, ends));
-    let mut time = |text: &[u8]| {
-        let mut once = || {
-            let start = milliseconds();
-            let _ = asked_twice(text, lines, &mut rows);
-            milliseconds() - start
-        };
-        (0..3).map(|_| once()).fold(f64::INFINITY, f64::min)
-    };
-    let mut seen = Vec::new();
-    for _ in 0..4 {
-        let (short, long) = (time(&half), time(&whole));
-        assert!(long < 5000.0, "{long:?}");
-        if long <= 3.0 * short + 2.0 {
-            return;
-        }
-        seen.push((short, long));
-    }
-    panic!("{unit:?}: {seen:?}");
-}
-
-#[test]
-fn growth_of_steps_that_are_refused_or_end() {
-    let limit = LIMIT as u64;
-    // each board is refused by 3 first
-    asked_grows("qx||md||mb||", 0, b"", limit / 12, Ok(0));
-    asked_grows("mb|p|\n", 1, b"", limit / 6, Ok(0));
-    // most sections are no boards
-    asked_grows("qx||", 0, b"qx||md||mb|p|", 1, Ok(0));
-    asked_grows(
-        "qx||qx||qx||qx||qx||qx||qx||qx||md||",
-        0,
-        b"",
-        limit / 36,
-        Ok(0),
-    );
-    asked_grows("\n\n\n\n\n\n\n\nx\n", 1, b"", limit / 10, Ok(0));
-    // the last step is refused by 2
-    asked_grows(
-        "qx||md||mb||",
-        0,
-        b"\xFF",
-        (limit - 1) / 12,
-        Err(Refusal::NotUtf8((limit - 1) / 12 * 12)),
-    );
-    asked_grows(
-        "mb|p|\n",
-        1,
-        b"x\xFF",
-        (limit - 2) / 6,
-        Err(Refusal::NotUtf8((limit - 2) / 6 * 6 + 1)),
-    );
-}
-
-#[test]
-fn growth_of_lines() {
-    grows("x\n", 500_000, 500_000, 500_001);
-    grows("\n", LIMIT, 0, LIMIT as u64 + 1);
-    grows("md||", LIMIT / 4, 1, 1);
-}
-
-#[test]
-fn growth_of_parts() {
-    grows("qx||", 250_000, 0, 250_000);
-    grows("qx||md||", 125_000, 125_000, 125_000);
-    grows("mn||qx||", 125_000, 0, 125_000);
-}
-
-#[test]
-fn growth_of_moves_back() {
-    let run = |n: usize| format!("{}qx||md||", "mn||".repeat(n));
-    grows(&run(100), 2_500, 2_500, 2_500);
-    grows(&run(10_000), 26, 26, 26);
-    grows(&run(131_000), 2, 2, 2);
-    let apart = |n: usize| format!("qx||md||{}an||", "pn||".repeat(n));
-    grows(&apart(1), 65_000, 65_000, 65_000);
-    grows(&apart(100), 2_500, 2_500, 2_500);
-    grows(&apart(10_000), 26, 26, 26);
-}
-
-#[test]
-fn texts_at_the_limit() {
-    for unit in ["mb||", "md|1SA|", "pn|a,b,c,d|", "|", "x"] {
-        compared(&repeated(unit, LIMIT / unit.len(), LIMIT));
-    }
-    let lines = repeated("x\n", 500_000, LIMIT);
-    for number in [0, 1, 499_999] {
-        let board = files::file_board(&lines, number).unwrap();
-        assert_eq!((board.heading.dealer, board.calls.len()), (Seat::North, 0));
-    }
-    let none = files::file_heading(&lines, 500_000);
-    assert_eq!(none, Err(Refusal::NoBoard(500_000)));
-    let numbers = Boards::open(&lines).unwrap().map(|b| b.number);
-    assert!(numbers.eq(0..500_000));
 }

@@ -1,22 +1,12 @@
-//! Annotations and boards made of PBN records: the oracle's records and random
-//! ones, document 01's cases, and the refusals by number and value.
+//! Boards made of PBN records and annotations as text, as Rust values: document
+//! 01's cases, and the refusals by number and value.
 
 use lin_host_rust::{
-    boards::{Card, Seat, ROW},
-    compare::{self, Sizes},
-    model,
-    pbn::{self, Bid, Call, Gathered, LinConverted, NoteWords, Notes, Record, Strain, GAP},
-    samples::pbn as samples,
+    boards::{self, Card, Seat, ROW},
+    pbn::{self, Bid, Call, Gathered, LinConverted, Notes, Record, Strain, GAP},
     tokens::Span,
-    upstream, Refusal, RowKind, LIMIT,
+    Refusal, RowKind, LIMIT,
 };
-use oracle::random::Rng;
-
-fn holds(subject: &dyn std::fmt::Debug, outcome: compare::Same) {
-    if let Err(difference) = outcome {
-        panic!("{difference}\nfor {subject:?}");
-    }
-}
 
 fn text(raw: &str, notes: &[(u8, &str)]) -> Option<String> {
     let notes: Notes = notes.iter().copied().collect();
@@ -58,35 +48,6 @@ fn cases_of_annotations() {
         ("", None),
     ] {
         assert_eq!(text(raw, &notes).as_deref(), expected, "{raw}");
-    }
-}
-
-fn lent_annotation(raw: &str, notes: &[(u8, &str)]) -> (Vec<u8>, Span, Box<NoteWords>) {
-    let mut text = raw.as_bytes().to_vec();
-    let mut words = Box::new([0; 768]);
-    for (number, note) in notes {
-        let at = 3 * usize::from(*number);
-        words[at..at + 3].copy_from_slice(&[1, text.len() as u32, note.len() as u32]);
-        text.extend(note.as_bytes());
-    }
-    (text, Span::new(0, raw.len() as u32), words)
-}
-
-#[test]
-fn stored_annotations() {
-    for (raw, notes) in oracle::annotation::all() {
-        let notes: Vec<_> = notes.iter().map(|(n, t)| (*n, t.as_str())).collect();
-        let (text, span, words) = lent_annotation(&raw, &notes);
-        holds(&raw, compare::annotations(&text, span, &words));
-    }
-}
-
-#[test]
-fn random_annotations() {
-    let mut rng = Rng::new(80);
-    for _ in 0..20_000 {
-        let (text, raw, notes) = samples::annotation(&mut rng);
-        holds(&(&text, raw), compare::annotations(&text, raw, &notes));
     }
 }
 
@@ -139,7 +100,6 @@ fn refusals_of_annotations() {
 // Records
 
 fn made(record: &Record) -> pbn::Made {
-    holds(record, compare::record(Gathered::from(record).lent()));
     pbn::from_board(record).unwrap()
 }
 
@@ -229,48 +189,24 @@ fn calls_play_and_claim() {
     }
 }
 
-#[test]
-fn stored_records() {
-    for record in oracle::pbn::all() {
-        let lent = Gathered::from(&upstream::pbn_record(&record));
-        holds(&lent, compare::record(lent.lent()));
-    }
-}
-
-#[test]
-fn random_records() {
-    let mut rng = Rng::new(81);
-    for _ in 0..6_000 {
-        let record = samples::record(&mut rng);
-        let mut lent = samples::scattered(&mut rng, &record);
-        if rng.once_in(3) {
-            (0..1 + rng.below(2)).for_each(|_| samples::fault(&mut rng, &mut lent));
-        }
-        holds(&lent, compare::record(lent.lent()));
-    }
-}
-
-/// The answer to a record that is lent with so much.
+/// The answer to a record that is lent with so many bytes, words and places. A
+/// refusal changes none of them and gives a fresh board.
 fn answer(lent: &Gathered, sizes: [usize; 3]) -> LinConverted {
     let [bytes, words, places] = sizes;
-    let sizes = Sizes {
-        bytes,
-        words,
-        places,
-    };
-    holds(&lent, compare::converted(lent.lent(), sizes));
-    let mut buffers = (vec![0; bytes], vec![0; words], vec![0; places]);
-    lent.lent()
-        .convert_numbers(&mut buffers.0, &mut buffers.1, &mut buffers.2)
+    let (mut out, mut rows, mut cards) = (vec![5; bytes], vec![6; words], vec![7; places]);
+    let lent = lent.lent();
+    let got = lent.convert_numbers(&mut out, &mut rows, &mut cards);
+    if got.heading.answer.refusal != 0 {
+        assert_eq!(got.heading.board, boards::heading_numbers(b"").board);
+        assert_eq!((got.heading.calls, got.heading.cards, got.len), (0, 0, 0));
+        assert_eq!(out, vec![5; bytes]);
+        assert_eq!((rows, cards), (vec![6; words], vec![7; places]));
+    }
+    got
 }
 
 fn refusal(lent: &Gathered, sizes: [usize; 3]) -> Option<Refusal> {
-    let got = answer(lent, sizes);
-    if got.heading.answer.refusal != 0 {
-        assert_eq!(got.heading.board, model::fresh_board());
-        assert_eq!((got.heading.calls, got.heading.cards, got.len), (0, 0, 0));
-    }
-    got.heading.answer.read().err()
+    answer(lent, sizes).heading.answer.read().err()
 }
 
 /// `1C` and `p` around calls that are dropped, with two cards.

@@ -1,81 +1,12 @@
-//! The tokenizer and the document writer against the oracle and the model.
+//! Tokens and documents as Rust values, the refusals of opening and of writing
+//! with what each carries, and refusals as numbers.
 
 use lin_host_rust::{
-    compare::{self, Same},
     tokens::{self, Cursor, Part, Span},
     LinAnswer, Refusal, RowKind, LIMIT,
 };
-use oracle::{random::Rng, records, texts};
-
-fn holds(subject: &dyn std::fmt::Debug, outcome: Same) {
-    if let Err(difference) = outcome {
-        panic!("{difference}\nfor {subject:?}");
-    }
-}
-
-fn text(text: &str) {
-    holds(&text, compare::text(text));
-}
-
-fn bytes(bytes: &[u8]) {
-    let outcome = compare::open(bytes).and_then(|()| compare::steps(bytes));
-    holds(&bytes, outcome);
-}
 
 // Tokens
-
-#[test]
-fn stored_texts() {
-    oracle::tokens::texts().iter().for_each(|t| text(t));
-}
-
-#[test]
-fn short_words() {
-    for t in texts::words(&["|", "a"], 10) {
-        text(&t);
-        bytes(t.as_bytes());
-    }
-    texts::words(&["|", "a", "é", "\n"], 6)
-        .iter()
-        .for_each(|t| text(t));
-}
-
-#[test]
-fn random_texts() {
-    let rng = &mut Rng::new(11);
-    for _ in 0..5_000 {
-        text(&texts::mixture(rng, 14));
-    }
-    for _ in 0..100 {
-        text(&texts::mixture(rng, 400));
-    }
-}
-
-#[test]
-fn realistic_texts() {
-    let rng = &mut Rng::new(12);
-    for n in 0..60 {
-        text(&records::file(rng, n % 8));
-        text(&records::lines(rng, n % 8));
-        text(&records::movie(rng, n));
-    }
-}
-
-#[test]
-fn a_text_at_the_limit() {
-    let rng = &mut Rng::new(13);
-    let mut long = records::file(rng, 300).repeat(8);
-    assert!(long.len() > LIMIT);
-    let mut end = LIMIT;
-    while !long.is_char_boundary(end) {
-        end -= 1;
-    }
-    long.truncate(end);
-    long += &" ".repeat(LIMIT - end);
-    text(&long);
-    text(&"|".repeat(LIMIT));
-    text(&"é".repeat(LIMIT / 2));
-}
 
 #[test]
 fn what_the_cursor_shows() {
@@ -95,53 +26,20 @@ fn what_the_cursor_shows() {
     );
 }
 
-// Steps on any bytes from any place
-
 #[test]
-fn every_place() {
-    oracle::utf8::texts()
-        .iter()
-        .filter(|t| t.len() < 200)
-        .for_each(|t| bytes(t));
-    oracle::tokens::texts()
-        .iter()
-        .filter(|t| t.len() < 200)
-        .for_each(|t| bytes(t.as_bytes()));
-    bytes("mn|Nguyễn €|pn|😀,é|\r\nqx|o1|\u{FEFF}md|3SA|".as_bytes());
-    bytes(b"\xFF|\x80|\xC3|\xA9|\xF0\x9F|\x98\x80||\xED\xA0\x80|");
-}
-
-#[test]
-fn random_bytes() {
-    let rng = &mut Rng::new(14);
-    for _ in 0..2_000 {
-        bytes(&texts::bytes(rng, 40));
-    }
-    for _ in 0..200 {
-        let movie = records::movie(rng, 2);
-        let text = texts::damaged(rng, movie.as_bytes(), 5);
-        holds(&text, compare::open(&text));
-        for _ in 0..50 {
-            let at = rng.below(text.len() + 5) as u64;
-            holds(&text, compare::step(&text, at));
-        }
-    }
-}
-
-#[test]
-#[ignore = "lends more than 4 GiB, though hardly any of it is held"]
-fn places_beyond_four_gib() {
-    let gib4 = 1usize << 32;
-    let mut text = vec![0u8; gib4 + 16];
-    for at in [1, 3, 10] {
-        text[gib4 + at] = b'|';
-    }
-    for at in (gib4 - 1..gib4 + 20).chain([u64::MAX as usize]) {
-        holds(&at, compare::step(&text, at as u64));
-    }
-    assert_eq!(Cursor::open(&text), Err(Refusal::TextTooLong));
-    let refused = tokens::write_document(&text, &[], Span::default(), &mut []);
-    assert_eq!(refused, Err(Refusal::TextTooLong));
+fn tokens_one_after_another() {
+    let text = b"a|b|c|d|e|";
+    let mut all = tokens::Tokens::open(text).unwrap();
+    assert_eq!(all.trailing().as_bytes(), text);
+    assert_eq!(all.next(), Some(("a", "b")));
+    assert_eq!(all.trailing(), "c|d|e|");
+    assert_eq!(all.next(), Some(("c", "d")));
+    assert_eq!((all.next(), all.next()), (None, None));
+    assert_eq!(all.trailing(), "e|");
+    assert_eq!(
+        tokens::Tokens::open(b"a|\xFF").err(),
+        Some(Refusal::NotUtf8(2))
+    );
 }
 
 // Refusals of opening
@@ -166,20 +64,34 @@ fn open_refuses_1_then_2() {
     assert_eq!(open(&bad), Err(Refusal::NotUtf8(LIMIT as u64 - 1)));
 }
 
-#[test]
-fn longest_well_formed_starts() {
-    for t in oracle::utf8::texts() {
-        holds(&t, compare::open(&t));
+// Writing
+
+/// The document that these rows are: each piece with its pipe, then the trailing
+/// text.
+fn joined(text: &[u8], rows: &[u32], trailing: Span) -> Vec<u8> {
+    let mut all = Vec::new();
+    for piece in rows[..rows.len() / 4 * 4].chunks_exact(2) {
+        all.extend(Span::new(piece[0], piece[1]).of(text));
+        all.push(b'|');
     }
+    all.extend(trailing.of(text));
+    all
 }
 
-// Refusals of writing
-
-/// The answer, the output being compared with the model's too.
+/// The answer. What is accepted stands from the output's first byte on, and no
+/// other byte is changed.
 fn write(text: &[u8], rows: &[u32], trailing: (u32, u32), len: usize) -> Result<u64, Refusal> {
     let trailing = Span::new(trailing.0, trailing.1);
-    holds(&rows, compare::document(text, rows, trailing, len));
-    tokens::write_document(text, rows, trailing, &mut vec![0; len])
+    let mut out = vec![0xA5; len];
+    let answer = tokens::write_document(text, rows, trailing, &mut out);
+    let mut want = vec![0xA5; len];
+    if let Ok(written) = answer {
+        let document = joined(text, rows, trailing);
+        assert_eq!(document.len() as u64, written);
+        want[..document.len()].copy_from_slice(&document);
+    }
+    assert!(out == want, "{rows:?}, {trailing:?}: another output");
+    answer
 }
 
 const PAST: Result<u64, Refusal> = Err(Refusal::SpanPastEnd);
@@ -318,29 +230,17 @@ fn rows_in_any_order() {
 }
 
 #[test]
-fn tokens_one_after_another() {
-    let text = b"a|b|c|d|e|";
-    let mut all = tokens::Tokens::open(text).unwrap();
-    assert_eq!(all.trailing().as_bytes(), text);
-    assert_eq!(all.next(), Some(("a", "b")));
-    assert_eq!(all.trailing(), "c|d|e|");
-    assert_eq!(all.next(), Some(("c", "d")));
-    assert_eq!((all.next(), all.next()), (None, None));
-    assert_eq!(all.trailing(), "e|");
-    assert_eq!(
-        tokens::Tokens::open(b"a|\xFF").err(),
-        Some(Refusal::NotUtf8(2))
-    );
-}
-
-#[test]
 fn documents_of_parts() {
-    for text in texts::NAMED {
+    for text in ["", "a", "a|b|", "mn|t|pn||\n", "||||", "é|ü|€|x", "a|b|c"] {
         let mut all = tokens::Tokens::open(text.as_bytes()).unwrap();
         let pairs: Vec<_> = all.by_ref().collect();
         let written = tokens::document(&pairs, all.trailing()).unwrap();
-        assert_eq!(&written, text);
+        assert_eq!(written, text);
     }
+}
+
+#[test]
+fn documents_too_long() {
     let half = "a".repeat(LIMIT / 2);
     assert_eq!(
         tokens::document(&[(&half, &half)], "b"),
@@ -349,6 +249,8 @@ fn documents_of_parts() {
     let more = Err(Refusal::OutputTooSmall(LIMIT as u64 + 2));
     assert_eq!(tokens::document(&[(&half, &half)], ""), more);
 }
+
+// Refusals as numbers
 
 #[test]
 fn refusals_by_number_and_value() {
@@ -378,5 +280,29 @@ fn refusals_by_number_and_value() {
     for refusal in all.into_iter().chain([cards]) {
         assert_eq!(LinAnswer::from(refusal).read(), Err(refusal));
         assert!(!refusal.to_string().is_empty());
+    }
+}
+
+/// Numbers that no export gives are told apart from all that one gives.
+#[test]
+fn numbers_that_are_no_answer() {
+    for [refusal, kind, value] in [
+        [0, 1, 0],
+        [1, 0, 7],
+        [2, 1, 0],
+        [3, 2, 1],
+        [5, 0, 1],
+        [6, 1, 0],
+        [8, 0, 1],
+        [9, 0, 0],
+        [u32::MAX, 0, 0],
+    ] {
+        let answer = LinAnswer {
+            refusal,
+            kind,
+            value: value.into(),
+        };
+        let read = std::panic::catch_unwind(|| answer.read());
+        assert!(read.is_err(), "{answer:?}");
     }
 }

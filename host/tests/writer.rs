@@ -1,44 +1,27 @@
-//! The writer, append, play text and equality against the oracle and the plain
-//! book, and document 01's examples of them.
+//! Boards written and appended, the play as a text and equality as Rust values:
+//! document 01's examples, the written form, and the refusals with what each
+//! carries.
 
 use lin_host_rust::{
-    boards::{self, Board, Call, Card, Heading, LinText, Seat, Vulnerability, ROW},
-    compare, files, log, model,
-    samples::{self, built, lent},
-    upstream,
-    writer::{self, Appender, Gathered, Lent},
+    boards::{self, Board, Call, Card, Heading, LinText, Seat, Vulnerability},
+    files,
+    writer::{self, Appender, Gathered},
     LinAnswer, Refusal, LIMIT,
-};
-use oracle::{
-    lin::{parse_lin, write_lin, LinData},
-    random::Rng,
-    records, texts,
 };
 
 const FRESH: &str = "mn||pn|,,,|qx||rh||md|3,,,|sv|0|\nsa|0|pg||\n";
-
-fn holds(subject: &dyn std::fmt::Debug, outcome: compare::Same) {
-    if let Err(difference) = outcome {
-        panic!("{difference}\nfor {subject:?}");
-    }
-}
-
-fn compared(lent: &Gathered) {
-    holds(lent, compare::written(lent.lent()));
-}
-
-fn gathered(board: &LinData) -> Gathered {
-    Gathered::from(&upstream::board(board))
-}
 
 fn fresh() -> Gathered {
     Gathered::from(&Board::default())
 }
 
-/// A board as a text, which is compared with upstream's too.
+/// A board as a text, which the appender gives too.
 fn text(board: &Board) -> String {
-    compared(&Gathered::from(board));
-    writer::write_lin(board).unwrap()
+    let text = writer::write_lin(board).unwrap();
+    let mut file = Appender::new(text.len());
+    assert_eq!(file.append(board), Ok(text.len() as u64));
+    assert_eq!(file.text(), text);
+    text
 }
 
 fn headed(heading: Heading) -> String {
@@ -57,7 +40,7 @@ fn answer(refusal: u32, value: u64) -> LinAnswer {
 
 #[test]
 fn a_fresh_board() {
-    assert_eq!(fresh().board, model::fresh_board());
+    assert_eq!(fresh().board, boards::heading_numbers(b"").board);
     assert_eq!(text(&Board::default()), FRESH);
     let mut out = [7; 10];
     let small = answer(7, 43);
@@ -134,7 +117,6 @@ fn east_left_out() {
     let suit = |seat: usize, suit: usize| 52 * seat + 13 * suit..52 * seat + 13 * suit + 13;
     let md = |counts| {
         let lent = counted(counts);
-        compared(&lent);
         let mut out = [0; 200];
         let n = lent.lent().write(&mut out).unwrap();
         let text = String::from_utf8(out[..n as usize].to_vec()).unwrap();
@@ -182,6 +164,60 @@ fn counts_of_32_bits() {
     );
 }
 
+#[test]
+fn every_claim_and_every_card() {
+    for claim in 0..=255 {
+        let heading = Heading {
+            claim: Some(claim),
+            ..Heading::default()
+        };
+        assert!(headed(heading).ends_with(&format!("mc|{claim}|pg||\n")));
+    }
+    for seat in Seat::ALL {
+        for card in Card::all() {
+            let mut heading = Heading::default();
+            heading.deal.add(seat, card);
+            let written = headed(heading);
+            let read = boards::board(written.as_bytes()).unwrap();
+            assert_eq!(read.heading.deal, heading.deal, "{written}");
+        }
+    }
+}
+
+// Lists of appends
+
+/// A call that is refused leaves the output and the used count, and the boards
+/// of the others are read back.
+#[test]
+fn a_list_of_appends() {
+    let read = |text: &'static str| boards::board(text.as_bytes()).unwrap();
+    let small = read("pn|Ann|md|1SA|mb|1C!|an|x|pc|SA|mc|9|");
+    let large = read("qx|o2|ah|Board 2|md|2SK,SQ|sv|b|mb|1N|mb|p|mb|p|mb|p|");
+    let mut file = Appender::new(300);
+    let mut filed = Vec::new();
+    for board in [&small, &large, &small, &large, &small, &large] {
+        let before = file.clone();
+        match file.append(board) {
+            Ok(used) => {
+                assert_eq!(used, before.used() + text(board).len() as u64);
+                filed.push(board);
+            }
+            refused => {
+                let needed = text(board).len() as u64;
+                assert_eq!(refused, Err(Refusal::OutputTooSmall(needed)));
+                assert_eq!(file, before);
+            }
+        }
+    }
+    assert!((1..6).contains(&filed.len()));
+    let found: Vec<_> = files::read_boards(file.bytes()).unwrap().collect();
+    assert_eq!(found.len(), filed.len());
+    for (board, (_, read)) in filed.into_iter().zip(&found) {
+        assert_eq!(&boards::board(text(board).as_bytes()).unwrap(), read);
+        assert_eq!(writer::same_board(board, read), Ok(true));
+    }
+}
+
 // Refusals
 
 /// A board with two names, a title and a call, whose texts fill `abécd`.
@@ -199,9 +235,9 @@ fn small() -> Gathered {
     lent
 }
 
-/// The answer of every entry that is lent this board, which is the same.
+/// The answer of every entry that is lent this board, which is the same; nothing
+/// is written.
 fn refused(lent: &Gathered) -> LinAnswer {
-    compared(lent);
     let mut out = [7; 300];
     let got = lent.lent().append_numbers(&mut out, 0);
     assert_eq!(lent.lent().write_numbers(&mut out), got);
@@ -209,6 +245,21 @@ fn refused(lent: &Gathered) -> LinAnswer {
     assert_eq!(small().lent().same_numbers(lent.lent()), got);
     assert_eq!(out, [7; 300]);
     got
+}
+
+/// No entry refuses this board: it is written, in an output that just fits too,
+/// and equals itself.
+fn accepted(lent: &Gathered) {
+    let mut out = vec![7; LIMIT];
+    let len = lent.lent().write(&mut out).unwrap();
+    let n = len as usize;
+    assert!(out[n..].iter().all(|b| *b == 7));
+    let mut fitting = vec![7; n];
+    assert_eq!(lent.lent().append(&mut fitting, 0), Ok(len));
+    assert_eq!(fitting, out[..n]);
+    let small = lent.lent().append(&mut fitting[..n - 1], 0);
+    assert_eq!(small, Err(Refusal::OutputTooSmall(len)));
+    assert_eq!(lent.lent().same(lent.lent()), Ok(true));
 }
 
 fn with(change: impl FnOnce(&mut Gathered)) -> Gathered {
@@ -219,7 +270,7 @@ fn with(change: impl FnOnce(&mut Gathered)) -> Gathered {
 
 #[test]
 fn an_accepted_board() {
-    compared(&small());
+    accepted(&small());
     assert_eq!(small().lent().same(small().lent()), Ok(true));
     let mut out = [0; 300];
     let n = small().lent().write(&mut out).unwrap() as usize;
@@ -230,7 +281,7 @@ fn an_accepted_board() {
 #[test]
 fn refuses_1() {
     let long = |len| with(|l| l.text.resize(len, b' '));
-    compared(&long(LIMIT));
+    accepted(&long(LIMIT));
     assert_eq!(refused(&long(LIMIT + 1)), answer(1, 0));
     let mut worst = long(LIMIT + 1);
     worst.cards = vec![52];
@@ -262,7 +313,7 @@ fn refuses_8() {
         let claimed = with(|l| [l.board.claimed, l.board.claim] = [1, claim]);
         assert_eq!(refused(&claimed), answer(8, 0));
         // an absent claim is not looked at
-        compared(&with(|l| l.board.claim = claim));
+        accepted(&with(|l| l.board.claim = claim));
     }
     for card in [52, 53, 255] {
         assert_eq!(refused(&with(|l| l.cards.push(card))), answer(8, 0));
@@ -284,15 +335,15 @@ fn refuses_5() {
         let title = with(|l| [l.board.title.start, l.board.title.len] = [start, len]);
         assert_eq!(refused(&title), answer(5, 0));
         // what is absent is not looked at
-        compared(&with(|l| {
+        accepted(&with(|l| {
             l.board.title.present = 0;
             [l.board.title.start, l.board.title.len] = [start, len];
         }));
-        compared(&with(|l| l.rows[3..].copy_from_slice(&[0, start, len])));
+        accepted(&with(|l| l.rows[3..].copy_from_slice(&[0, start, len])));
         // nor is a rest of fewer than six words
-        compared(&with(|l| l.rows.extend([start, len, 2, 2, start])));
+        accepted(&with(|l| l.rows.extend([start, len, 2, 2, start])));
     }
-    compared(&with(|l| l.board.names[..2].copy_from_slice(&[6, 0])));
+    accepted(&with(|l| l.board.names[..2].copy_from_slice(&[6, 0])));
 }
 
 #[test]
@@ -308,8 +359,8 @@ fn refuses_6() {
     });
     assert_eq!(refused(&both), answer(5, 0));
     // an empty span within a character is UTF-8
-    compared(&with(|l| l.board.names[6..].copy_from_slice(&[3, 0])));
-    compared(&with(|l| l.text[2] = b'|'));
+    accepted(&with(|l| l.board.names[6..].copy_from_slice(&[3, 0])));
+    assert_eq!(refused(&with(|l| l.text[2] = b'|')), answer(6, 0));
 }
 
 #[test]
@@ -353,7 +404,6 @@ fn equality_checks_both_boards_before_the_next() {
                 other
             };
             assert_eq!(a.lent().same_numbers(b.lent()), answer(first, 0));
-            holds(&(a.board, b.board), compare::equality(a.lent(), b.lent()));
         }
     }
 }
@@ -396,14 +446,16 @@ fn play_texts() {
     assert_eq!(shown(&[12, 25, 38, 51, 0]), "SA HA DA CA|S2");
     for n in 0..20_u8 {
         let cards: Vec<u8> = (0..n).map(|c| c * 11 % 52).collect();
-        let len = 3 * usize::from(n);
-        for room in len.saturating_sub(2)..len + 2 {
-            holds(&(n, room), compare::play_text(&cards, room));
-        }
+        let text = shown(&cards);
+        assert_eq!(text.len(), (3 * usize::from(n)).saturating_sub(1));
+        let mut out = vec![7; text.len() + 2];
+        let len = text.len() as u64;
+        assert_eq!(writer::play_text_numbers(&cards, &mut out), answer(0, len));
+        assert_eq!(out, [text.as_bytes(), &[7; 2]].concat());
         for place in 0..usize::from(n) {
             let mut cards = cards.clone();
             cards[place] = 52;
-            holds(&cards, compare::play_text(&cards, 0));
+            assert_eq!(writer::play_text_numbers(&cards, &mut []), answer(8, 0));
         }
     }
     let mut out = [7; 2];
@@ -420,9 +472,6 @@ fn play_texts_at_the_limit() {
     assert_eq!(fits, answer(0, 3 * most as u64 - 1));
     let over = writer::play_text_numbers(&vec![0; most + 1], &mut out);
     assert_eq!(over, answer(7, 3 * most as u64 + 2));
-    for n in most - 1..most + 3 {
-        holds(&n, compare::play_text(&vec![51; n], LIMIT + 9));
-    }
 }
 
 // Equality
@@ -439,194 +488,4 @@ fn equality_is_lopsided() {
     assert!(!same("mb|p!|", "mb|p|") && same("mb|p!!|", "mb|p!|"));
     assert!(!same("mb|p|an||", "mb|p|") && !same("mc|0|", ""));
     assert!(!same("pn|José|", "pn|Jose\u{301}|"));
-}
-
-#[test]
-fn pairs_of_boards() {
-    let rng = &mut Rng::new(41);
-    let mut equal = [0; 4];
-    for _ in 0..20_000 {
-        let (one, two) = built::pair(rng);
-        equal[usize::from(one == two) + 2 * usize::from(two == one)] += 1;
-        let (a, b) = (lent::scattered(rng, &one), lent::scattered(rng, &two));
-        holds(&(&one, &two), compare::equality(a.lent(), b.lent()));
-    }
-    assert!(equal.iter().all(|n| *n > 100), "{equal:?}");
-}
-
-// Against upstream
-
-/// The board that a text gives, lent again as the reader gave it.
-fn lent_again(bytes: &[u8]) {
-    let Ok(heading) = boards::heading(bytes) else {
-        return;
-    };
-    let mut rows = vec![0; ROW * heading.calls];
-    let mut cards = vec![0; heading.cards];
-    let board = boards::parse_lin_numbers(bytes, &mut rows, &mut cards).board;
-    let lent = Lent {
-        text: bytes,
-        board,
-        rows: &rows,
-        cards: &cards,
-    };
-    let text = std::str::from_utf8(bytes).unwrap();
-    let Ok(read) = parse_lin(text);
-    let want = write_lin(&read);
-    let mut out = vec![0; want.len()];
-    assert_eq!(lent.write(&mut out), Ok(want.len() as u64), "{text:?}");
-    assert_eq!(String::from_utf8(out).unwrap(), want);
-    assert_eq!(lent.same(gathered(&read).lent()), Ok(true));
-    holds(&text, compare::written(lent));
-}
-
-#[test]
-fn stored_texts() {
-    for text in oracle::tokens::texts() {
-        lent_again(text.as_bytes());
-    }
-}
-
-#[test]
-fn random_records() {
-    let rng = &mut Rng::new(42);
-    for _ in 0..5_000 {
-        lent_again(samples::record(rng, 10).as_bytes());
-    }
-    for n in 0..100 {
-        lent_again(samples::record(rng, 200).as_bytes());
-        lent_again(records::movie(rng, n).as_bytes());
-    }
-}
-
-#[test]
-fn realistic_boards() {
-    let rng = &mut Rng::new(43);
-    for n in 0..2_000 {
-        compared(&gathered(&records::board(rng, n)));
-    }
-}
-
-#[test]
-fn boards_built_by_hand() {
-    let rng = &mut Rng::new(44);
-    for _ in 0..20_000 {
-        let board = built::board(rng, 5, 9);
-        compared(&gathered(&board));
-        compared(&lent::scattered(rng, &board));
-    }
-    for _ in 0..50 {
-        let board = built::board(rng, 300, 300);
-        compared(&lent::scattered(rng, &board));
-    }
-}
-
-#[test]
-fn boards_with_faults() {
-    let rng = &mut Rng::new(45);
-    let mut met = [0; 9];
-    for _ in 0..20_000 {
-        let board = built::board(rng, 3, 4);
-        let mut lent = lent::scattered(rng, &board);
-        (0..1 + rng.below(3)).for_each(|_| lent::fault(rng, &mut lent));
-        let answer = lent.lent().append_numbers(&mut [0; 2_000], 0);
-        met[answer.refusal as usize] += 1;
-        compared(&lent);
-    }
-    assert!([0, 1, 5, 6, 8].iter().all(|n| met[*n] > 0), "{met:?}");
-}
-
-/// Every character in every text, cleaned as upstream cleans it.
-#[test]
-fn every_character() {
-    let Ok(fresh) = parse_lin("");
-    let all: Vec<char> = ('\0'..=char::MAX).collect();
-    for some in all.chunks(3_000) {
-        let text: String = some.iter().collect();
-        let board = LinData {
-            player_names: [(); 4].map(|()| text.clone()),
-            title: Some(text.clone()),
-            board_header: Some(text.clone()),
-            ..fresh.clone()
-        };
-        compared(&gathered(&board));
-    }
-}
-
-#[test]
-fn every_claim_and_every_card() {
-    for claim in 0..=255 {
-        let heading = Heading {
-            claim: Some(claim),
-            ..Heading::default()
-        };
-        assert!(headed(heading).ends_with(&format!("mc|{claim}|pg||\n")));
-    }
-    for seat in Seat::ALL {
-        for card in Card::all() {
-            let mut heading = Heading::default();
-            heading.deal.add(seat, card);
-            headed(heading);
-        }
-    }
-}
-
-// Lists of appends
-
-#[test]
-fn lists_of_appends() {
-    let rng = &mut Rng::new(46);
-    for _ in 0..3_000 {
-        let len = rng.below(1_500);
-        let first: Vec<u8> = (0..len).map(|_| rng.byte()).collect();
-        let list = lent::calls(rng, 8);
-        holds(&(len, &list), compare::appends(first, &list));
-    }
-}
-
-#[test]
-fn a_long_list_of_appends() {
-    let rng = &mut Rng::new(47);
-    let list: Vec<Gathered> = (1..=2_500)
-        .map(|n| gathered(&records::board(rng, n)))
-        .collect();
-    let mut log = log::Log::new(LIMIT + 1_000);
-    let mut file = Appender::new(LIMIT + 1_000);
-    for call in &list {
-        assert_eq!(file.append_lent(call.lent()), log.enter(call.lent()));
-    }
-    assert_eq!(file.bytes(), log.bytes);
-    assert!(file.bytes().len() > LIMIT - 2_000);
-    let count = log.boards.len();
-    assert!(count < list.len());
-    assert_eq!(files::count_boards(file.bytes()), Ok(count as u64));
-    for number in [0, 1, count - 1] {
-        let board = files::file_board(file.bytes(), number as u64).unwrap();
-        assert_eq!(board, upstream::board(&log.boards[number]));
-    }
-}
-
-/// What is read back is settled, and settled it stays.
-#[test]
-fn settled_boards() {
-    let rng = &mut Rng::new(48);
-    for _ in 0..5_000 {
-        let board = built::board(rng, 4, 6);
-        let settled = log::settled(&board);
-        let want = upstream::board(&settled);
-        for board in [&board, &settled] {
-            let text = writer::write_lin(&upstream::board(board)).unwrap();
-            assert_eq!(boards::board(text.as_bytes()), Ok(want.clone()));
-        }
-        assert_eq!(upstream::board(&log::settled(&settled)), want);
-    }
-}
-
-#[test]
-fn damaged_texts_of_boards() {
-    let rng = &mut Rng::new(49);
-    for _ in 0..1_000 {
-        let text = records::file(rng, 1);
-        lent_again(&texts::damaged(rng, text.as_bytes(), 4));
-    }
 }

@@ -71,7 +71,7 @@ const SUBJECTS: &[Subject] = &[
     },
 ];
 
-/// The bytes of a file that the program replay has room for.
+/// The bytes of a file that the program `test_replay` has room for.
 #[cfg(test)]
 const MOST_BYTES: usize = 1_310_720;
 
@@ -112,7 +112,7 @@ fn write(subject: &Subject, dir: &Path) -> io::Result<()> {
     Ok(())
 }
 
-/// What linlist and replay_listing are run on, and what they must print.
+/// What linlist and test_listing are run on, and what they must print.
 fn write_runs(crates: &Path) -> io::Result<()> {
     for (name, bytes) in listing::runs::files() {
         let file = crates.join(&name);
@@ -134,8 +134,8 @@ mod tests {
         let crates = Path::new(env!("CARGO_MANIFEST_DIR")).join("../crates");
         for s in SUBJECTS {
             let program = match s.name {
-                "listing" => "replay_listing",
-                _ => "replay",
+                "listing" => "test_listing",
+                _ => "test_replay",
             };
             let file = crates.join(format!("{program}/data/{}.bin", s.name));
             let stored = fs::read(&file).unwrap();

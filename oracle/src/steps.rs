@@ -1,8 +1,9 @@
-//! Files of steps, which the program `replay` does one after another: they lend
-//! texts, rows and boards, call an export, and compare. A step is a byte for what
-//! it does, a place of the program's memory in two bytes, the number of its data's
-//! bytes in one (or 255 and then the number in two), and the data. The memory is
-//! 32,768 words of 32 bits; numbers of more than a byte are little-endian.
+//! Files of steps, which the program `test_replay` does one after another: they
+//! lend texts, rows and boards, call an export, and compare. A step is a byte for
+//! what it does, a place of the program's memory in two bytes, the number of its
+//! data's bytes in one (or 255 and then the number in two), and the data. The
+//! memory is 32,768 words of 32 bits; numbers of more than a byte are
+//! little-endian.
 
 use crate::vectors::Vectors;
 

@@ -1,4 +1,4 @@
-//! Generators of texts and bytes, shared by the vectors and the host's runs.
+//! Generators of texts and bytes, shared by the vectors and the runs of `bench/`.
 
 use crate::random::Rng;
 use std::{collections::HashSet, hash::Hash};

@@ -47,19 +47,19 @@ use Rattle.document.specs.declared.tokens.Cursor.{Cursor}
 use Rattle.document.specs.declared.tokens.Opened.{Opened}
 use Rattle.document.specs.declared.tokens.Opened.the-variants.{At, Refused as Shut}
 use Rattle.lin_spec.specs.Lent.{claimOf}
-use Rattle.fields.specs.Fields.{more}
-use Rattle.board_steps.specs.Head.{freshHead, onCount, onCard, Leaves}
-use Rattle.board_steps.specs.Dealing.{held, dealtFrom}
-use Rattle.board_steps.specs.Calls.{with, callsAfter, callsFrom}
-use Rattle.board_steps.specs.Play.{before, cardsFrom, Gives as Card·Gives}
-use Rattle.board_steps.specs.Head.{boardAt}
-use Rattle.board.specs.Reader.{headOf, Places, Ample, Counted}
-use Rattle.board_steps.specs.Storing.{Fits, Stored}
-use Rattle.board_steps.specs.declared.heading.Head.{Head}
+use Rattle.board_fields.specs.Fields.{more}
+use Rattle.board_loop.specs.Head.{freshHead, onCount, onCard, Leaves}
+use Rattle.board_loop.specs.Dealing.{held, dealtFrom}
+use Rattle.board_loop.specs.Calls.{with, callsAfter, callsFrom}
+use Rattle.board_loop.specs.Play.{before, cardsFrom, GivesCard as Card·Gives}
+use Rattle.board_loop.specs.Head.{boardAt}
+use Rattle.board.specs.Reader.{withDeal, Places, Ample, CountedRows}
+use Rattle.board_loop.specs.Storing.{Fits, Stored}
+use Rattle.board_loop.specs.declared.heading.ReadHead.{ReadHead}
 use Rattle.lin_spec.specs.declared.Seat.{Seat}
-use Rattle.board_steps.specs.declared.play.NextCard.{NextCard}
-use Rattle.board_steps.proofs.DealingLaws.{dealt-last}
-use Rattle.board_steps.proofs.CallLaws.{annotated-length}
+use Rattle.board_loop.specs.declared.play.NextCard.{NextCard}
+use Rattle.board_loop.proofs.DealingLaws.{dealt-last}
+use Rattle.board_loop.proofs.CallLaws.{annotated-length}
 
 -- The calls one at a time are the board's
 
@@ -195,7 +195,7 @@ claim-is : (m : MaybeClaim) {o : Option ℕ} → claimOf m ≡ o → m ≡ claim
 claim-is NoClaim e = ap claimedOf e
 claim-is (Claimed n) e = ap claimedOf e
 
-pub with-deal : (s : List ℕ) (h : Head) (x : Seat) (d : List ℕ) → held x d ≡ dealtFrom s (optionOf (h .md))
+pub with-deal : (s : List ℕ) (h : ReadHead) (x : Seat) (d : List ℕ) → held x d ≡ dealtFrom s (optionOf (h .md))
     → record {
       verdict = Accepted;
       board =
@@ -211,7 +211,7 @@ pub with-deal : (s : List ℕ) (h : Head) (x : Seat) (d : List ℕ) → held x d
           };
       calls = h .calls;
       cards = h .cards;
-    } ≡ headOf s h
+    } ≡ withDeal s h
 with-deal s h x d e =
     λ i.
     record {
@@ -232,7 +232,7 @@ with-deal s h x d e =
     }
 
 -- the counts of a heading that was read
-module _ (s : List ℕ) (at : ℕ) (h : Head) (l : Leaves s (stream s at) h freshHead []) where
+module _ (s : List ℕ) (at : ℕ) (h : ReadHead) (l : Leaves s (stream s at) h freshHead []) where
   pub read-calls : h .calls ≡ length (boardAt s at .calls)
   unfolding boardFrom over
   read-calls = l .calls ∙ sym (calls-count s (stream s at))
@@ -241,7 +241,7 @@ module _ (s : List ℕ) (at : ℕ) (h : Head) (l : Leaves s (stream s at) h fres
   unfolding boardFrom over
   read-cards = l .cards ∙ sym (cards-count s (stream s at))
 
-  pub read-heading : headOf s h ≡ headingOf (boardAt s at)
+  pub read-heading : withDeal s h ≡ headingOf (boardAt s at)
   unfolding boardFrom over
   read-heading =
       let ts = stream s at in
@@ -264,7 +264,7 @@ module _ (s : List ℕ) (at : ℕ) (h : Head) (l : Leaves s (stream s at) h fres
         cards = read-cards i;
       }
 
-pub read-names : (s : List ℕ) (at : ℕ) (h : Head) → Leaves s (stream s at) h freshHead [] → h .names ≡ boardAt s at .names
+pub read-names : (s : List ℕ) (at : ℕ) (h : ReadHead) → Leaves s (stream s at) h freshHead [] → h .names ≡ boardAt s at .names
 unfolding boardFrom over
 read-names s at h l = l .names
 
@@ -289,13 +289,13 @@ all-cards s at d r = rw (← cards-after s (stream s at) []) (start r)
 
 -- What the checks of rows and cards give
 module _ (s : List ℕ) (at : ℕ) (rows cards : List ℕ) where
-  module _ (h : Head) (l : Leaves s (stream s at) h freshHead []) where
-    pub few-calls : length rows / 6 < h .calls → Counted s at rows cards (Refused (TooFewRows Calls (h .calls)))
+  module _ (h : ReadHead) (l : Leaves s (stream s at) h freshHead []) where
+    pub few-calls : length rows / 6 < h .calls → CountedRows s at rows cards (Refused (TooFewRows Calls (h .calls)))
     unfolding unless
     few-calls k = let e = read-calls s at h l in rw e (simp (lt-ltb (length rows / 6) (length (boardAt s at .calls)) (rw e at k)))
 
     module _ (k : h .calls ≤ length rows / 6) where
-      pub few-cards : length cards < h .cards → Counted s at rows cards (Refused (TooFewRows Cards (h .cards)))
+      pub few-cards : length cards < h .cards → CountedRows s at rows cards (Refused (TooFewRows Cards (h .cards)))
       unfolding unless
       few-cards m =
           let e = read-calls s at h l in
@@ -306,10 +306,10 @@ module _ (s : List ℕ) (at : ℕ) (rows cards : List ℕ) where
       enough m = record { calls = let e = read-calls s at h l in rw e at k; play = let d = read-cards s at h l in rw d at m }
 
   -- what the verdict says
-  pub counted : (v w : Verdict) → Counted s at rows cards v → v ≡ w → Counted s at rows cards w
-  counted v w g e = subst (Counted s at rows cards) e g
+  pub counted : (v w : Verdict) → CountedRows s at rows cards v → v ≡ w → CountedRows s at rows cards w
+  counted v w g e = subst (CountedRows s at rows cards) e g
 
-  pub rows-refused : (r : Refusal) → Counted s at rows cards (Refused r) → (x : Heading) → x ≡ refusedHeading r
+  pub rows-refused : (r : Refusal) → CountedRows s at rows cards (Refused r) → (x : Heading) → x ≡ refusedHeading r
       → record { heading = x; rows = rows; cards = cards } ≡ stored (unless (fewRows (boardAt s at) rows cards) (boardAt s at)) rows cards
   rows-refused r g x e = rw (g, e) refl
 
@@ -317,7 +317,7 @@ module _ (s : List ℕ) (at : ℕ) (rows cards : List ℕ) where
     pub fits : (at ≤ length s) × (length s < 2 ^ 32) → Fits s at rows cards
     fits w = record { within = w .0; short = w .1; calls = let a = words-length (boardAt s at .calls) in let c = m .calls in omega arith; play = m .play }
 
-    pub board-stored : (h : Head) (rows′ cards′ : List ℕ) → Stored s at rows cards h rows′ cards′ → (r : Heading) → r ≡ headOf s h
+    pub board-stored : (h : ReadHead) (rows′ cards′ : List ℕ) → Stored s at rows cards h rows′ cards′ → (r : Heading) → r ≡ withDeal s h
         → record { heading = r; rows = rows′; cards = cards′ } ≡ stored (unless (fewRows (boardAt s at) rows cards) (boardAt s at)) rows cards
     unfolding unless
     board-stored h rows′ cards′ p r e =

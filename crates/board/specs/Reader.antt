@@ -10,13 +10,13 @@ use Rattle.lin_spec.specs.Reading.{fewRows}
 use Rattle.lin_spec.specs.declared.Heading.{Heading}
 use Rattle.lin_spec.specs.declared.Verdict.{Verdict}
 use Rattle.lin_spec.specs.declared.Verdict.the-variants.{Accepted, Refused}
-use Rattle.board_steps.specs.Head.{boardAt}
-use Rattle.board_steps.specs.Dealing.{dealtFrom}
-use Rattle.board_steps.specs.declared.heading.Head.{Head}
+use Rattle.board_loop.specs.Head.{boardAt}
+use Rattle.board_loop.specs.Dealing.{dealtFrom}
+use Rattle.board_loop.specs.declared.heading.ReadHead.{ReadHead}
 
 -- a heading that was read, with dealer and deal
-abbrev pub headOf : (s : List ℕ) → Head → Heading
-headOf s h =
+abbrev pub withDeal : (s : List ℕ) → ReadHead → Heading
+withDeal s h =
     record {
       verdict = Accepted;
       board =
@@ -45,6 +45,6 @@ pub record Ample (s : List ℕ) (at : ℕ) (rows cards : List ℕ) : Type 0 wher
   pub play : length (boardAt s at .play) ≤ length cards
 
 -- refusal 3 does not meet the call, or is what it answers
-abbrev pub Counted : (s : List ℕ) (at : ℕ) (rows cards : List ℕ) → Verdict → Type 0
-Counted s at rows cards Accepted = Ample s at rows cards
-Counted s at rows cards (Refused r) = unless (fewRows (boardAt s at) rows cards) (boardAt s at) ≡ refused r
+abbrev pub CountedRows : (s : List ℕ) (at : ℕ) (rows cards : List ℕ) → Verdict → Type 0
+CountedRows s at rows cards Accepted = Ample s at rows cards
+CountedRows s at rows cards (Refused r) = unless (fewRows (boardAt s at) rows cards) (boardAt s at) ≡ refused r

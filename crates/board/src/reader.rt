@@ -1,10 +1,10 @@
 // The entries of `parse_lin`, and what they share with the reader of a file. (01: Board; File, "A heading call ..")
-use board_steps::Head;
-use board_steps::NextCard;
-use board_steps::dealt_by;
-use board_steps::next_card;
-use board_steps::read_head;
-use board_steps::read_into;
+use board_loop::NextCard;
+use board_loop::ReadHead;
+use board_loop::dealt_by;
+use board_loop::next_card;
+use board_loop::read_head;
+use board_loop::read_into;
 use document::Cursor;
 use document::Opened;
 use document::open;
@@ -23,8 +23,8 @@ ghost use lib.ListN.{length};
 ghost use Rattle.output.specs.Put.{Room, Put};
 ghost use Rattle.lin_spec.specs.Refusals.{unless};
 ghost use Rattle.lin_spec.specs.Reading.{headingOf, fewRows, Reading, stored, readHeading, readBoard};
-ghost use Rattle.board_steps.specs.Head.{boardAt};
-ghost use Rattle.board.specs.Reader.{headOf, Places, Counted};
+ghost use Rattle.board_loop.specs.Head.{boardAt};
+ghost use Rattle.board.specs.Reader.{withDeal, Places, CountedRows};
 
 // Stores every card from a place on.
 pub fn put_cards(cards: &mut [u8], text: &[u8], at: usize) -> usize
@@ -47,9 +47,9 @@ pub fn put_cards(cards: &mut [u8], text: &[u8], at: usize) -> usize
 }
 
 // A heading that was read, with dealer and deal.
-fn heading_of(text: &[u8], h: Head) -> Heading
+fn with_deal(text: &[u8], h: ReadHead) -> Heading
     requires { ⌜ length (now text) < 2 ^ 32 ⌝ }
-    ensures { λ r. ⌜ r ≡ headOf (now (text .entry)) h ⌝ }
+    ensures { λ r. ⌜ r ≡ withDeal (now (text .entry)) h ⌝ }
 {
     let mut counts = [0u32; 208];
     let md = h.md;
@@ -83,7 +83,7 @@ pub fn heading_at(text: &[u8], at: usize) -> Heading
     requires { ⌜ (at ≤ length (now text)) × (length (now text) < 2 ^ 32) ⌝ }
     ensures { λ r. ⌜ r ≡ headingOf (boardAt (now (text .entry)) at) ⌝ }
 {
-    heading_of(text, read_head(text, at))
+    with_deal(text, read_head(text, at))
 }
 
 // The names of that board alone.
@@ -95,7 +95,7 @@ pub fn names_at(text: &[u8], at: usize) -> [Span; 4]
     h.names
 }
 
-// Tests for places enough for any board of the text from a place on. Promised is what its callers need: where it says true, there are.
+// Tests for places enough for any board of the text from a place on: where it says true, there are.
 fn roomy(text: &[u8], at: usize, rows: &[u32], cards: &[u8]) -> bool
     requires { ⌜ at ≤ length (now text) ⌝ }
     ensures { λ r. ⌜ (r ≡ true → Places (length (now (text .entry)) - at) (now (rows .entry)) (now (cards .entry))) ⌝ }
@@ -107,7 +107,7 @@ fn roomy(text: &[u8], at: usize, rows: &[u32], cards: &[u8]) -> bool
 // Refusal 3, if it meets the call. Most are lent places enough for any board of the text: then nothing is counted.
 fn few_rows(text: &[u8], at: usize, rows: &[u32], cards: &[u8]) -> Verdict
     requires { ⌜ (at ≤ length (now text)) × (length (now text) < 2 ^ 32) ⌝ }
-    ensures { λ r. ⌜ Counted (now (text .entry)) at (now (rows .entry)) (now (cards .entry)) r ⌝ }
+    ensures { λ r. ⌜ CountedRows (now (text .entry)) at (now (rows .entry)) (now (cards .entry)) r ⌝ }
 {
     if roomy(text, at, rows, cards) {
         return Verdict::Accepted;
@@ -128,7 +128,7 @@ pub fn board_at(text: &[u8], at: usize, rows: &mut [u32], cards: &mut [u8]) -> H
     ensures { λ r. ⌜ _≡_ {A = Reading} (record { heading = r; rows = now (rows .exit); cards = now (cards .exit) }) (stored (unless (fewRows (boardAt (now (text .entry)) at) (now (rows .entry)) (now (cards .entry))) (boardAt (now (text .entry)) at)) (now (rows .entry)) (now (cards .entry))) ⌝ }
 {
     match few_rows(text, at, rows, cards) {
-        Verdict::Accepted => heading_of(text, read_into(text, at, rows, cards)),
+        Verdict::Accepted => with_deal(text, read_into(text, at, rows, cards)),
         Verdict::Refused(r) => Heading::refused(r),
     }
 }

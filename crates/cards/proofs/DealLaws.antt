@@ -15,7 +15,7 @@ use Rattle.lin_spec.specs.Tokens.{Pieces}
 use Rattle.lin_spec.specs.Tokens.Pieces.{end, piece}
 use Rattle.lin_spec.specs.Cursor.{findFrom}
 use Rattle.lin_spec.specs.Base.{pick}
-use Rattle.lin_spec.specs.Cards.{noCards, readHand, field, remainder, thirteens, dealOf, eastOf}
+use Rattle.lin_spec.specs.Cards.{noCards, readHand, field, unheldCards, thirteens, dealOf, eastOf}
 use Rattle.lin_spec.proofs.Base.{split}
 use Rattle.lin_spec.proofs.Records.{part-length}
 use Rattle.lin_spec.proofs.Cursor.{find-after}
@@ -63,7 +63,7 @@ fields f g h i eg eh ei =
 -- the code's test of East's field and the three lengths
 module _ (e s w n : List ℕ) (b t : Bool) (eb : b ≡ blank e) (et : t ≡ thirteens s w n) (r : List ℕ) where
   -- the test holds
-  pub east-rest : (b && t) ≡ true → r ≡ remainder s w n → r ≡ eastOf e s w n
+  pub east-rest : (b && t) ≡ true → r ≡ unheldCards s w n → r ≡ eastOf e s w n
   unfolding eastOf
   east-rest h k = let m : (blank e && thirteens s w n) ≡ true = rw (← eb, ← et) h in k ∙ simp m
 
@@ -149,7 +149,7 @@ module _ (d : List ℕ) (room : handOf d 3 ≡ noCards) where
   three = record { first = part-has 0 (omega arith); second = part-has 52 (omega arith); third = part-has 104 (omega arith) }
 
   abbrev rest : List ℕ
-  rest = remainder (handOf d 0) (handOf d 1) (handOf d 2)
+  rest = unheldCards (handOf d 0) (handOf d 1) (handOf d 2)
 
   -- the counts of the other seats stay
   kept : (x : List ℕ) (i a j : ℕ) → x ≡ paste d 156 rest i → j < 52 → a + 52 ≤ 156 → getD x (a + j) 0 ≡ getD (part d a 52) j 0

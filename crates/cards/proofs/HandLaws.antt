@@ -18,7 +18,7 @@ use Rattle.lin_spec.specs.Records.{part}
 use Rattle.lin_spec.specs.White.{lower}
 use Rattle.lin_spec.specs.Tokens.{cut}
 use Rattle.lin_spec.specs.Cursor.{findFrom}
-use Rattle.lin_spec.specs.Cards.{indexOf, field, suitOf, rankOf, cardOf, noCards, withCard, sum, handFrom, readHand, remainder}
+use Rattle.lin_spec.specs.Cards.{indexOf, field, suitOf, rankOf, cardOf, noCards, withCard, sum, handFrom, readHand, unheldCards}
 use Rattle.lin_spec.proofs.Base.{and-left, and-right, split}
 use Rattle.lin_spec.proofs.Records.{part-rest, part-length}
 use Rattle.lin_spec.proofs.Cursor.{find-here, find-next, find-after, find-within, find-end, cut-at, cut-end}
@@ -334,9 +334,9 @@ pub record Three (x y z : List ℕ) : Type 0 where
   pub third : length z ≡ 52
 
 module _ (x y z : List ℕ) (f : Three x y z) where
-  pub all : length (remainder x y z) ≡ 52
+  pub all : length (unheldCards x y z) ≡ 52
   all = remainder-length 52 x y z (f .first) (f .second) (f .third)
 
   -- one of its counts
-  pub rest-at : (i w : ℕ) → i < 52 → w ≡ pick (eqb (getD x i 0) 0 && (eqb (getD y i 0) 0 && eqb (getD z i 0) 0)) 1 0 → w ≡ getD (remainder x y z) i 0
+  pub rest-at : (i w : ℕ) → i < 52 → w ≡ pick (eqb (getD x i 0) 0 && (eqb (getD y i 0) 0 && eqb (getD z i 0) 0)) 1 0 → w ≡ getD (unheldCards x y z) i 0
   rest-at i w m k = k ∙ sym (remainder-at 52 x y z (f .first) (f .second) (f .third) i m)

@@ -1,5 +1,5 @@
 // Hands: 52 counts of a deal, from a text and from three other hands, and their length. (01: Records; Board, md)
-use crate::letters::letter;
+use crate::letters::letter_number;
 use lin_spec::Deal;
 use lin_spec::Seat;
 ghost use mathlib.Core.Path.{_≡_};
@@ -9,7 +9,7 @@ ghost use lib.ListN.{length};
 ghost use lib.Dec.{eqb};
 ghost use Rattle.lin_spec.specs.Base.{pick};
 ghost use Rattle.lin_spec.specs.Records.{part};
-ghost use Rattle.lin_spec.specs.Cards.{noCards, remainder};
+ghost use Rattle.lin_spec.specs.Cards.{noCards, unheldCards};
 ghost use Rattle.lin_spec.specs.Letters.{handLength};
 ghost use Rattle.cards.specs.Letters.{table};
 ghost use Rattle.cards.specs.Deals.{placed, handOf, Counted};
@@ -30,7 +30,7 @@ pub(crate) fn count_field(
     let mut suit: u8 = 4;
     let mut i = at;
     while i < s.len() {
-        let n = letter(letters, s[i]);
+        let n = letter_number(letters, s[i]);
         if n < 4 {
             suit = n;
             i += 1;
@@ -48,7 +48,7 @@ pub(crate) fn count_field(
 }
 
 // A count as a number of 64 bits.
-fn wide(n: u32) -> u64
+fn wide_count(n: u32) -> u64
     ensures { λ r. ⌜ (r ≡ n) × (r < 2 ^ 32) ⌝ }
 {
     n as u64
@@ -62,7 +62,7 @@ pub fn seat_sum(counts: &[u32; 208], seat: Seat) -> u64
     let mut n: u64 = 0;
     let mut c = 0;
     while c < Deal::CARDS {
-        n += wide(counts[first + c]);
+        n += wide_count(counts[first + c]);
         c += 1;
     }
     n
@@ -88,7 +88,7 @@ fn unheld(a: u32, b: u32, c: u32) -> u32
 // Counts at East's place each card that no other seat holds, once.
 pub(crate) fn count_rest(counts: &mut [u32; 208])
     requires { ⌜ handOf (now counts) 3 ≡ noCards ⌝ }
-    ensures { λ r. ⌜ now (counts .exit) ≡ placed (now (counts .entry)) 3 (remainder (handOf (now (counts .entry)) 0) (handOf (now (counts .entry)) 1) (handOf (now (counts .entry)) 2)) ⌝ }
+    ensures { λ r. ⌜ now (counts .exit) ≡ placed (now (counts .entry)) 3 (unheldCards (handOf (now (counts .entry)) 0) (handOf (now (counts .entry)) 1) (handOf (now (counts .entry)) 2)) ⌝ }
 {
     let mut c = 0;
     while c < Deal::CARDS {

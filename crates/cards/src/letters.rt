@@ -15,7 +15,7 @@ pub const LETTERS: [u8; 128] =
     *b"RRRRRRRRRRRRRRRRRRRRRRRRRRRRRRRRRRRRRRRRRRRRRRRRRREFGHIJKLRRRRRRRQRDCRRRBRNPRRRRRORAMRRRRRRRRRRRRQRDCRRRBRNPRRRRRORAMRRRRRRRRRRR";
 
 // The number of a letter, in either case, by the table: 0 to 3 for the suits S, H, D, C, 4 to 16 for the ranks 2 to 9, T, J, Q, K, A, and 17 for none.
-pub(crate) fn letter(letters: &[u8; 128], c: u8) -> u8
+pub(crate) fn letter_number(letters: &[u8; 128], c: u8) -> u8
     requires { ⌜ now letters ≡ table ⌝ }
     ensures { λ r. ⌜ (suitOf c ≡ suitIn r) × (rankOf c ≡ rankIn r) ⌝ }
 {
@@ -30,7 +30,7 @@ pub fn suit_of(c: u8) -> Lookup
     ensures { λ r. ⌜ lookupOf r ≡ suitOf c ⌝ }
 {
     let letters = LETTERS;
-    let n = letter(&letters, c);
+    let n = letter_number(&letters, c);
     if n < 4 {
         return Lookup::Found(n);
     }
@@ -42,7 +42,7 @@ pub fn rank_of(c: u8) -> Lookup
     ensures { λ r. ⌜ lookupOf r ≡ rankOf c ⌝ }
 {
     let letters = LETTERS;
-    let n = letter(&letters, c);
+    let n = letter_number(&letters, c);
     if n < 4 {
         return Lookup::Nothing;
     }
@@ -74,13 +74,13 @@ pub fn read_card(s: &[u8]) -> MaybeCard
     MaybeCard::Card(u * 13 + r)
 }
 
-// The card of two bytes by the table of letters, a suit and a rank; 52 where they are none. Promised is what its caller needs: an answer below 52 is their card.
+// The card of two bytes by the table of letters, a suit and a rank; an answer below 52 is their card, and 52 says nothing.
 pub fn card_number(letters: &[u8; 128], a: u8, b: u8) -> u8
     requires { ⌜ now letters ≡ table ⌝ }
     ensures { λ r. ⌜ (r < 52 → CardIs a b r) ⌝ }
 {
-    let u = letter(letters, a);
-    let r = letter(letters, b);
+    let u = letter_number(letters, a);
+    let r = letter_number(letters, b);
     if (u < 4) & ((4 <= r) & (r < 17)) {
         return u * 13 + (r - 4);
     }

@@ -14,9 +14,9 @@ use lib.Dec.{leb}
 use Rattle.lin_spec.specs.Base.{null, all}
 use Rattle.lin_spec.proofs.Base.{and-left, and-right, picked, split}
 use Rattle.lin_spec.specs.Board.{isDigit, allDigits, valueFrom, afterPlus, numberIn}
-use Rattle.digits.specs.Digits.{numberOf}
-use Rattle.digits.specs.declared.digits.MaybeNumber.{MaybeNumber}
-use Rattle.digits.specs.declared.digits.MaybeNumber.the-variants.{Number}
+use Rattle.digits.specs.Digits.{numberGiven}
+use Rattle.lin_spec.specs.declared.MaybeNumber.{MaybeNumber}
+use Rattle.lin_spec.specs.declared.MaybeNumber.the-variants.{Number}
 
 -- a number that is past the bound stays past it
 value-least : (n : ℕ) (s : List ℕ) → n ≤ valueFrom n s
@@ -138,5 +138,5 @@ most bound s =
     picked (Most bound) (not (null t) && (allDigits t && leb (valueFrom 0 t) bound))
     (λ e. leb-true (valueFrom 0 t) bound (and-right (allDigits t) _ (and-right (not (null t)) _ e))) (λ _. tt)
 
-pub number-most : (bound : ℕ) (s : List ℕ) (r : MaybeNumber) (n : ℕ) → numberOf r ≡ numberIn bound s → r ≡ Number n → n ≤ bound
-number-most bound s r n e f = subst (Most bound) (sym e ∙ ap numberOf f) (most bound s)
+pub number-most : (bound : ℕ) (s : List ℕ) (r : MaybeNumber) (n : ℕ) → numberGiven r ≡ numberIn bound s → r ≡ Number n → n ≤ bound
+number-most bound s r n e f = subst (Most bound) (sym e ∙ ap numberGiven f) (most bound s)

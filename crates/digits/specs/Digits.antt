@@ -1,9 +1,9 @@
 -- A number that may be missing. (01: Board, mc)
 use Prim.Native.Nat.{ℕ}
 use mathlib.Core.Option.{Option, none, some}
-use Rattle.digits.specs.declared.digits.MaybeNumber.{MaybeNumber}
-use Rattle.digits.specs.declared.digits.MaybeNumber.the-variants.{Number, Nothing}
+use Rattle.lin_spec.specs.declared.MaybeNumber.{MaybeNumber}
+use Rattle.lin_spec.specs.declared.MaybeNumber.the-variants.{Number, Absent}
 
-abbrev pub numberOf : MaybeNumber → Option ℕ
-numberOf (Number n) = some n
-numberOf Nothing = none
+abbrev pub numberGiven : MaybeNumber → Option ℕ
+numberGiven (Number n) = some n
+numberGiven Absent = none

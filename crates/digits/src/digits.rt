@@ -1,13 +1,9 @@
 // Numbers of ASCII digits, at most a bound. (01: Board, mc; annotations, "read as mc's digits")
+use lin_spec::MaybeNumber;
 ghost use mathlib.Core.Path.{_≡_};
-ghost use Prim.Native.Nat.{ℕ, _+_, _*_, _-_, _<_, min};
+ghost use Prim.Native.Nat.{_+_, _*_, _-_, _<_, min};
 ghost use Rattle.lin_spec.specs.Board.{isDigit, afterPlus, numberIn};
-ghost use Rattle.digits.specs.Digits.{numberOf};
-
-pub enum MaybeNumber {
-    Number(u32),
-    Nothing,
-}
+ghost use Rattle.digits.specs.Digits.{numberGiven};
 
 // The text without a plus sign at its front.
 fn after_plus(s: &[u8]) -> &[u8]
@@ -30,7 +26,7 @@ pub fn is_digit(b: u8) -> bool
 }
 
 // The number n with a digit behind it, or top where that is less.
-fn next_number(n: u64, b: u8, top: u64) -> u64
+fn with_digit(n: u64, b: u8, top: u64) -> u64
     requires { ⌜ (n < 4294967297) × (48 < b + 1) ⌝ }
     ensures { λ r. ⌜ r ≡ min (n * 10 + (b - 48)) top ⌝ }
 {
@@ -40,24 +36,24 @@ fn next_number(n: u64, b: u8, top: u64) -> u64
 
 // One or more digits after an optional plus sign, whose number is at most the bound.
 pub fn read_number(s: &[u8], bound: u32) -> MaybeNumber
-    ensures { λ r. ⌜ numberOf r ≡ numberIn bound (now (s .entry)) ⌝ }
+    ensures { λ r. ⌜ numberGiven r ≡ numberIn bound (now (s .entry)) ⌝ }
 {
     let t = after_plus(s);
     if t.len() == 0 {
-        return MaybeNumber::Nothing;
+        return MaybeNumber::Absent;
     }
     let top = bound as u64 + 1;
     let mut n: u64 = 0;
     let mut i = 0;
     while i < t.len() {
         if !is_digit(t[i]) {
-            return MaybeNumber::Nothing;
+            return MaybeNumber::Absent;
         }
-        n = next_number(n, t[i], top);
+        n = with_digit(n, t[i], top);
         i += 1;
     }
     if n < top {
         return MaybeNumber::Number(n as u32);
     }
-    MaybeNumber::Nothing
+    MaybeNumber::Absent
 }

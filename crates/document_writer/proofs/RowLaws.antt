@@ -19,10 +19,10 @@ use Rattle.lin_spec.proofs.Records.{part-length}
 use Rattle.text.proofs.ListLaws.{next-word}
 use Rattle.output.proofs.Laws.{Left}
 use Rattle.document_writer.specs.declared.documents.Row.{Row}
-use Rattle.document_writer.specs.Rows.{rowAt, rowOf, rowText}
+use Rattle.document_writer.specs.Rows.{documentRowAt, documentRow, tokenText}
 
 -- one row off the front
-pub rows-cons : (ws : List ℕ) (i : ℕ) → 4 ≤ length ws - i → rowsIn (drop i ws) ≡ rowAt ws i ∷ rowsIn (drop (i + 4) ws)
+pub rows-cons : (ws : List ℕ) (i : ℕ) → 4 ≤ length ws - i → rowsIn (drop i ws) ≡ documentRowAt ws i ∷ rowsIn (drop (i + 4) ws)
 unfolding rowsIn
 rows-cons ws i h =
     let a = next-word ws i (i + 1) refl (omega arith) in
@@ -46,10 +46,10 @@ rows-end ws i h = few-words (drop i ws) (rw (length-drop i ws) h)
 -- The bytes from word i on: those of its row, and the others; past the last row, the trailing text
 
 abbrev pub rowTextAt : (s ws : List ℕ) (i : ℕ) → List ℕ
-rowTextAt s ws i = rowText s (rowOf (rowAt ws i))
+rowTextAt s ws i = tokenText s (documentRow (documentRowAt ws i))
 
 pub text-cons : (s ws : List ℕ) (tr : Span) (i : ℕ) → 4 ≤ length ws - i → documentText s (drop i ws) tr ≡ rowTextAt s ws i ++ documentText s (drop (i + 4) ws) tr
-unfolding documentText write rowText
+unfolding documentText write tokenText
 text-cons s ws tr i h = simp (rows-cons ws i h, append-assoc)
 
 pub text-end : (s ws : List ℕ) (tr : Span) (i : ℕ) → length ws - i < 4 → documentText s (drop i ws) tr ≡ bytesAt s tr
@@ -58,16 +58,16 @@ text-end s ws tr i h = simp (rows-end ws i h)
 
 -- Counting
 
-pub row-long : (s : List ℕ) (r : Row) → length (rowText s r) ≡ length (bytesAt s (r .command)) + length (bytesAt s (r .value)) + 2
-unfolding rowText
+pub row-long : (s : List ℕ) (r : Row) → length (tokenText s r) ≡ length (bytesAt s (r .command)) + length (bytesAt s (r .value)) + 2
+unfolding tokenText
 row-long s r = simp length-append (omega arith)
 
 -- a turn of the count, and its end
-pub count-turn : (s ws : List ℕ) (tr : Span) (i n n′ x whole : ℕ) (r : Row) → 4 ≤ length ws - i → r ≡ rowOf (rowAt ws i)
-    → sat (n + length (documentText s (drop i ws) tr)) ≡ sat whole → x ≡ sat (length (rowText s r)) → n′ ≡ sat (n + x)
+pub count-turn : (s ws : List ℕ) (tr : Span) (i n n′ x whole : ℕ) (r : Row) → 4 ≤ length ws - i → r ≡ documentRow (documentRowAt ws i)
+    → sat (n + length (documentText s (drop i ws) tr)) ≡ sat whole → x ≡ sat (length (tokenText s r)) → n′ ≡ sat (n + x)
     → sat (n′ + length (documentText s (drop (i + 4) ws) tr)) ≡ sat whole
 count-turn s ws tr i n n′ x whole r h q e f g =
-    let l : length (rowText s r) ≡ length (rowTextAt s ws i) = ap (λ (y : Row). length (rowText s y)) q in
+    let l : length (tokenText s r) ≡ length (rowTextAt s ws i) = ap (λ (y : Row). length (tokenText s y)) q in
     omega (arith, simp length-append at (ap length (text-cons s ws tr i h)))
 
 pub count-end : (s ws : List ℕ) (tr : Span) (i r r′ whole : ℕ) → length ws - i < 4 → sat (r + length (documentText s (drop i ws) tr)) ≡ sat whole
@@ -78,7 +78,7 @@ count-end s ws tr i r r′ whole h e f = omega (arith, ap length (text-end s ws 
 
 module _ (f : Span → Bool) (ws : List ℕ) (tr : Span) (i : ℕ) where
   pub any-cons : 4 ≤ length ws - i
-      → any f (spansOf (rowsIn (drop i ws)) tr) ≡ (f (rowAt ws i .command) || (f (rowAt ws i .value) || any f (spansOf (rowsIn (drop (i + 4) ws)) tr)))
+      → any f (spansOf (rowsIn (drop i ws)) tr) ≡ (f (documentRowAt ws i .command) || (f (documentRowAt ws i .value) || any f (spansOf (rowsIn (drop (i + 4) ws)) tr)))
   unfolding spansOf any
   any-cons h = simp (rows-cons ws i h)
 
@@ -96,11 +96,11 @@ or-swap : (x t y : Bool) {w : Bool} → (x || (t || y)) ≡ w → ((x || t) || y
 or-swap true t y e = e
 or-swap false t y e = e
 
-module _ (f : Span → Bool) (ws : List ℕ) (tr : Span) (i : ℕ) (h : 4 ≤ length ws - i) (r : Row) (e : r ≡ rowOf (rowAt ws i)) (t : Bool) (et : t ≡ (f (r .command) || f (r .value))) where
+module _ (f : Span → Bool) (ws : List ℕ) (tr : Span) (i : ℕ) (h : 4 ≤ length ws - i) (r : Row) (e : r ≡ documentRow (documentRowAt ws i)) (t : Bool) (et : t ≡ (f (r .command) || f (r .value))) where
   row-any : any f (spansOf (rowsIn (drop i ws)) tr) ≡ (t || any f (spansOf (rowsIn (drop (i + 4) ws)) tr))
   row-any =
       any-cons f ws tr i h
-      ∙ or-both (f (rowAt ws i .command)) (f (rowAt ws i .value)) (any f (spansOf (rowsIn (drop (i + 4) ws)) tr))
+      ∙ or-both (f (documentRowAt ws i .command)) (f (documentRowAt ws i .value)) (any f (spansOf (rowsIn (drop (i + 4) ws)) tr))
       ∙ ap (λ (b : Bool). b || any f (spansOf (rowsIn (drop (i + 4) ws)) tr)) (sym (et ∙ ap (λ (x : Row). f (x .command) || f (x .value)) e))
 
   pub row-yes : {w : Bool} → any f (spansOf (rowsIn (drop i ws)) tr) ≡ w → t ≡ true → w ≡ true
@@ -141,7 +141,7 @@ module _ (r : Row) (p : ℕ) (t : Bool) (e : t ≡ (leb (endOf (r .command)) p &
       rw (le-ltb (length s) (endOf (r .command)) (omega arith), le-ltb (length s) (endOf (r .value)) (omega arith)) refl
 
 pub row-sized : (s : List ℕ) (r : Row) (x : ℕ) → (passesEnd s (r .command) || passesEnd s (r .value)) ≡ false → x ≡ r .command .len + r .value .len + 2 → x < 2 ^ 64
-    → x ≡ sat (length (rowText s r))
+    → x ≡ sat (length (tokenText s r))
 row-sized s r x k e l =
     let w = row-within s r k in
     let a = part-length s (r .command .start) (r .command .len) (w .0) in

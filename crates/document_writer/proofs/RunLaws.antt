@@ -16,7 +16,7 @@ use Rattle.lin_spec.proofs.Base.{and-left, and-right}
 use Rattle.output.proofs.Laws.{Left}
 use Rattle.document_writer.specs.declared.documents.Row.{Row}
 use Rattle.document_writer.specs.declared.documents.Run.{Run}
-use Rattle.document_writer.specs.Rows.{rowAt, rowOf, rowText, Stands, runText, RunAt}
+use Rattle.document_writer.specs.Rows.{documentRowAt, documentRow, tokenText, Stands, runText, RunAt}
 use Rattle.document_writer.proofs.RowLaws.{rowTextAt, text-cons}
 
 -- Parts one after the other
@@ -54,7 +54,7 @@ module _ (s : List ℕ) (at : ℕ) (r : Row) where
 
   pub stands-there : (q : ℕ) → q ≡ r .value .start + r .value .len → q < length s → (p : ℕ) → p ≡ r .command .start + r .command .len
       → r .value .start ≡ p + 1 → r .command .start ≡ at → (eqb (getD s p 0) 124 && eqb (getD s q 0) 124) ≡ true → Stands s at r (q + 1)
-  unfolding rowText
+  unfolding tokenText
   stands-there q eq h p ep ev es t =
       let m = r .command .len in
       let n = r .value .len in
@@ -77,15 +77,15 @@ module _ (s ws : List ℕ) (i : ℕ) where
     pub within : j ≤ length ws
     pub text : (tr : Span) → documentText s (drop i ws) tr ≡ part s start (stop - start) ++ documentText s (drop j ws) tr
 
-  pub run-first : 4 ≤ length ws - i → (r : Row) → r ≡ rowOf (rowAt ws i) → (start first : ℕ) → Stands s start r first → (first ≡ start → ⊥) → RunTo start first (i + 4)
+  pub run-first : 4 ≤ length ws - i → (r : Row) → r ≡ documentRow (documentRowAt ws i) → (start first : ℕ) → Stands s start r first → (first ≡ start → ⊥) → RunTo start first (i + 4)
   run-first h r e start first t k =
-      let x : rowTextAt s ws i ≡ part s start (first - start) = ap (rowText s) (sym e) ∙ t .text k in
+      let x : rowTextAt s ws i ≡ part s start (first - start) = ap (tokenText s) (sym e) ∙ t .text k in
       record { order = t .order; later = omega arith; within = omega arith; text = λ tr. text-cons s ws tr i h ∙ ap (λ (y : List ℕ). y ++ documentText s (drop (i + 4) ws) tr) x }
 
-  pub run-turn : (start stop j : ℕ) → RunTo start stop j → 4 ≤ length ws - j → (r : Row) → r ≡ rowOf (rowAt ws j) → (next : ℕ) → Stands s stop r next → (next ≡ stop → ⊥)
+  pub run-turn : (start stop j : ℕ) → RunTo start stop j → 4 ≤ length ws - j → (r : Row) → r ≡ documentRow (documentRowAt ws j) → (next : ℕ) → Stands s stop r next → (next ≡ stop → ⊥)
       → RunTo start next (j + 4)
   run-turn start stop j v h r e next t k =
-      let x : rowTextAt s ws j ≡ part s stop (next - stop) = ap (rowText s) (sym e) ∙ t .text k in
+      let x : rowTextAt s ws j ≡ part s stop (next - stop) = ap (tokenText s) (sym e) ∙ t .text k in
       let o = v .order in
       let l = v .later in
       let p = t .order in
@@ -123,6 +123,6 @@ module _ (s ws : List ℕ) (i : ℕ) where
   unfolding runText
   run-stands r e p q = p ∙ rw (q, e) refl
 
-  pub run-alone : (r : Run) → r .stands ≡ false → (y : Row) → y ≡ rowOf (rowAt ws i) → rowText s y ≡ runText s ws i r
+  pub run-alone : (r : Run) → r .stands ≡ false → (y : Row) → y ≡ documentRow (documentRowAt ws i) → tokenText s y ≡ runText s ws i r
   unfolding runText
   run-alone r e y q = rw (q, e) refl

@@ -16,26 +16,26 @@ use Rattle.document_writer.specs.declared.documents.Look.{Look}
 use Rattle.document_writer.specs.declared.documents.Look.the-variants.{Past, Ill, Need}
 
 -- the row of the four words from i on
-abbrev pub rowAt : (ws : List ℕ) (i : ℕ) → RowAt
-rowAt ws i = record { command = span (getD ws i 0) (getD ws (i + 1) 0); value = span (getD ws (i + 2) 0) (getD ws (i + 3) 0) }
+abbrev pub documentRowAt : (ws : List ℕ) (i : ℕ) → RowAt
+documentRowAt ws i = record { command = span (getD ws i 0) (getD ws (i + 1) 0); value = span (getD ws (i + 2) 0) (getD ws (i + 3) 0) }
 
-abbrev pub rowOf : RowAt → Row
-rowOf r = record { command = r .command; value = r .value }
+abbrev pub documentRow : RowAt → Row
+documentRow r = record { command = r .command; value = r .value }
 
-abbrev pub rowPieces : (s : List ℕ) → Row → List (List ℕ)
-rowPieces s r = bytesAt s (r .command) ∷ ascii "|" ∷ bytesAt s (r .value) ∷ ascii "|" ∷ []
+abbrev pub tokenPieces : (s : List ℕ) → Row → List (List ℕ)
+tokenPieces s r = bytesAt s (r .command) ∷ ascii "|" ∷ bytesAt s (r .value) ∷ ascii "|" ∷ []
 
-unfoldable pub rowText : (s : List ℕ) → Row → List ℕ
-rowText s r = joined (rowPieces s r)
+unfoldable pub tokenText : (s : List ℕ) → Row → List ℕ
+tokenText s r = joined (tokenPieces s r)
 
 -- r is the place after a row that stands in s from the place `at` on, with its pipes; it is `at` where the row does not
 pub record Stands (s : List ℕ) (at : ℕ) (row : Row) (r : ℕ) : Type 0 where
   pub order : at ≤ r
-  pub text : (r ≡ at → ⊥) → rowText s row ≡ part s at (r - at)
+  pub text : (r ≡ at → ⊥) → tokenText s row ≡ part s at (r - at)
 
 -- the text of the rows of a run from the word i on
 unfoldable pub runText : (s ws : List ℕ) (i : ℕ) → Run → List ℕ
-runText s ws i r = pick (r .stands) (part s (getD ws i 0) (r .len)) (rowText s (rowOf (rowAt ws i)))
+runText s ws i r = pick (r .stands) (part s (getD ws i 0) (r .len)) (tokenText s (documentRow (documentRowAt ws i)))
 
 -- r is a run of rows from the word i on
 pub record RunAt (s ws : List ℕ) (i : ℕ) (r : Run) : Type 0 where

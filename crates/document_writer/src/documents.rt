@@ -6,12 +6,12 @@ use lin_spec::Written;
 use lin_spec::room;
 use output::put_byte;
 use output::put_bytes;
+use output::put_span;
 use output::sat_add;
 use text::index_text;
 use text::near_ill;
 use text::part;
 use text::past_end;
-use text::shown;
 use text::span_ill;
 use text::well_formed_len;
 ghost use mathlib.Core.Path.{_≡_};
@@ -19,14 +19,14 @@ ghost use mathlib.Core.Bool.{true, false, _&&_, _||_};
 ghost use Prim.Native.Nat.{_+_, _-_, _≤_};
 ghost use lib.ListN.{length};
 ghost use lib.Dec.{leb};
-ghost use Rattle.lin_spec.specs.Records.{limit, endOf, bytesAt};
+ghost use Rattle.lin_spec.specs.Records.{limit, endOf};
 ghost use Rattle.lin_spec.specs.Refusals.{passesEnd, illSpan};
 ghost use Rattle.lin_spec.specs.Utf8.{longest};
 ghost use Rattle.lin_spec.specs.Output.{Outcome, answerOf};
 ghost use Rattle.lin_spec.specs.Document.{documentText, writeDocument};
 ghost use Rattle.text.specs.Index.{Indexed};
 ghost use Rattle.output.specs.Put.{Room, Put};
-ghost use Rattle.document_writer.specs.Rows.{rowAt, rowOf, rowText, Stands, runText, RunAt, Looked, Lawful};
+ghost use Rattle.document_writer.specs.Rows.{documentRowAt, documentRow, tokenText, Stands, runText, RunAt, Looked, Lawful};
 
 // A command and a value to write.
 struct Row {
@@ -35,9 +35,9 @@ struct Row {
 }
 
 // The row that the four words from i on give.
-fn row_at(rows: &[u32], i: usize) -> Row
+fn document_row_at(rows: &[u32], i: usize) -> Row
     requires { ⌜ 4 ≤ length (now rows) - i ⌝ }
-    ensures { λ r. ⌜ r ≡ rowOf (rowAt (now (rows .entry)) i) ⌝ }
+    ensures { λ r. ⌜ r ≡ documentRow (documentRowAt (now (rows .entry)) i) ⌝ }
 {
     let command = Span {
         start: rows[i],
@@ -50,18 +50,10 @@ fn row_at(rows: &[u32], i: usize) -> Row
     Row { command, value }
 }
 
-// Puts the bytes of a span.
-fn put_span(out: &mut [u8], at: usize, text: &[u8], x: Span) -> usize
-    requires { ⌜ Room (now out) at (bytesAt (now text) x) ⌝ }
-    ensures { λ r. ⌜ Put (now (out .entry)) at (bytesAt (now (text .entry)) x) (now (out .exit)) r ⌝ }
-{
-    put_bytes(out, at, shown(text, x))
-}
-
 // Puts a command and a value, each with a pipe after it.
-fn put_row(out: &mut [u8], at: usize, text: &[u8], row: Row) -> usize
-    requires { ⌜ Room (now out) at (rowText (now text) row) ⌝ }
-    ensures { λ r. ⌜ Put (now (out .entry)) at (rowText (now (text .entry)) row) (now (out .exit)) r ⌝ }
+fn put_token(out: &mut [u8], at: usize, text: &[u8], row: Row) -> usize
+    requires { ⌜ Room (now out) at (tokenText (now text) row) ⌝ }
+    ensures { λ r. ⌜ Put (now (out .entry)) at (tokenText (now (text .entry)) row) (now (out .exit)) r ⌝ }
 {
     let a = put_span(out, at, text, row.command);
     let b = put_byte(out, a, b'|');
@@ -102,7 +94,7 @@ fn row_end(text: &[u8], at: usize, row: Row) -> usize
 }
 
 // A word as a place.
-fn wide(w: u32) -> usize
+fn as_place(w: u32) -> usize
     ensures { λ r. ⌜ r ≡ w ⌝ }
 {
     w as usize
@@ -113,8 +105,8 @@ fn run_at(text: &[u8], rows: &[u32], i: usize) -> Run
     requires { ⌜ 4 ≤ length (now rows) - i ⌝ }
     ensures { λ r. ⌜ RunAt (now (text .entry)) (now (rows .entry)) i r ⌝ }
 {
-    let start = wide(rows[i]);
-    let first = row_end(text, start, row_at(rows, i));
+    let start = as_place(rows[i]);
+    let first = row_end(text, start, document_row_at(rows, i));
     if first == start {
         return Run {
             words: 4,
@@ -125,7 +117,7 @@ fn run_at(text: &[u8], rows: &[u32], i: usize) -> Run
     let mut j = i + 4;
     let mut stop = first;
     while 4 <= rows.len() - j {
-        let next = row_end(text, stop, row_at(rows, j));
+        let next = row_end(text, stop, document_row_at(rows, j));
         if next == stop {
             return Run {
                 words: j - i,
@@ -149,9 +141,9 @@ fn put_run(out: &mut [u8], at: usize, text: &[u8], rows: &[u32], i: usize, run: 
     ensures { λ r. ⌜ Put (now (out .entry)) at (runText (now (text .entry)) (now (rows .entry)) i run) (now (out .exit)) r ⌝ }
 {
     if run.stands {
-        return put_bytes(out, at, part(text, wide(rows[i]), run.len));
+        return put_bytes(out, at, part(text, as_place(rows[i]), run.len));
     }
-    put_row(out, at, text, row_at(rows, i))
+    put_token(out, at, text, document_row_at(rows, i))
 }
 
 // Puts all rows and the trailing text.
@@ -212,7 +204,7 @@ fn row_ill(text: &[u8], first: usize, next: &[u32], row: Row) -> bool
     span_ill(text, next, row.command) | span_ill(text, next, row.value)
 }
 
-// How many bytes a row has whose spans are within the text.
+// Both spans of a row, which are within the text, and two pipes.
 fn row_size(row: Row) -> u64
     ensures { λ r. ⌜ r ≡ row .command .len + row .value .len + 2 ⌝ }
 {
@@ -222,7 +214,7 @@ fn row_size(row: Row) -> u64
 }
 
 // Looks at every row once.
-fn look_at(text: &[u8], first: usize, next: &[u32], rows: &[u32], trailing: Span) -> Look
+fn look_at_rows(text: &[u8], first: usize, next: &[u32], rows: &[u32], trailing: Span) -> Look
     requires { ⌜ (first ≡ longest (now text)) × Indexed (now text) (now next) ⌝ }
     ensures { λ r. ⌜ Looked (now (text .entry)) (now (rows .entry)) trailing r ⌝ }
 {
@@ -230,7 +222,7 @@ fn look_at(text: &[u8], first: usize, next: &[u32], rows: &[u32], trailing: Span
     let mut n = 0;
     let mut ill = false;
     while 4 <= rows.len() - i {
-        let row = row_at(rows, i);
+        let row = document_row_at(rows, i);
         if row_past(text, first, row) {
             return Look::Past;
         }
@@ -271,7 +263,7 @@ fn write_looked(
     requires { ⌜ (length (now text) ≤ limit) × (first ≡ longest (now text)) × Indexed (now text) (now next) ⌝ }
     ensures { λ r. ⌜ _≡_ {A = Outcome} (record { answer = answerOf r; output = now (out .exit) }) (writeDocument (now (text .entry)) (now (rows .entry)) trailing (now (out .entry))) ⌝ }
 {
-    match look_at(text, first, next, rows, trailing) {
+    match look_at_rows(text, first, next, rows, trailing) {
         Look::Past => Written::Refused(Refusal::SpanPastEnd),
         Look::Ill => Written::Refused(Refusal::SpanNotUtf8),
         Look::Need(need) => write_fitting(text, rows, trailing, out, need),
@@ -293,7 +285,7 @@ fn rows_pass(bytes: usize, rows: &[u32]) -> bool {
     let mut left = bytes as u64;
     let mut i = 0;
     while 4 <= rows.len() - i {
-        let n = row_size(row_at(rows, i));
+        let n = row_size(document_row_at(rows, i));
         if left < n {
             return true;
         }

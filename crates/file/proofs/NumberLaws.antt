@@ -1,12 +1,12 @@
 -- Laws of boards by number: what a cursor has passed and what remains, and what the entries give. (01: File)
 -- Assumes nothing.
-use Prim.Native.Nat.{ℕ, suc, _+_, _-_, _^_, _≤_, _<_}
+use Prim.Native.Nat.{ℕ, suc, _+_, _-_, _≤_, _<_}
 use native.Mathlib.Omega.{arith}
 use mathlib.Core.Path.{_≡_, refl, ap, sym, subst, _∙_}
 use mathlib.Core.Bool.{Bool, true, false, _&&_}
 use mathlib.Core.List.{List, [], _∷_}
 use mathlib.Core.Option.{Option}
-use lib.ListN.{length, getD, take, length-map, length-take}
+use lib.ListN.{length, getD, take, length-map}
 use lib.Dec.{eqb}
 use borrow.Author.Tests.{eqb-true, eqb-false, le-leb, lt-leb}
 use Rattle.lin_spec.specs.Base.{pick, keep}
@@ -17,7 +17,7 @@ use Rattle.lin_spec.specs.Fresh.{refusedHeading}
 use Rattle.lin_spec.specs.Document.{openText}
 use Rattle.lin_spec.specs.Board.{BoardOf}
 use Rattle.lin_spec.specs.Reading.{headingOf, headed, fewRows, Reading, stored}
-use Rattle.lin_spec.specs.File.{Section as Part, section, holds, Standing, visit, openBoards, sections, boardsOf, boardIn, fileSpans, noBoard, numbered, countBoards, fileHeading, fileBoard, remaining}
+use Rattle.lin_spec.specs.File.{Section as Part, section, Standing, openBoards, sections, boardsOf, boardIn, fileSpans, noBoard, numbered, countBoards, fileHeading, fileBoard, remaining}
 use Rattle.lin_spec.specs.declared.Span.{Span}
 use Rattle.lin_spec.specs.declared.Refusal.{Refusal}
 use Rattle.lin_spec.specs.declared.Refusal.the-variants.{NoBoard}
@@ -27,14 +27,13 @@ use Rattle.lin_spec.proofs.Checks.{unless-same, unless-refused, unless-passed}
 use Rattle.lin_spec.proofs.Document.{opened}
 use Rattle.lin_spec.proofs.File.{Found, all-remain}
 use Rattle.lin_spec.proofs.FileMeaning.{getD-map}
-use Rattle.board_steps.specs.Head.{boardAt}
-use Rattle.sections.specs.Sections.{sectionOf, standingOf, openedOf, visitOf}
-use Rattle.file.specs.Numbers.{first, Ready, Counts, Holds, Board, Numbers}
-use Rattle.sections.specs.declared.sections.Section.{Section}
-use Rattle.sections.specs.declared.sections.BoardCursor.{BoardCursor}
-use Rattle.sections.specs.declared.sections.BoardStep.{BoardStep}
-use Rattle.sections.specs.declared.sections.OpenedBoards.{OpenedBoards}
-use Rattle.sections.specs.declared.sections.OpenedBoards.the-variants.{At, Refused}
+use Rattle.board_loop.specs.Head.{boardAt}
+use Rattle.file_sections.specs.Sections.{sectionOf, standingOf, openedOf, Inside}
+use Rattle.file.specs.Numbers.{first, AtFirst, Counts, Board, Numbers}
+use Rattle.file_sections.specs.declared.sections.Section.{Section}
+use Rattle.file_sections.specs.declared.sections.BoardCursor.{BoardCursor}
+use Rattle.file_sections.specs.declared.sections.OpenedBoards.{OpenedBoards}
+use Rattle.file_sections.specs.declared.sections.OpenedBoards.the-variants.{At, Refused}
 use Rattle.file.specs.declared.numbers.Numbered.{Numbered}
 
 -- A cursor on its way: the boards passed and those that remain are all
@@ -45,7 +44,7 @@ pub record Way (s : List ℕ) (c : Standing) : Type 0 where
   pub small : c .number ≤ c .at
   pub within : c .at ≤ length s + 1
 
-pub way-begin : (s : List ℕ) (c : BoardCursor) → Ready s c → Way s (standingOf c)
+pub way-begin : (s : List ℕ) (c : BoardCursor) → AtFirst s c → Way s (standingOf c)
 way-begin s c r =
     let a = ap (λ (l : List Part). length (boardsOf l)) (all-remain s) in
     let w : Way s (first s) = record { short = r .short; all = omega arith; small = omega arith; within = omega arith } in
@@ -122,7 +121,7 @@ pub record Seeks (s : List ℕ) (n : ℕ) (c : Standing) : Type 0 where
   pub most : c .number ≤ n
   pub same : getD (boardsOf (remaining s c)) (n - c .number) (section 0 0 false) ≡ getD (boardsOf (sections s)) n (section 0 0 false)
 
-pub seeks-begin : (s : List ℕ) (n : ℕ) (c : BoardCursor) → Ready s c → Seeks s n (standingOf c)
+pub seeks-begin : (s : List ℕ) (n : ℕ) (c : BoardCursor) → AtFirst s c → Seeks s n (standingOf c)
 seeks-begin s n c r =
     let z : n - 0 ≡ n = omega arith in
     record {
@@ -136,13 +135,13 @@ seeks-on s m c k n p d f h =
     let z = not-it s c (k .way) n p d f m h (k .most) (k .same) in
     record { way = way-on s c (k .way) n p d f; most = z .0; same = z .1 }
 
-pub found-holds : (s : List ℕ) (c : Standing) → Way s c → (n : ℕ) (p : Section) (d : Standing) → Found s c n (sectionOf p) d → Holds s p
-found-holds s c w n p d f = record { begins = f .begins; stops = f .stops; short = let l = w .short in omega arith }
+pub found-inside : (s : List ℕ) (c : Standing) → Way s c → (n : ℕ) (p : Section) (d : Standing) → Found s c n (sectionOf p) d → Inside s p
+found-inside s c w n p d f = record { begins = f .begins; stops = f .stops; short = let l = w .short in omega arith }
 
 pub seeks-found : (s : List ℕ) (m : ℕ) (c : Standing) → Seeks s m c → (n : ℕ) (p : Section) (d : Standing) → Found s c n (sectionOf p) d → (p .board && eqb n m) ≡ true → Board s m p
 seeks-found s m c k n p d f h =
     let z = it-is s c (k .way) n (sectionOf p) d f m h (k .same) in
-    record { some = z .0; is = z .1; holds = found-holds s c (k .way) n p d f }
+    record { some = z .0; is = z .1; inside = found-inside s c (k .way) n p d f }
 
 pub seeks-missing : (s : List ℕ) (m : ℕ) (c : Standing) → Seeks s m c → remaining s c ≡ [] → (c .number ≡ length (boardsOf (sections s))) × (c .number ≤ m)
 seeks-missing s m c k e = (way-end s c (k .way) e, k .most)
@@ -162,7 +161,7 @@ module _ (s : List ℕ) (o : OpenedBoards) (e : openedOf o ≡ openBoards s) whe
     taken : openBoards s ≡ accepted (standingOf c)
     taken = sym e ∙ ap openedOf f
 
-    pub ready : Ready s c
+    pub ready : AtFirst s c
     unfolding openBoards openText
     ready =
         record {
@@ -230,13 +229,6 @@ module _ (s : List ℕ) (o : OpenedBoards) (e : openedOf o ≡ openBoards s) whe
       pub board-refused : (rows cards : List ℕ) → record { heading = h; rows = rows; cards = cards } ≡ fileBoard s n rows cards
       unfolding fileBoard
       board-refused rows cards = rw g (sym (ap (λ (a : Answer (BoardOf Span)). stored a rows cards) (stopped _ (numbered s n))))
-
--- a board's section within the text
-pub stop-within : (s : List ℕ) (p : Section) → Holds s p → (p .start ≤ length (take (p .stop) s)) × (length (take (p .stop) s) < 2 ^ 32)
-stop-within s p h = let l = length-take (p .stop) s in let a = h .begins in let b = h .stops in let c = h .short in (omega arith, omega arith)
-
-pub stop-is : (s : List ℕ) (p : Section) → Holds s p → p .stop ≡ length (take (p .stop) s)
-stop-is s p h = let l = length-take (p .stop) s in let b = h .stops in omega arith
 
 -- what a found number that was called for and taken apart says
 pub given : (s : List ℕ) (n : ℕ) (r v : Numbered) → Numbers s n r → r ≡ v → Numbers s n v

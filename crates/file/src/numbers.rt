@@ -1,17 +1,17 @@
 // How many boards a file has, and a board by its number. (01: File; refusal 4)
 use board::board_at;
 use board::heading_at;
+use file_sections::BoardCursor;
+use file_sections::BoardStep;
+use file_sections::OpenedBoards;
+use file_sections::Section;
+use file_sections::open_boards;
 use lin_spec::Heading;
 use lin_spec::Refusal;
-use sections::BoardCursor;
-use sections::BoardStep;
-use sections::OpenedBoards;
-use sections::Section;
-use sections::open_boards;
 ghost use mathlib.Core.Path.{_≡_};
 ghost use Rattle.lin_spec.specs.Reading.{Reading};
 ghost use Rattle.lin_spec.specs.File.{countBoards, fileHeading, fileBoard};
-ghost use Rattle.file.specs.Numbers.{countedOf, Counts, Ready, Numbers};
+ghost use Rattle.file.specs.Numbers.{countedOf, Counts, AtFirst, Numbers};
 
 // How many there are.
 pub enum Counted {
@@ -27,7 +27,7 @@ pub enum Numbered {
 
 // How many boards there are, from a cursor at the first section.
 fn count_from(text: &[u8], cursor: BoardCursor) -> usize
-    requires { ⌜ Ready (now text) cursor ⌝ }
+    requires { ⌜ AtFirst (now text) cursor ⌝ }
     ensures { λ r. ⌜ Counts (now (text .entry)) r ⌝ }
 {
     let mut c = cursor;
@@ -54,7 +54,7 @@ pub fn count_boards(text: &[u8]) -> Counted
 
 // The section of the board of a number, from a cursor at the first section.
 pub fn find_board(text: &[u8], cursor: BoardCursor, number: usize) -> Numbered
-    requires { ⌜ Ready (now text) cursor ⌝ }
+    requires { ⌜ AtFirst (now text) cursor ⌝ }
     ensures { λ r. ⌜ Numbers (now (text .entry)) number r ⌝ }
 {
     let mut c = cursor;

@@ -1,20 +1,17 @@
 -- Laws of a step that reads: 2 over the bytes that it looks at, and its answers by the checks. (01: File; Eight refusals, 2 and 3)
 -- Assumes nothing.
-use Prim.Native.Nat.{ℕ, _+_, _-_, _≤_, _<_, _^_}
+use Prim.Native.Nat.{ℕ, _+_, _-_, _≤_, _<_}
 use native.Mathlib.Omega.{arith}
-use mathlib.Core.Path.{_≡_, refl, ap, sym, subst, _∙_}
-use mathlib.Core.Bool.{Bool, true, false}
+use mathlib.Core.Path.{_≡_, refl, ap, sym, _∙_}
 use mathlib.Core.List.{List, [], _∷_}
 use mathlib.Core.Option.{Option, none, some}
-use lib.ListN.{length, take, drop, length-take, drop-of-length-le}
+use lib.ListN.{length, take, drop, drop-of-length-le}
 use borrow.Author.Tests.{lt-ltb, le-ltb}
 use Rattle.lin_spec.specs.Records.{limit, part}
-use Rattle.lin_spec.specs.Utf8.{utf8, longest}
+use Rattle.lin_spec.specs.Utf8.{longest}
 use Rattle.lin_spec.specs.Refusals.{Answer, unless}
 use Rattle.lin_spec.specs.Refusals.Answer.{refused, accepted}
-use Rattle.lin_spec.specs.Fresh.{refusedHeading}
-use Rattle.lin_spec.specs.Board.{BoardOf}
-use Rattle.lin_spec.specs.Reading.{headingOf, fewRows, Reading, stored}
+use Rattle.lin_spec.specs.Reading.{fewRows, Reading, stored}
 use Rattle.lin_spec.specs.File.{boardIn, Visit, nextBoard, notUtf8From, ReadStep, readBy, readStep}
 use Rattle.lin_spec.specs.File.Visit.{found, ended}
 use Rattle.lin_spec.specs.declared.Heading.{Heading}
@@ -26,15 +23,15 @@ use Rattle.lin_spec.proofs.Records.{part-length, part-rest}
 use Rattle.lin_spec.proofs.Utf8.{short, whole-text, utf8-ascii}
 use Rattle.lin_spec.proofs.Steps.{next-is}
 use Rattle.lin_spec.proofs.Walk.{accepted-step}
-use Rattle.board_steps.specs.Head.{boardAt}
-use Rattle.sections.specs.Sections.{sectionOf, standingOf, visitOf}
-use Rattle.sections.specs.declared.sections.Section.{Section}
-use Rattle.sections.specs.declared.sections.BoardCursor.{BoardCursor}
-use Rattle.sections.specs.declared.sections.BoardStep.{BoardStep}
-use Rattle.sections.specs.declared.sections.BoardStep.the-variants.{Found, Ended}
-use Rattle.file_reader.specs.Steps.{checkOf, nextOf, cursorOf, readOf, unreadOf, Inside}
+use Rattle.board_loop.specs.Head.{boardAt}
+use Rattle.file_sections.specs.Sections.{sectionOf, standingOf, visitOf, Inside}
+use Rattle.file_sections.specs.declared.sections.Section.{Section}
+use Rattle.file_sections.specs.declared.sections.BoardCursor.{BoardCursor}
+use Rattle.file_sections.specs.declared.sections.BoardStep.{BoardStep}
+use Rattle.file_sections.specs.declared.sections.BoardStep.the-variants.{Found, Ended}
+use Rattle.file_reader.specs.Steps.{checkOf, nextOf, cursorOf, readOf, unreadOf}
 use Rattle.file_reader.specs.declared.steps.NextBoard.{NextBoard}
-use Rattle.file_reader.specs.declared.steps.NextBoard.the-variants.{Found as Next, Ended as End, Refused as Met}
+use Rattle.file_reader.specs.declared.steps.NextBoard.the-variants.{Found as Next, Refused as Met}
 use Rattle.file_reader.specs.declared.steps.BoardRead.{BoardRead}
 
 -- 2, by the length of the longest well-formed start
@@ -85,12 +82,6 @@ module _ (s : List ℕ) (c : BoardCursor) where
   none-beyond h = (simp (drop-of-length-le s h, utf8-ascii [] tt), refl)
 
 -- A board
-
-pub inside-long : (s : List ℕ) (at : ℕ) (p : Section) → Inside s at (sectionOf p) → p .stop ≡ length (take (p .stop) s)
-inside-long s at p h = let l = length-take (p .stop) s in let b = h .stops in omega arith
-
-pub inside-within : (s : List ℕ) (at : ℕ) (p : Section) → Inside s at (sectionOf p) → (p .start ≤ length (take (p .stop) s)) × (length (take (p .stop) s) < 2 ^ 32)
-inside-within s at p h = let l = length-take (p .stop) s in let a = h .begins in let b = h .stops in let c = h .short in (omega arith, omega arith)
 
 module _ (s : List ℕ) (c : BoardCursor) (n : ℕ) (p : Section) (d : BoardCursor) (rows cards : List ℕ) where
   abbrev v : Visit
@@ -153,10 +144,10 @@ module _ (s : List ℕ) (c : BoardCursor) (rows cards : List ℕ) where
   step-long l u g = ap (λ (x : BoardRead). readOf x rows cards) g ∙ simp (lt-ltb limit (length s) l)
 
   module _ (l : length s ≤ limit) (r : BoardStep) (e : visitOf r ≡ nextBoard s (standingOf c)) where
-    pub step-inside : (n : ℕ) (p : Section) (d : BoardCursor) → r ≡ Found n p d → Inside s (c .at) (sectionOf p)
+    pub step-inside : (n : ℕ) (p : Section) (d : BoardCursor) → r ≡ Found n p d → (c .at ≤ p .start) × Inside s p
     step-inside n p d g =
         let w = next-is s (standingOf c) (found n (sectionOf p) (standingOf d)) (sym e ∙ ap visitOf g) in
-        record { starts = w .starts; begins = w .begins; stops = w .stops; short = omega arith }
+        (w .starts, record { begins = w .begins; stops = w .stops; short = omega arith })
 
     pub step-found : (n : ℕ) (p : Section) (d : BoardCursor) → r ≡ Found n p d → {t : ReadStep}
         → t ≡ readBy s (standingOf c) (unless (notUtf8From (c .at) (part s (c .at) (p .stop - c .at)) ∷ fewRows (boardIn s (sectionOf p)) rows cards) (found n (sectionOf p) (standingOf d))) rows cards

@@ -1,17 +1,16 @@
 -- A step that reads, as lin_spec's, and what its parts ask. (01: File)
-use Prim.Native.Nat.{ℕ, _≤_, _<_, _^_}
+use Prim.Native.Nat.{ℕ}
 use mathlib.Core.List.{List}
 use mathlib.Core.Option.{Option, none, some}
-use lib.ListN.{length}
 use Rattle.lin_spec.specs.Refusals.{Answer}
 use Rattle.lin_spec.specs.Refusals.Answer.{refused, accepted}
 use Rattle.lin_spec.specs.Fresh.{freshBoard}
-use Rattle.lin_spec.specs.File.{Section, Standing, Visit, ReadStep}
+use Rattle.lin_spec.specs.File.{Standing, Visit, ReadStep}
 use Rattle.lin_spec.specs.File.Visit.{found, ended}
 use Rattle.lin_spec.specs.declared.Refusal.{Refusal}
 use Rattle.lin_spec.specs.declared.Verdict.{Verdict}
 use Rattle.lin_spec.specs.declared.Verdict.the-variants.{Accepted, Refused}
-use Rattle.sections.specs.Sections.{sectionOf, standingOf}
+use Rattle.file_sections.specs.Sections.{sectionOf, standingOf}
 use Rattle.file_reader.specs.declared.steps.NextBoard.{NextBoard}
 use Rattle.file_reader.specs.declared.steps.NextBoard.the-variants.{Found, Ended, Refused as Met}
 use Rattle.file_reader.specs.declared.steps.BoardRead.{BoardRead}
@@ -39,10 +38,3 @@ readOf r rows cards =
 -- a step without a board
 abbrev pub unreadOf : NextBoard → BoardRead
 unreadOf v = record { next = v; board = freshBoard; calls = 0; cards = 0 }
-
--- a section at or after a place, within a text of 32-bit places
-pub record Inside (s : List ℕ) (at : ℕ) (p : Section) : Type 0 where
-  pub starts : at ≤ p .start
-  pub begins : p .start ≤ p .stop
-  pub stops : p .stop ≤ length s
-  pub short : length s < 2 ^ 32

@@ -1,26 +1,25 @@
 // The step of the board cursor that reads the next board. (01: File, Board; refusals 1, 2 and 3)
 use board::board_at;
+use file_sections::BoardCursor;
+use file_sections::BoardStep;
+use file_sections::Section;
+use file_sections::next_board;
 use lin_spec::Board;
 use lin_spec::LIMIT;
 use lin_spec::Refusal;
 use lin_spec::Verdict;
-use sections::BoardCursor;
-use sections::BoardStep;
-use sections::Section;
-use sections::next_board;
 use text::well_formed_len;
 ghost use mathlib.Core.Path.{_≡_};
 ghost use mathlib.Core.List.{[], _∷_};
-ghost use Prim.Native.Nat.{_-_, _≤_, _<_, _^_};
+ghost use Prim.Native.Nat.{_-_, _≤_, _<_};
 ghost use lib.ListN.{length, drop};
 ghost use Rattle.lin_spec.specs.Records.{part};
 ghost use Rattle.lin_spec.specs.Refusals.{unless};
-ghost use Rattle.lin_spec.specs.Refusals.Answer.{accepted};
 ghost use Rattle.lin_spec.specs.Reading.{fewRows};
 ghost use Rattle.lin_spec.specs.File.{boardIn, notUtf8From, readBy, readStep};
 ghost use Rattle.lin_spec.specs.File.Visit.{found, ended};
-ghost use Rattle.sections.specs.Sections.{sectionOf, standingOf};
-ghost use Rattle.file_reader.specs.Steps.{checkOf, nextOf, cursorOf, unreadOf, readOf, Inside};
+ghost use Rattle.file_sections.specs.Sections.{sectionOf, standingOf, Inside};
+ghost use Rattle.file_reader.specs.Steps.{checkOf, nextOf, cursorOf, unreadOf, readOf};
 
 // The board's number, its section and the cursor after it; or none, or the refusal, with the cursor where it stood.
 pub enum NextBoard {
@@ -71,7 +70,7 @@ fn read_found(
     rows: &mut [u32],
     cards: &mut [u8],
 ) -> BoardRead
-    requires { ⌜ Inside (now text) (c .at) (sectionOf p) ⌝ }
+    requires { ⌜ (c .at ≤ p .start) × Inside (now text) p ⌝ }
     ensures { λ r. ⌜ readOf r (now (rows .exit)) (now (cards .exit)) ≡ readBy (now (text .entry)) (standingOf c) (unless (notUtf8From (c .at) (part (now (text .entry)) (c .at) (p .stop - c .at)) ∷ fewRows (boardIn (now (text .entry)) (sectionOf p)) (now (rows .entry)) (now (cards .entry))) (found n (sectionOf p) (standingOf d))) (now (rows .entry)) (now (cards .entry)) ⌝ }
 {
     if let Verdict::Refused(r) = check_utf8(text, c.at, p.stop) {

@@ -37,25 +37,24 @@ pub use file::Counted;
 pub use file::count_boards;
 pub use file::file_board;
 pub use file::file_heading;
+pub use file::find_name;
 pub use file_reader::BoardRead;
 pub use file_reader::NextBoard;
 pub use file_reader::read_board;
-pub use finder::find_name;
-pub use sections::BoardCursor;
-pub use sections::BoardStep;
-pub use sections::OpenedBoards;
-pub use sections::Section;
-pub use sections::open_boards;
+pub use file_sections::BoardCursor;
+pub use file_sections::BoardStep;
+pub use file_sections::OpenedBoards;
+pub use file_sections::Section;
+pub use file_sections::open_boards;
 
 // The writer. (01: Writer; play text; equality)
-pub use cardtext::format_cardplay_by_trick;
-pub use equality::same_board;
+pub use board_equality::same_board;
 pub use lin_spec::Equality;
 pub use writer::append;
 pub use writer::write_lin;
+pub use writer_cards::format_cardplay_by_trick;
 
 // From PBN. (01: From PBN)
-pub use annotation::annotation_text;
 pub use lin_spec::AnnotationWritten;
 pub use lin_spec::Converted;
 pub use lin_spec::MaybeNumber;
@@ -64,6 +63,7 @@ pub use lin_spec::MaybeSeat;
 pub use lin_spec::PbnBoard;
 pub use lin_spec::PbnCall;
 pub use pbn::from_board;
+pub use pbn_annotation::annotation_text;
 
 // The lines of a listing. (01: Program linlist)
 pub use listing::list_file;
@@ -72,13 +72,13 @@ pub use listing_lines::header_line;
 pub use listing_lines::refusal_line;
 
 // Rows of call structs. (01: Language form, "The calls stand in a list of rows lent by the caller")
-pub use row_access::get_row;
-pub use row_access::put_row;
-pub use row_access::row_count;
 pub use rows::CallRow;
 pub use rows::Moved;
 pub use rows::fill_rows;
 pub use rows::spill_rows;
+pub use rows_access::get_row;
+pub use rows_access::put_row;
+pub use rows_access::row_count;
 pub use rows_reader::file_board_rows;
 pub use rows_reader::parse_lin_rows;
 pub use rows_writer::append_rows;

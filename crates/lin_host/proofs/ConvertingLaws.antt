@@ -17,9 +17,9 @@ use Rattle.lin_spec.specs.Pbn.{Pbn, pbn, fromBoard, boardTexts, Conversion, con
 use Rattle.lin_spec.specs.declared.Span.{Span}
 use Rattle.lin_spec.specs.declared.PbnBoard.{PbnBoard}
 use Rattle.lin_spec.specs.declared.Refusal.the-variants.{TextTooLong, OutOfRange}
-use Rattle.host_numbers.specs.Records.{recordOf, badRecord}
+use Rattle.lin_host_numbers.specs.Records.{recordOf, badRecord}
 use Rattle.lin_host.specs.Converting.{conversionNumbers, fromBoardNumbers}
-use Rattle.host_numbers.specs.declared.records.LinPbn.{LinPbn}
+use Rattle.lin_host_numbers.specs.declared.records.LinPbn.{LinPbn}
 use Rattle.lin_host.proofs.WritingLaws.{second}
 
 -- the answer for a record and a test that are those of the numbers

@@ -22,9 +22,9 @@ use Rattle.lin_spec.specs.declared.Refusal.{Refusal}
 use Rattle.lin_spec.specs.declared.Refusal.the-variants.{TextTooLong, NotUtf8, TooFewRows, NoBoard, SpanPastEnd, SpanNotUtf8, OutputTooSmall, OutOfRange}
 use Rattle.lin_spec.proofs.Base.{picked, all-map}
 use Rattle.lin_spec.proofs.ThirdDemand.{Allowed, plain-fit, kept-walk}
-use Rattle.host_numbers.specs.Answers.{numbersOf}
-use Rattle.host_numbers.specs.Codes.{spansOf, claimOf, boardOf, badCodes}
-use Rattle.host_numbers.specs.declared.boards.LinBoard.{LinBoard}
+use Rattle.lin_host_numbers.specs.Answers.{numbersOf}
+use Rattle.lin_host_numbers.specs.Codes.{spansOf, claimOf, boardOf, badCodes}
+use Rattle.lin_host_numbers.specs.declared.boards.LinBoard.{LinBoard}
 use Rattle.lin_host.specs.Writing.{lentNumbers}
 use Rattle.lin_host.specs.Mixed.{Appending, called, fed, TypedNumbers, TypedCall, ThirdDemandMixed}
 use Rattle.lin_host.specs.Mixed.Appending.{entry, export}

@@ -7,13 +7,13 @@ use mathlib.Core.List.{List}
 use lib.ListN.{length, drop-of-length-le}
 use Rattle.lin_spec.specs.Cursor.{remainder}
 use Rattle.lin_spec.specs.File.{ReadStep}
-use Rattle.sections.specs.Sections.{visitOf}
-use Rattle.sections.specs.declared.sections.BoardStep.{BoardStep}
+use Rattle.file_sections.specs.Sections.{visitOf}
+use Rattle.file_sections.specs.declared.sections.BoardStep.{BoardStep}
 use Rattle.file_reader.specs.Steps.{nextOf, cursorOf, readOf}
 use Rattle.file_reader.specs.declared.steps.BoardRead.{BoardRead}
-use Rattle.host_numbers.specs.Boards.{boardNumbers}
-use Rattle.host_numbers.specs.declared.answers.LinAnswer.{LinAnswer}
-use Rattle.host_numbers.specs.declared.boards.LinBoard.{LinBoard}
+use Rattle.lin_host_numbers.specs.Boards.{boardNumbers}
+use Rattle.lin_host_numbers.specs.declared.answers.LinAnswer.{LinAnswer}
+use Rattle.lin_host_numbers.specs.declared.boards.LinBoard.{LinBoard}
 use Rattle.lin_host.specs.Files.{visitNumbers, stepAnswer, stepVisit, StepRead, readNumbers}
 use Rattle.lin_host.specs.Tokens.{restNumbers}
 use Rattle.lin_host.specs.declared.files.LinSection.{LinSection}

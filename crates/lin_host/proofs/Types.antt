@@ -15,8 +15,8 @@ use Rattle.lin_spec.proofs.BoardType.{board-typed}
 use Rattle.rows.specs.declared.CallRow.{CallRow}
 use Rattle.rows.specs.Rows.{lentRows}
 use Rattle.rows.proofs.RowType.{rows-typed}
-use Rattle.host_numbers.specs.declared.boards.LinBoard.{LinBoard}
-use Rattle.host_numbers.proofs.boards.LinBoard as numbers
+use Rattle.lin_host_numbers.specs.declared.boards.LinBoard.{LinBoard}
+use Rattle.lin_host_numbers.proofs.boards.LinBoard as numbers
 use Rattle.lin_host.specs.Mixed.{Appending, TypedNumbers, TypedCall, ThirdDemandMixed}
 use Rattle.lin_host.specs.Mixed.Appending.{entry, export}
 use Rattle.lin_host.proofs.Mixed.{third-demand-mixed}

@@ -17,12 +17,12 @@ use Rattle.lin_spec.specs.Append.{Filing, plain, writtenForm, extended, appende
 use Rattle.lin_spec.specs.Equality.{sameBoards, sameBoard}
 use Rattle.lin_spec.specs.declared.Refusal.{Refusal}
 use Rattle.lin_spec.specs.declared.Refusal.the-variants.{TextTooLong, OutOfRange}
-use Rattle.lent.specs.declared.heads.Head.{Head}
-use Rattle.lent.specs.Heads.{headOf, boardOf as withDeal}
-use Rattle.host_numbers.specs.Answers.{outcomeNumbers}
-use Rattle.host_numbers.specs.Codes.{boardOf, badCodes}
+use Rattle.board_lent.specs.declared.heads.Head.{Head}
+use Rattle.board_lent.specs.Heads.{headOf, boardOf as withDeal}
+use Rattle.lin_host_numbers.specs.Answers.{outcomeNumbers}
+use Rattle.lin_host_numbers.specs.Codes.{boardOf, badCodes}
 use Rattle.lin_host.specs.Writing.{lentNumbers, appendNumbers, equalityNumbers, sameNumbers}
-use Rattle.host_numbers.specs.declared.boards.LinBoard.{LinBoard}
+use Rattle.lin_host_numbers.specs.declared.boards.LinBoard.{LinBoard}
 
 -- the board of the numbers is what it is without its deal, and the counts
 whole : (b : LinBoard) {h : Head} → h ≡ headOf (boardOf b) → withDeal h (b .counts) ≡ boardOf b

@@ -5,7 +5,7 @@ use mathlib.Core.Option.{Option, none, some}
 use Rattle.lin_spec.specs.Refusals.{Answer}
 use Rattle.lin_spec.specs.Refusals.Answer.{refused, accepted}
 use Rattle.lin_spec.specs.Annotation.{Annotated as Written}
-use Rattle.host_numbers.specs.Answers.{numbersOf}
+use Rattle.lin_host_numbers.specs.Answers.{numbersOf}
 use Rattle.lin_host.specs.declared.annotations.LinAnnotation.{LinAnnotation}
 
 -- the length of the text, or "absent" as 0 and 0, or the refusal

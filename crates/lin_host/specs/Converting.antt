@@ -3,10 +3,10 @@ use Prim.Native.Nat.{ℕ}
 use Prim.Native.Char.{code}
 use mathlib.Core.List.{List}
 use Rattle.lin_spec.specs.Pbn.{pbn, convertBoard, Conversion as BoardConversion}
-use Rattle.host_numbers.specs.Boards.{headingNumbers}
-use Rattle.host_numbers.specs.Records.{recordOf, badRecord}
-use Rattle.host_numbers.specs.declared.boards.LinHeading.{LinHeading}
-use Rattle.host_numbers.specs.declared.records.LinPbn.{LinPbn}
+use Rattle.lin_host_numbers.specs.Boards.{headingNumbers}
+use Rattle.lin_host_numbers.specs.Records.{recordOf, badRecord}
+use Rattle.lin_host_numbers.specs.declared.boards.LinHeading.{LinHeading}
+use Rattle.lin_host_numbers.specs.declared.records.LinPbn.{LinPbn}
 
 -- a heading with the length of its texts, and the rows, the cards and the output afterwards
 pub record Conversion : Type 0 where

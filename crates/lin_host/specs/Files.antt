@@ -8,9 +8,9 @@ use Rattle.lin_spec.specs.Refusals.Answer.{refused, accepted}
 use Rattle.lin_spec.specs.Reading.{flag}
 use Rattle.lin_spec.specs.File.{Standing, Visit, ReadStep}
 use Rattle.lin_spec.specs.File.Visit.{found, ended}
-use Rattle.host_numbers.specs.Answers.{numbersOf}
-use Rattle.host_numbers.specs.Boards.{boardNumbers}
-use Rattle.host_numbers.specs.declared.answers.LinAnswer.{LinAnswer}
+use Rattle.lin_host_numbers.specs.Answers.{numbersOf}
+use Rattle.lin_host_numbers.specs.Boards.{boardNumbers}
+use Rattle.lin_host_numbers.specs.declared.answers.LinAnswer.{LinAnswer}
 use Rattle.lin_host.specs.declared.files.LinBoards.{LinBoards}
 use Rattle.lin_host.specs.declared.files.LinRead.{LinRead}
 use Rattle.lin_host.specs.declared.files.LinSection.{LinSection}

@@ -11,9 +11,9 @@ use Rattle.lin_spec.specs.Lent.{Lent}
 use Rattle.lin_spec.specs.Append.{plain, append}
 use Rattle.lin_spec.specs.Log.{Asked, appending, accepts, usedAfter, State, Event, walk}
 use Rattle.lin_spec.specs.ThirdDemand.{Typed, start, Kept}
-use Rattle.host_numbers.specs.Codes.{badCodes}
+use Rattle.lin_host_numbers.specs.Codes.{badCodes}
 use Rattle.lin_host.specs.Writing.{lentNumbers, appendNumbers}
-use Rattle.host_numbers.specs.declared.boards.LinBoard.{LinBoard}
+use Rattle.lin_host_numbers.specs.declared.boards.LinBoard.{LinBoard}
 
 -- a call of either entry with the board that it is lent, which both promise the same of, or one of the export with the numbers that it is lent
 pub data Appending : Type 0 where

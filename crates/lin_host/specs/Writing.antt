@@ -8,10 +8,10 @@ use Rattle.lin_spec.specs.Reading.{flag}
 use Rattle.lin_spec.specs.Lent.{Lent, lent}
 use Rattle.lin_spec.specs.Append.{plain, appended}
 use Rattle.lin_spec.specs.Equality.{sameBoards}
-use Rattle.host_numbers.specs.Answers.{numbersOf, Outcome, outcomeNumbers}
-use Rattle.host_numbers.specs.Codes.{boardOf, badCodes}
-use Rattle.host_numbers.specs.declared.answers.LinAnswer.{LinAnswer}
-use Rattle.host_numbers.specs.declared.boards.LinBoard.{LinBoard}
+use Rattle.lin_host_numbers.specs.Answers.{numbersOf, Outcome, outcomeNumbers}
+use Rattle.lin_host_numbers.specs.Codes.{boardOf, badCodes}
+use Rattle.lin_host_numbers.specs.declared.answers.LinAnswer.{LinAnswer}
+use Rattle.lin_host_numbers.specs.declared.boards.LinBoard.{LinBoard}
 
 abbrev pub lentNumbers : (text : List ℕ) → LinBoard → (words cards : List ℕ) → Lent
 lentNumbers s b ws cs = lent s (boardOf b) ws cs

@@ -1,9 +1,9 @@
 // The entry of annotations: the text of a raw PBN annotation. (01: From PBN, "Annotation parts ..")
-use annotation::annotation_text;
-use host_numbers::LinAnswer;
-use host_numbers::refusal;
+use lin_host_numbers::LinAnswer;
+use lin_host_numbers::refusal;
 use lin_spec::AnnotationWritten;
 use lin_spec::Span;
+use pbn_annotation::annotation_text;
 ghost use mathlib.Core.Path.{_≡_};
 ghost use Rattle.lin_spec.specs.Records.{span};
 ghost use Rattle.lin_spec.specs.Annotation.{annotationAnswer, writeAnnotation};

@@ -1,11 +1,11 @@
 // The entries of boards: the heading that a text gives, and its board with rows and cards. (01: Board, `parse_lin`)
 use board::parse_lin;
 use board::parse_lin_heading;
-use host_numbers::LinHeading;
-use host_numbers::heading_numbers;
+use lin_host_numbers::LinHeading;
+use lin_host_numbers::heading_numbers;
 ghost use mathlib.Core.Path.{_≡_};
 ghost use Rattle.lin_spec.specs.Reading.{readHeading, readBoard};
-ghost use Rattle.host_numbers.specs.Boards.{headingNumbers, Reading, readingNumbers};
+ghost use Rattle.lin_host_numbers.specs.Boards.{headingNumbers, Reading, readingNumbers};
 
 // The exports.
 #[no_mangle]

@@ -1,11 +1,11 @@
 // The entry of PBN records: the board that is made of one. (01: From PBN, `from_board`)
-use cleaning::Marks;
-use host_numbers::LinHeading;
-use host_numbers::LinPbn;
-use host_numbers::bad_record;
-use host_numbers::heading_numbers;
-use host_numbers::record_of;
+use lin_host_numbers::LinHeading;
+use lin_host_numbers::LinPbn;
+use lin_host_numbers::bad_record_codes;
+use lin_host_numbers::heading_numbers;
+use lin_host_numbers::record_of;
 use pbn::from_board_with;
+use writer_texts::PLAIN;
 ghost use mathlib.Core.Path.{_≡_};
 ghost use Rattle.lin_host.specs.Converting.{Conversion, fromBoardNumbers};
 
@@ -32,11 +32,8 @@ pub extern "C" fn lin_from_board(
 ) -> LinConverted
     ensures { λ r. ⌜ _≡_ {A = Conversion} (record { heading = r .heading; len = r .len; rows = now (rows .exit); cards = now (cards .exit); output = now (out .exit) }) (fromBoardNumbers (now (text .entry)) board (now (calls .entry)) (now (plays .entry)) (now (notes .entry)) (now (out .entry)) (now (rows .entry)) (now (cards .entry))) ⌝ }
 {
-    let other = bad_record(board);
-    let marks = Marks {
-        pipe: b'/',
-        line: b' ',
-    };
+    let other = bad_record_codes(board);
+    let marks = PLAIN;
     let b = record_of(board);
     let made = from_board_with(other, marks, text, b, calls, plays, notes, out, rows, cards);
     let heading = made.heading;

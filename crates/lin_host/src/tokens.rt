@@ -5,16 +5,16 @@ use document::Step;
 use document::open;
 use document::trailing;
 use document_writer::write_document;
-use host_numbers::LinAnswer;
-use host_numbers::refusal;
-use host_numbers::written;
+use lin_host_numbers::LinAnswer;
+use lin_host_numbers::refusal;
+use lin_host_numbers::written;
 use lin_spec::Span;
 ghost use mathlib.Core.Path.{_≡_};
 ghost use Rattle.lin_spec.specs.Records.{span};
 ghost use Rattle.lin_spec.specs.Cursor.{stepAt};
 ghost use Rattle.lin_spec.specs.Document.{openText, writeDocument};
 ghost use Rattle.document.specs.Steps.{openedOf, stepOf};
-ghost use Rattle.host_numbers.specs.Answers.{numbersOf, Outcome, outcomeNumbers};
+ghost use Rattle.lin_host_numbers.specs.Answers.{numbersOf, Outcome, outcomeNumbers};
 ghost use Rattle.lin_host.specs.Tokens.{stepNumbers, restNumbers};
 
 // found 1: a token, and the cursor after it. found 0: none, and the cursor as it was.

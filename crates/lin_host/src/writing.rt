@@ -1,19 +1,19 @@
 // The entries of the writer: a board written or appended, the play as a text, and whether a board equals another. (01: Writer; play text; equality)
-use cardtext::format_cardplay_by_trick;
-use cleaning::Marks;
-use equality::same_heads;
-use host_numbers::LinAnswer;
-use host_numbers::LinBoard;
-use host_numbers::bad_codes;
-use host_numbers::head_of;
-use host_numbers::refusal;
-use host_numbers::written;
+use board_equality::same_heads;
+use lin_host_numbers::LinAnswer;
+use lin_host_numbers::LinBoard;
+use lin_host_numbers::bad_codes;
+use lin_host_numbers::coded_head;
+use lin_host_numbers::refusal;
+use lin_host_numbers::written;
 use lin_spec::Equality;
 use writer::append_head;
+use writer_cards::format_cardplay_by_trick;
+use writer_texts::PLAIN;
 ghost use mathlib.Core.Path.{_≡_};
 ghost use Rattle.lin_spec.specs.Play.{formatCardplay};
 ghost use Rattle.lin_spec.specs.Equality.{equalityOf};
-ghost use Rattle.host_numbers.specs.Answers.{Outcome, outcomeNumbers};
+ghost use Rattle.lin_host_numbers.specs.Answers.{Outcome, outcomeNumbers};
 ghost use Rattle.lin_host.specs.Writing.{appendNumbers, equalityNumbers, sameNumbers};
 
 fn compared(e: Equality) -> LinAnswer
@@ -50,11 +50,8 @@ pub extern "C" fn lin_append(
     ensures { λ r. ⌜ _≡_ {A = Outcome} (record { answer = r; output = now (out .exit) }) (appendNumbers (now (text .entry)) board (now (rows .entry)) (now (cards .entry)) (now (out .entry)) used) ⌝ }
 {
     let other = bad_codes(board);
-    let marks = Marks {
-        pipe: b'/',
-        line: b' ',
-    };
-    let head = head_of(board);
+    let marks = PLAIN;
+    let head = coded_head(board);
     written(append_head(
         other,
         marks,
@@ -106,8 +103,8 @@ pub extern "C" fn lin_same_board(
 {
     let bad = bad_codes(board);
     let bad2 = bad_codes(board2);
-    let head = head_of(board);
-    let head2 = head_of(board2);
+    let head = coded_head(board);
+    let head2 = coded_head(board2);
     compared(same_heads(
         bad | bad2,
         text,

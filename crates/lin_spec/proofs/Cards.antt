@@ -14,7 +14,7 @@ use Rattle.lin_spec.specs.Base.{pick, ascii}
 use Rattle.lin_spec.specs.White.{lower}
 use Rattle.lin_spec.specs.Tokens.{Pieces, cut}
 use Rattle.lin_spec.specs.Tokens.Pieces.{end, piece}
-use Rattle.lin_spec.specs.Cards.{indexOf, suitOf, rankOf, cardOf, readCard, noCards, withCard, sum, handBy, handFrom, readHand, field, remainder, eastOf, dealOf}
+use Rattle.lin_spec.specs.Cards.{indexOf, suitOf, rankOf, cardOf, readCard, noCards, withCard, sum, handBy, handFrom, readHand, field, unheldCards, eastOf, dealOf}
 use Rattle.lin_spec.proofs.Base.{picked, allBelow, below}
 use Rattle.lin_spec.proofs.Tokens.{joined, joined-cut}
 
@@ -158,8 +158,8 @@ hand-count s c = omega (arith, count-sum (readHand s) c, hand-sum s)
 -- The remainder
 
 -- of three hands of n counts it has n counts
-pub remainder-length : (n : ℕ) (x y z : List ℕ) → length x ≡ n → length y ≡ n → length z ≡ n → length (remainder x y z) ≡ n
-unfolding remainder
+pub remainder-length : (n : ℕ) (x y z : List ℕ) → length x ≡ n → length y ≡ n → length z ≡ n → length (unheldCards x y z) ≡ n
+unfolding unheldCards
 remainder-length n [] y z hx hy hz = hx
 remainder-length n (a ∷ x) [] z hx hy hz = hy
 remainder-length n (a ∷ x) (b ∷ y) [] hx hy hz = hz
@@ -175,8 +175,8 @@ none-held zero zero (suc c) = simp (ne-eqb (zero + zero + suc c) 0 (λ e. omega 
 
 -- it holds exactly the cards that none of the three hands holds, each once
 pub remainder-at : (n : ℕ) (x y z : List ℕ) → length x ≡ n → length y ≡ n → length z ≡ n → (c : ℕ) → c < n
-    → getD (remainder x y z) c 0 ≡ pick (eqb (getD x c 0) 0 && (eqb (getD y c 0) 0 && eqb (getD z c 0) 0)) 1 0
-unfolding remainder
+    → getD (unheldCards x y z) c 0 ≡ pick (eqb (getD x c 0) 0 && (eqb (getD y c 0) 0 && eqb (getD z c 0) 0)) 1 0
+unfolding unheldCards
 remainder-at n [] y z hx hy hz c h = absurd (omega arith)
 remainder-at n (a ∷ x) [] z hx hy hz c h = absurd (omega arith)
 remainder-at n (a ∷ x) (b ∷ y) [] hx hy hz c h = absurd (omega arith)
@@ -197,7 +197,7 @@ field-joined c (suc k) (piece x r) = omega (arith, length-append x (c ∷ joined
 pub field-length : (c k : ℕ) (s : List ℕ) → length (field k (cut c s)) ≤ length s
 field-length c k s = omega (arith, field-joined c k (cut c s), ap length (joined-cut c s))
 
-east-length : (t : Bool) (x y z v : List ℕ) → length (pick t (remainder (readHand x) (readHand y) (readHand z)) (readHand v)) ≡ 52
+east-length : (t : Bool) (x y z v : List ℕ) → length (pick t (unheldCards (readHand x) (readHand y) (readHand z)) (readHand v)) ≡ 52
 east-length true x y z v = remainder-length 52 (readHand x) (readHand y) (readHand z) (hand-length x) (hand-length y) (hand-length z)
 east-length false x y z v = hand-length v
 

@@ -12,7 +12,7 @@ use Rattle.lin_spec.specs.Utf8.{first, utfStep, utf, utf8, encode}
 use Rattle.lin_spec.specs.White.{whiteSpace, front, whiteAt, skipWhite, trimStart, blank, trimEnd, trim, lower, sameWord, isCommand}
 use Rattle.lin_spec.specs.Tokens.{cut, paired, left, tokens, trailing}
 use Rattle.lin_spec.specs.Tokens.TokenOf.{token}
-use Rattle.lin_spec.specs.Cards.{indexOf, suitOf, rankOf, readCard, sum, handFrom, readHand, field, remainder, eastOf, dealOf}
+use Rattle.lin_spec.specs.Cards.{indexOf, suitOf, rankOf, readCard, sum, handFrom, readHand, field, unheldCards, eastOf, dealOf}
 use Rattle.lin_spec.specs.Board.{dealerOf, readMd, readSv, endsIn, withoutEnd, valueFrom, numberIn, over, undealt, boardFrom}
 use Rattle.lin_spec.specs.Reading.{parseLin, stream, placed}
 use Rattle.lin_spec.specs.Refusals.{unless}
@@ -43,7 +43,7 @@ pub record Cases : Type 0 where
   pub C14 : (countBoards (ascii "qx|a|") ≡ accepted 0) × (countBoards (ascii "hello") ≡ accepted 1)
 
 pub cases : Cases
-unfolding countBoards unless utf8 utf utfStep first fileSpans sections keep any partsFrom linesFrom stream placed tokens trailing cut paired left parseLin boardFrom over undealt isCommand sameWord lower trim trimEnd trimStart skipWhite blank whiteAt front whiteSpace encode starts eqAll readMd dealerOf dealOf eastOf field readHand handFrom suitOf rankOf indexOf sum remainder readSv numberIn all valueFrom readCard withoutEnd endsIn part annotationText annotationParts partsUpTo partLength run partWord nagWord noteOf joinBy
+unfolding countBoards unless utf8 utf utfStep first fileSpans sections keep any partsFrom linesFrom stream placed tokens trailing cut paired left parseLin boardFrom over undealt isCommand sameWord lower trim trimEnd trimStart skipWhite blank whiteAt front whiteSpace encode starts eqAll readMd dealerOf dealOf eastOf field readHand handFrom suitOf rankOf indexOf sum unheldCards readSv numberIn all valueFrom readCard withoutEnd endsIn part annotationText annotationParts partsUpTo partLength run partWord nagWord noteOf joinBy
 cases =
     record {
       C1 = record { toks = refl; rest = refl };

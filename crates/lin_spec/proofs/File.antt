@@ -21,6 +21,7 @@ use Rattle.lin_spec.specs.File.{Section, section, holds, leads, partAt, 
 use Rattle.lin_spec.specs.Refusals.{sat, tooLong, notUtf8}
 use Rattle.lin_spec.specs.Refusals.Answer.{accepted}
 use Rattle.lin_spec.specs.File.Visit.{found, ended}
+use Rattle.lin_spec.specs.Visits.{lineAt, partEnd, partFrom}
 use Rattle.lin_spec.specs.declared.Span.{Span}
 use Rattle.lin_spec.proofs.Base.{picked, split}
 use Rattle.lin_spec.proofs.Tokens.{joined, cuts, Whole, joined-cut, whole-cut, cuts-cut, cut-piece, cut-joined, count-append}
@@ -56,17 +57,6 @@ chain-by s at (piece x (piece y r)) e w =
 
 pub chain : (s : List ℕ) (at : ℕ) → Chain s at
 chain s at = chain-by s at (cut pipe (drop at s)) (sym (joined-cut pipe (drop at s))) (whole-cut pipe (drop at s))
-
--- The first section from a place on: the line there, and the part by the place where it ends
-
-abbrev pub lineAt : (s : List ℕ) (at : ℕ) → Section
-lineAt s at = let x = field 0 (cut 0x0A (drop at s)) in section at (at + length x) (not (blank x))
-
-unfoldable pub partEnd : (begin back at : ℕ) → List (TokenOf Span) → ℕ
-partEnd begin back at [] = at
-partEnd begin back at (token c v ∷ ts) =
-    let next = endOf v + 1 in
-    pick (isCommand c (ascii "qx")) (pick (ltb begin back) back (partEnd begin next next ts)) (partEnd begin (pick (leads c) back next) next ts)
 
 -- The parts from a place on where one begins
 
@@ -299,9 +289,6 @@ line-cut s at l = go (cut 0x0A (drop at s)) (sym (joined-cut 0x0A (drop at s)))
 -- a step by the tests of its code: the line or the part at the cursor, if there is one
 abbrev pub lineStep : (s : List ℕ) → Standing → Visit
 lineStep s c = pick (ltb (length s) (c .at)) (ended c) (found (c .number) (lineAt s (c .at)) (after c (lineAt s (c .at))))
-
-abbrev pub partFrom : (s : List ℕ) (at : ℕ) → Section
-partFrom s at = partAt s at (partEnd at at at (stream s at))
 
 abbrev pub partStep : (s : List ℕ) → Standing → Visit
 partStep s c = pick (null (stream s (c .at))) (ended c) (found (c .number) (partFrom s (c .at)) (after c (partFrom s (c .at))))

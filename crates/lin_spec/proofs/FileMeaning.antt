@@ -4,13 +4,11 @@
 use Prim.Native.Nat.{ℕ, zero, suc, _+_, _-_, _<_}
 use native.Mathlib.Omega.{arith}
 use mathlib.Core.Path.{_≡_, refl, ap, sym, _∙_}
-use mathlib.Core.Bool.{false}
 use mathlib.Core.List.{List, [], _∷_, map}
-use mathlib.Core.Option.{none}
-use lib.ListN.{length, take, drop, getD, length-take, length-map}
+use lib.ListN.{length, take, drop, getD, length-take}
 use lib.Seq.{take-take, drop-drop}
 use lib.Dec.{eqb}
-use borrow.Author.Tests.{ne-eqb, lt-leb}
+use borrow.Author.Tests.{ne-eqb}
 use Rattle.lin_spec.specs.Base.{pick, All}
 use Rattle.lin_spec.specs.Records.{span, part, bytesAt}
 use Rattle.lin_spec.specs.Tokens.{Pieces, cut, pipe, TokenOf, tokens}
@@ -18,9 +16,7 @@ use Rattle.lin_spec.specs.Tokens.Pieces.{end, piece}
 use Rattle.lin_spec.specs.Tokens.TokenOf.{token}
 use Rattle.lin_spec.specs.Board.{boardFrom, mapBoard}
 use Rattle.lin_spec.specs.Reading.{bytesText, spanText, placed, stream, parseLin, parseSpans}
-use Rattle.lin_spec.specs.Refusals.{unless, notUtf8}
-use Rattle.lin_spec.specs.File.{Section, section, boardIn, sections, boardsOf, Standing, visit, readStep, parseLinFile, fileSpans, noBoard, numbered, fileBoard}
-use Rattle.lin_spec.specs.File.Visit.{found}
+use Rattle.lin_spec.specs.File.{Section, boardIn, sections, boardsOf, parseLinFile, fileSpans}
 use Rattle.lin_spec.specs.declared.Span.{Span}
 use Rattle.lin_spec.proofs.Tokens.{joined-cut}
 use Rattle.lin_spec.proofs.Reading.{mapToken, ValueOf, part-part, part-most, placed-from, board-map, Within, stream-within}

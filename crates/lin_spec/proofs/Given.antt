@@ -7,10 +7,10 @@ use mathlib.Core.Path.{_≡_, refl, ap, sym, subst, _∙_}
 use mathlib.Core.Bool.{true, not}
 use mathlib.Core.List.{List, _∷_, []}
 use mathlib.Core.Option.{Option}
-use lib.ListN.{length, take, drop, getD}
+use lib.ListN.{length, getD}
 use lib.Dec.{ltb, leb}
 use borrow.Author.Tests.{leb-false, not-false}
-use Rattle.lin_spec.specs.Base.{All, keep, null}
+use Rattle.lin_spec.specs.Base.{All, null}
 use Rattle.lin_spec.specs.Records.{part, bytesAt, limit}
 use Rattle.lin_spec.specs.Utf8.{utf8, longest}
 use Rattle.lin_spec.specs.Refusals.{Answer, unless, tooLong, notUtf8}
@@ -18,7 +18,7 @@ use Rattle.lin_spec.specs.Refusals.Answer.{refused, accepted}
 use Rattle.lin_spec.specs.Board.{BoardOf, mapBoard}
 use Rattle.lin_spec.specs.Reading.{stream, parseLin, parseSpans, fewRows, stored, readBoard, callWords, headingOf, headed, readHeading}
 use Rattle.lin_spec.specs.File.{Section, boardIn, parseLinFile, fileSpans, noBoard, numbered, fileBoard, fileHeading}
-use Rattle.lin_spec.specs.File.{linesAt, partsAt, boardsOf, Standing, Visit, remaining, ReadStep, readBy, readStep}
+use Rattle.lin_spec.specs.File.{linesAt, partsAt, Standing, Visit, remaining, ReadStep, readBy, readStep}
 use Rattle.lin_spec.specs.File.Visit.{found}
 use Rattle.lin_spec.specs.Lent.{Lendable, lent}
 use Rattle.lin_spec.specs.ThirdDemand.{Gives}

@@ -12,7 +12,7 @@ use lib.Dec.{eqb}
 use borrow.Author.Tests.{eq-eqb}
 use Rattle.lin_spec.specs.Records.{part}
 use Rattle.lin_spec.specs.Letters.{handAt}
-use Rattle.lin_spec.specs.Cards.{sum, remainder, thirteens}
+use Rattle.lin_spec.specs.Cards.{sum, unheldCards, thirteens}
 use Rattle.lin_spec.specs.Board.{CallOf, BoardOf, withoutEnd, mapOption, mapCall}
 use Rattle.lin_spec.specs.Writer.{clean, cleanName, heldIn, impliedEast, present, settledDeal, settledCall, cleaned, settled}
 use Rattle.lin_spec.specs.declared.Seat.the-variants.{South, West, North, East}
@@ -61,7 +61,7 @@ module _ (s w n e : List ℕ) (ls : length s ≡ 52) (lw : length w ≡ 52) (ln 
 -- the remainder beside three hands of 13 is implied, and stays
 module _ (s w n : List ℕ) (ls : length s ≡ 52) (lw : length w ≡ 52) (ln : length n ≡ 52) (th : thirteens s w n ≡ true) where
   abbrev rest : List ℕ
-  rest = remainder s w n
+  rest = unheldCards s w n
 
   lr : length rest ≡ 52
   lr = remainder-length 52 s w n ls lw ln
@@ -109,7 +109,7 @@ settle-deal d l = go (impliedEast d) refl
     go false e = let z : settledDeal d ≡ d = unfold settledDeal in simp e in ap settledDeal z
     go true e =
         let th : thirteens s w n ≡ true = unfold impliedEast in and-left (thirteens s w n) _ e in
-        let z : settledDeal d ≡ s ++ (w ++ (n ++ remainder s w n)) = unfold settledDeal in simp e in
+        let z : settledDeal d ≡ s ++ (w ++ (n ++ unheldCards s w n)) = unfold settledDeal in simp e in
         ap settledDeal z ∙ settled-four s w n ls lw ln th ∙ sym z
 
 -- The texts

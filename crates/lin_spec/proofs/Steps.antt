@@ -1,15 +1,15 @@
 -- Laws of the steps to the next board: what one gives and where it leads; the boards that steps from the first byte give, by their numbers; and where a
 -- text that is not UTF-8 is refused. (01: File; Eight refusals, 2)
 -- Assumes nothing.
-use Prim.Native.Nat.{ℕ, zero, suc, _+_, _-_, _≤_, _<_}
+use Prim.Native.Nat.{ℕ, suc, _+_, _-_, _≤_, _<_}
 use native.Mathlib.Omega.{arith}
 use mathlib.Core.Path.{_≡_, refl, ap, sym, subst, _∙_}
-use mathlib.Core.Bool.{Bool, true, false, _&&_, not, false≢true, and-true}
-use mathlib.Core.List.{List, [], _∷_, _++_, map, append-nil, append-assoc}
+use mathlib.Core.Bool.{Bool, true, false, _&&_, and-true}
+use mathlib.Core.List.{List, [], _∷_, _++_, append-nil, append-assoc}
 use lib.ListN.{length, take, drop, getD, length-append, length-drop, drop-of-length-le}
 use lib.Seq.{take-at, take-all, take-suc, split-at, getD-drop, drop-drop}
 use Rattle.lin_spec.specs.Base.{pick, keep}
-use Rattle.lin_spec.specs.File.{Section, section, sections, boardsOf, Standing, Visit, remaining, firstOf, after, visit, nextBoard}
+use Rattle.lin_spec.specs.File.{Section, boardsOf, Standing, Visit, remaining, firstOf, after, visit, nextBoard}
 use Rattle.lin_spec.specs.File.Visit.{found, ended}
 use Rattle.lin_spec.specs.Records.{part}
 use Rattle.lin_spec.specs.Utf8.{utf8, longest}

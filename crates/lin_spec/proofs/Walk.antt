@@ -6,23 +6,21 @@ use native.Mathlib.Nat.{not-suc-le-zero, le-of-suc-le-suc}
 use native.Mathlib.Omega.{arith}
 use mathlib.Core.Path.{_≡_, refl, ap, sym, subst, _∙_}
 use mathlib.Core.Bool.{Bool, true, false, not, false≢true}
-use mathlib.Core.List.{List, [], _∷_, _++_, map}
+use mathlib.Core.List.{List, [], _∷_}
 use mathlib.Core.Option.{Option, none, some}
-use lib.ListN.{length, take, drop, getD, length-drop, length-map, drop-of-length-le}
+use lib.ListN.{length, drop, getD, length-drop, length-map, drop-of-length-le}
 use lib.Seq.{getD-drop, drop-drop, take-length}
 use lib.Dec.{ltb}
 use borrow.Author.Tests.{ltb-false, not-false, lt-leb, le-ltb}
-use Rattle.lin_spec.specs.Base.{pick, keep, ascii}
+use Rattle.lin_spec.specs.Base.{pick, ascii}
 use Rattle.lin_spec.specs.Records.{limit, part}
 use Rattle.lin_spec.specs.Utf8.{utf8, longest}
 use Rattle.lin_spec.specs.Refusals.{Answer, refuseIf, unless, tooLong, notUtf8, sat}
 use Rattle.lin_spec.specs.Refusals.Answer.{refused, accepted}
-use Rattle.lin_spec.specs.Board.{BoardOf}
 use Rattle.lin_spec.specs.Reading.{stream, Reading, fewRows, stored}
 use Rattle.lin_spec.specs.File.{Section, section, holds, sections, boardsOf, boardIn, fileSpans, noBoard, numbered, fileBoard, Standing, Visit, remaining, firstOf, after, visit, nextBoard, openBoards}
 use Rattle.lin_spec.specs.File.{lookedAt, notUtf8From, fewIn, ReadStep, unread, readBy, readStep}
 use Rattle.lin_spec.specs.File.Visit.{found, ended}
-use Rattle.lin_spec.specs.declared.Span.{Span}
 use Rattle.lin_spec.specs.declared.Refusal.{Refusal}
 use Rattle.lin_spec.specs.declared.Refusal.the-variants.{TextTooLong, NotUtf8, TooFewRows}
 use Rattle.lin_spec.specs.declared.RowKind.the-variants.{Calls, Cards}
@@ -32,9 +30,9 @@ use Rattle.lin_spec.proofs.Base.{split}
 use Rattle.lin_spec.proofs.Checks.{unmet, unless-same}
 use Rattle.lin_spec.proofs.Utf8.{utf8-ascii, longest-most, whole-text}
 use Rattle.lin_spec.proofs.Document.{Opened}
-use Rattle.lin_spec.proofs.File.{Found, Visits, visits, visited, all-remain}
+use Rattle.lin_spec.proofs.File.{Found, Visits, visits, all-remain}
 use Rattle.lin_spec.proofs.FileMeaning.{getD-map}
-use Rattle.lin_spec.proofs.Steps.{Next, Nexts, nexts, next-is, front-board, front-other, number-other, bounded, bounded-section, bounded-utf8, bounded-longest, bounded-past, bounded-whole}
+use Rattle.lin_spec.proofs.Steps.{Next, next-is, front-board, front-other, bounded, bounded-section, bounded-utf8, bounded-longest, bounded-past, bounded-whole}
 
 -- A cursor on its way through a file that was opened: the boards that remain are the file's from its number on, and the text from its place on is UTF-8.
 

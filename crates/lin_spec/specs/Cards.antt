@@ -68,12 +68,12 @@ field zero (piece x r) = x
 field (suc k) (end x) = []
 field (suc k) (piece x r) = field k r
 
--- "every card that no other seat holds"
-unfoldable pub remainder : (s w n : List ℕ) → List ℕ
-remainder [] w n = []
-remainder (a ∷ s) [] n = []
-remainder (a ∷ s) (b ∷ w) [] = []
-remainder (a ∷ s) (b ∷ w) (c ∷ n) = pick (eqb (a + b + c) 0) 1 0 ∷ remainder s w n
+-- the remainder, "every card that no other seat holds"
+unfoldable pub unheldCards : (s w n : List ℕ) → List ℕ
+unheldCards [] w n = []
+unheldCards (a ∷ s) [] n = []
+unheldCards (a ∷ s) (b ∷ w) [] = []
+unheldCards (a ∷ s) (b ∷ w) (c ∷ n) = pick (eqb (a + b + c) 0) 1 0 ∷ unheldCards s w n
 
 -- "the other three lengths are each 13"
 abbrev pub thirteens : (s w n : List ℕ) → Bool
@@ -81,7 +81,7 @@ thirteens s w n = eqb (sum s) 13 && (eqb (sum w) 13 && eqb (sum n) 13)
 
 -- East is the remainder "if its field is missing or trims to nothing and the other three lengths are each 13"
 unfoldable pub eastOf : (east s w n : List ℕ) → List ℕ
-eastOf e s w n = pick (blank e && thirteens s w n) (remainder s w n) (readHand e)
+eastOf e s w n = pick (blank e && thirteens s w n) (unheldCards s w n) (readHand e)
 
 -- "hands S, W, N, E, extra fields ignored"
 unfoldable pub dealOf : Pieces → List ℕ

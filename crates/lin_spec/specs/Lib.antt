@@ -12,6 +12,7 @@ pub mod Board
 pub mod Reading
 pub mod Fresh
 pub mod File
+pub mod Visits
 pub mod Decimal
 pub mod Letters
 pub mod Listing

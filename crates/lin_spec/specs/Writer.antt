@@ -8,7 +8,7 @@ use lib.ListN.{getD, replicate}
 use lib.Dec.{eqb}
 use Rattle.lin_spec.specs.Base.{pick, keep, null, concat, joinBy, ascii}
 use Rattle.lin_spec.specs.Tokens.{pipe}
-use Rattle.lin_spec.specs.Cards.{sum, remainder, thirteens}
+use Rattle.lin_spec.specs.Cards.{sum, unheldCards, thirteens}
 use Rattle.lin_spec.specs.Decimal.{decimal}
 use Rattle.lin_spec.specs.Letters.{svLetter, handAt}
 use Rattle.lin_spec.specs.Board.{CallOf, Dealt, BoardOf, endsIn, withoutEnd, mapOption, mapCall}
@@ -46,7 +46,7 @@ impliedEast d =
     let w = handAt d West in
     let n = handAt d North in
     let e = handAt d East in
-    thirteens s w n && (eqb (sum e) 0 || sameCards e (remainder s w n))
+    thirteens s w n && (eqb (sum e) 0 || sameCards e (unheldCards s w n))
 
 -- a suit's cards of a hand, "ranks from A down": "Each card stands as often as it is counted"
 unfoldable pub ranksFrom : (hand : List ℕ) (first ranks : ℕ) → List ℕ
@@ -145,7 +145,7 @@ present (some s) = pick (null s) none (some s)
 unfoldable pub settledDeal : List ℕ → List ℕ
 settledDeal d =
     pick (impliedEast d)
-    (handAt d South ++ (handAt d West ++ (handAt d North ++ remainder (handAt d South) (handAt d West) (handAt d North))))
+    (handAt d South ++ (handAt d West ++ (handAt d North ++ unheldCards (handAt d South) (handAt d West) (handAt d North))))
     d
 
 -- "a bid loses trailing `!` and is alerted if it was or lost one"

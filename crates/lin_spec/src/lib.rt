@@ -2,7 +2,9 @@
 ghost use mathlib.Core.Path.{_≡_};
 ghost use Rattle.lin_spec.specs.Fresh.{freshDeal, freshBoard, refusedHeading};
 ghost use Prim.Native.Nat.{_<_, min};
-ghost use Rattle.lin_spec.specs.Records.{limit};
+ghost use Rattle.lin_spec.specs.Records.{limit, optionOf};
+ghost use Rattle.lin_spec.specs.Reading.{flag};
+ghost use Rattle.lin_spec.specs.Lent.{rowOf};
 ghost use Rattle.lin_spec.specs.Refusals.{numberOf, kindOf, carriedOf};
 ghost use Rattle.lin_spec.specs.Letters.{seatNumber, seatAt, seatLetter, svLetter};
 
@@ -233,6 +235,36 @@ pub struct Call {
     pub alerted: u32,
     pub annotated: u32,
     pub annotation: Span,
+}
+
+// 1 or 0.
+fn flag_of(b: bool) -> u32
+    ensures { λ r. ⌜ r ≡ flag b ⌝ }
+{
+    if b { 1 } else { 0 }
+}
+
+impl Call {
+    // A call by its bid, whether it is alerted, and its annotation.
+    pub fn new(bid: Span, alerted: bool, annotation: MaybeSpan) -> Call
+        ensures { λ r. ⌜ r ≡ rowOf (record { bid = bid; alerted = alerted; annotation = optionOf annotation }) ⌝ }
+    {
+        let alerted = flag_of(alerted);
+        match annotation {
+            MaybeSpan::Absent => Call {
+                bid,
+                alerted,
+                annotated: 0,
+                annotation: Span { start: 0, len: 0 },
+            },
+            MaybeSpan::Present(x) => Call {
+                bid,
+                alerted,
+                annotated: 1,
+                annotation: x,
+            },
+        }
+    }
 }
 
 // Whether a call was accepted, or the refusal that met it.

@@ -21,18 +21,18 @@ use Rattle.lin_spec.specs.declared.Refusal.the-variants.{TextTooLong, OutputToo
 use Rattle.lin_spec.specs.declared.Heading.{Heading}
 use Rattle.lin_spec.proofs.Checks.{unless-refused, unless-passed}
 use Rattle.lin_spec.proofs.File.{Found, all-remain}
-use Rattle.board_steps.specs.Head.{boardAt}
-use Rattle.sections.specs.Sections.{sectionOf, standingOf, openedOf}
-use Rattle.file.specs.Numbers.{Ready}
-use Rattle.sections.specs.declared.sections.Section.{Section}
-use Rattle.sections.specs.declared.sections.BoardCursor.{BoardCursor}
-use Rattle.sections.specs.declared.sections.OpenedBoards.{OpenedBoards}
-use Rattle.sections.specs.declared.sections.OpenedBoards.the-variants.{At, Refused}
+use Rattle.board_loop.specs.Head.{boardAt}
+use Rattle.file_sections.specs.Sections.{sectionOf, standingOf, openedOf}
+use Rattle.file.specs.Numbers.{AtFirst}
+use Rattle.file_sections.specs.declared.sections.Section.{Section}
+use Rattle.file_sections.specs.declared.sections.BoardCursor.{BoardCursor}
+use Rattle.file_sections.specs.declared.sections.OpenedBoards.{OpenedBoards}
+use Rattle.file_sections.specs.declared.sections.OpenedBoards.the-variants.{At, Refused}
 use Rattle.file.proofs.NumberLaws.{Way, way-begin, way-on, number-board, number-other}
 use Rattle.output.specs.Put.{Room, Put}
 use Rattle.output.proofs.Laws.{Left, start, roomy, step, finish, overlay-nil}
 use Rattle.listing.specs.Lines.{sectionLine}
-use Rattle.listing_words.proofs.LineLaws.{header-long}
+use Rattle.listing_lines.proofs.LineLaws.{header-long}
 use Rattle.listing_lines.proofs.Answers.{line-small, line-fits, line-done}
 
 -- A section's line
@@ -79,7 +79,7 @@ put-none o at t e = rw e (record { next = omega arith; text = sym (overlay-nil o
 abbrev pub rest : (s : List ℕ) → Standing → List ℕ
 rest s c = boardLines (c .number) (map (boardIn s) (boardsOf (remaining s c)))
 
-pub rest-begin : (s : List ℕ) (c : BoardCursor) → Ready s c → rest s (standingOf c) ≡ boardLines 0 (fileSpans s)
+pub rest-begin : (s : List ℕ) (c : BoardCursor) → AtFirst s c → rest s (standingOf c) ≡ boardLines 0 (fileSpans s)
 unfolding fileSpans
 rest-begin s c r = ap (rest s) (r .first) ∙ ap (λ (l : List Part). boardLines 0 (map (boardIn s) (boardsOf l))) (all-remain s)
 
@@ -102,7 +102,7 @@ pub record Measured (s : List ℕ) (n : ℕ) (c : Standing) : Type 0 where
   pub all : sat (n + length (rest s c)) ≡ sat (length (boardLines 0 (fileSpans s)))
   pub small : n < 2 ^ 64
 
-pub measured-begin : (s : List ℕ) (c : BoardCursor) → Ready s c → Measured s 0 (standingOf c)
+pub measured-begin : (s : List ℕ) (c : BoardCursor) → AtFirst s c → Measured s 0 (standingOf c)
 measured-begin s c r = let e = ap length (rest-begin s c r) in record { way = way-begin s c r; all = omega arith; small = omega arith }
 
 pub measured-end : (s : List ℕ) (n : ℕ) (c : Standing) → Measured s n c → remaining s c ≡ [] → n ≡ sat (length (boardLines 0 (fileSpans s)))
@@ -121,7 +121,7 @@ pub record Listed (s : List ℕ) (o : List ℕ) (n : ℕ) (c : Standing) (o₀ :
   pub way : Way s c
   pub left : Left o n (rest s c) o₀ at (boardLines 0 (fileSpans s))
 
-pub listed-begin : (s : List ℕ) (c : BoardCursor) → Ready s c → (o : List ℕ) (at : ℕ) → Room o at (boardLines 0 (fileSpans s)) → Listed s o at (standingOf c) o at
+pub listed-begin : (s : List ℕ) (c : BoardCursor) → AtFirst s c → (o : List ℕ) (at : ℕ) → Room o at (boardLines 0 (fileSpans s)) → Listed s o at (standingOf c) o at
 listed-begin s c r o at h = record { way = way-begin s c r; left = rw (rest-begin s c r) (start h) }
 
 module _ (s o : List ℕ) (n : ℕ) (c : Standing) (o₀ : List ℕ) (at : ℕ) (l : Listed s o n c o₀ at) where

@@ -16,8 +16,8 @@ use Rattle.lin_spec.specs.Utf8.{utf8, longest}
 use Rattle.lin_spec.specs.White.{skipWhite, trimStart, blank, trim, isCommand}
 use Rattle.lin_spec.specs.Tokens.{Pieces, cut, pipe}
 use Rattle.lin_spec.specs.Tokens.Pieces.{end, piece}
-use Rattle.lin_spec.specs.Cards.{sum, readCard, readHand, field, remainder, thirteens, eastOf, dealOf}
-use Rattle.lin_spec.specs.Board.{CallOf, Dealt, dealerOf, dealtBy, readMd, callOf, annotated, played, numberIn, over, undealt, onDealt, onCalls, onPlay, onClaim, boardFrom}
+use Rattle.lin_spec.specs.Cards.{sum, readCard, readHand, field, unheldCards, thirteens, eastOf, dealOf}
+use Rattle.lin_spec.specs.Board.{CallOf, Dealt, dealerOf, dealtBy, readMd, callOf, played, numberIn, over, undealt, onDealt, onCalls, onPlay, onClaim, boardFrom}
 use Rattle.lin_spec.specs.Decimal.{decimal}
 use Rattle.lin_spec.specs.Letters.{seatNumber, handLength}
 use Rattle.lin_spec.specs.Refusals.{numberOf, unless}
@@ -42,15 +42,15 @@ use Rattle.lin_spec.proofs.Decimal.{length-short, length-long}
 use Rattle.lin_spec.proofs.Rules.{number-only}
 use Rattle.lin_spec.proofs.Reading.{part-most}
 use Rattle.lin_spec.proofs.File.{visit-is, visits}
-use Rattle.sections.specs.Sections.{standingOf}
-use Rattle.file.specs.Numbers.{Ready}
-use Rattle.sections.specs.declared.sections.BoardCursor.{BoardCursor}
+use Rattle.file_sections.specs.Sections.{standingOf}
+use Rattle.file.specs.Numbers.{AtFirst}
+use Rattle.file_sections.specs.declared.sections.BoardCursor.{BoardCursor}
 use Rattle.file.proofs.NumberLaws.{Way, way-begin, way-on}
 use Rattle.output.specs.Put.{Put}
 use Rattle.listing.specs.Lines.{sectionLine}
-use Rattle.listing_words.proofs.LineLaws.{header-long, field-long, lengths-long, board-long, refusal-long}
+use Rattle.listing_lines.proofs.LineLaws.{header-long, field-long, lengths-long, board-long, refusal-long}
 use Rattle.listing.proofs.FileLaws.{rest, rest-begin, rest-end, rest-on, list-over}
-use Rattle.board_steps.proofs.CallLaws.{annotated-length}
+use Rattle.board_loop.proofs.CallLaws.{annotated-length}
 
 -- Digits
 
@@ -100,14 +100,14 @@ hand-most : (d : List ℕ) (x : Seat) → handLength d x ≤ sum d
 unfolding part
 hand-most d x = let a = sum-take 52 (drop (seatNumber x * 52) d) in let b = sum-drop (seatNumber x * 52) d in omega arith
 
-remainder-sum : (x y z : List ℕ) → sum (remainder x y z) ≤ length x
-unfolding sum remainder
+remainder-sum : (x y z : List ℕ) → sum (unheldCards x y z) ≤ length x
+unfolding sum unheldCards
 remainder-sum [] y z = omega arith
 remainder-sum (a ∷ x) [] z = omega arith
 remainder-sum (a ∷ x) (b ∷ y) [] = omega arith
 remainder-sum (a ∷ x) (b ∷ y) (c ∷ z) =
     let k = remainder-sum x y z in
-    picked (λ (n : ℕ). n + sum (remainder x y z) ≤ suc (length x)) (eqb (a + b + c) 0) {a = 1} {b = 0} (λ _. omega arith) (λ _. omega arith)
+    picked (λ (n : ℕ). n + sum (unheldCards x y z) ≤ suc (length x)) (eqb (a + b + c) 0) {a = 1} {b = 0} (λ _. omega arith) (λ _. omega arith)
 
 -- a deal has no more cards than this, where its text has n bytes
 deal-sum : (n : ℕ) (f : Pieces) → ((k : ℕ) → length (field k f) ≤ n) → sum (dealOf f) ≤ 4 * n + 52
@@ -116,7 +116,7 @@ deal-sum n f h =
     let s = readHand (field 0 f) in
     let w = readHand (field 1 f) in
     let t = readHand (field 2 f) in
-    let e = pick (blank (field 3 f) && thirteens s w t) (remainder s w t) (readHand (field 3 f)) in
+    let e = pick (blank (field 3 f) && thirteens s w t) (unheldCards s w t) (readHand (field 3 f)) in
     let k : sum e ≤ n + 52 = picked (λ (x : List ℕ). sum x ≤ n + 52) (blank (field 3 f) && thirteens s w t) (λ _. let a = remainder-sum s w t in let b = hand-length (field 0 f) in omega arith) (λ _. let a = hand-sum (field 3 f) in let b = h 3 in omega arith) in
     let q : sum (s ++ (w ++ (t ++ e))) ≡ sum s + (sum w + (sum t + sum e)) = sum-append s _ ∙ ap (λ (i : ℕ). sum s + i) (sum-append w _ ∙ ap (λ (i : ℕ). sum w + i) (sum-append t e)) in
     let a = hand-sum (field 0 f) in
@@ -354,7 +354,7 @@ refusal-most r = let l = refusal-long r in let d = digits-1 (numberOf r) (small 
 whole-most : (s : List ℕ) → length s ≤ 65536 → length (header ++ boardLines 0 (fileSpans s)) ≤ 1048576
 whole-most s l =
     let c : BoardCursor = record { at = 0; number = 0; lines = not (holds (ascii "qx") (stream s 0)) } in
-    let r : Ready s c = record { first = refl; short = omega arith } in
+    let r : AtFirst s c = record { first = refl; short = omega arith } in
     let k = rest-most (length s + 2) s (standingOf c) l (way-begin s c r) (omega arith) in
     let e = ap length (rest-begin s c r) in
     let a = length-append header (boardLines 0 (fileSpans s)) in

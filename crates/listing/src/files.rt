@@ -1,6 +1,11 @@
 // All that linlist prints for an input, as one entry: the sections of the file are passed twice, once to measure the lines and once to
 // put them. (01: Program linlist)
 use board::heading_at;
+use file_sections::BoardCursor;
+use file_sections::BoardStep;
+use file_sections::OpenedBoards;
+use file_sections::Section;
+use file_sections::open_boards;
 use lin_spec::Heading;
 use lin_spec::Refusal;
 use lin_spec::Written;
@@ -10,11 +15,6 @@ use listing_lines::put_board_line;
 use listing_lines::put_header;
 use listing_lines::refusal_line;
 use output::sat_add;
-use sections::BoardCursor;
-use sections::BoardStep;
-use sections::OpenedBoards;
-use sections::Section;
-use sections::open_boards;
 ghost use mathlib.Core.Path.{_≡_};
 ghost use mathlib.Core.List.{_++_};
 ghost use lib.ListN.{length};
@@ -23,8 +23,8 @@ ghost use Rattle.lin_spec.specs.Output.{Outcome, answerOf};
 ghost use Rattle.lin_spec.specs.Reading.{headingOf};
 ghost use Rattle.lin_spec.specs.File.{boardIn, fileSpans};
 ghost use Rattle.lin_spec.specs.Listing.{header, boardLines, listing, writeLine};
-ghost use Rattle.sections.specs.Sections.{sectionOf};
-ghost use Rattle.file.specs.Numbers.{Holds, Ready};
+ghost use Rattle.file_sections.specs.Sections.{sectionOf, Inside};
+ghost use Rattle.file.specs.Numbers.{AtFirst};
 ghost use Rattle.output.specs.Put.{Room, Put};
 ghost use Rattle.listing.specs.Lines.{sectionLine};
 
@@ -35,38 +35,38 @@ pub const LIST_LIMIT: usize = 65_536;
 pub const LIST_ROOM: usize = 1_048_576;
 
 // The heading of a section.
-fn heading_of(text: &[u8], p: Section) -> Heading
-    requires { ⌜ Holds (now text) p ⌝ }
+fn section_heading(text: &[u8], p: Section) -> Heading
+    requires { ⌜ Inside (now text) p ⌝ }
     ensures { λ r. ⌜ r ≡ headingOf (boardIn (now (text .entry)) (sectionOf p)) ⌝ }
 {
     heading_at(&text[..p.stop], p.start)
 }
 
-// How many bytes a section's line has, 0 if it is no board.
+// A section that is no board has no line, and its length is 0.
 fn section_len(text: &[u8], number: usize, p: Section) -> u64
-    requires { ⌜ Holds (now text) p ⌝ }
+    requires { ⌜ Inside (now text) p ⌝ }
     ensures { λ r. ⌜ r ≡ sat (length (sectionLine (now (text .entry)) number (sectionOf p))) ⌝ }
 {
     if !p.board {
         return 0;
     }
-    board_line_len(number as u64, heading_of(text, p))
+    board_line_len(number as u64, section_heading(text, p))
 }
 
 // Puts a section's line, if it is a board.
 fn put_section(out: &mut [u8], at: usize, text: &[u8], number: usize, p: Section) -> usize
-    requires { ⌜ Room (now out) at (sectionLine (now text) number (sectionOf p)) × Holds (now text) p ⌝ }
+    requires { ⌜ Room (now out) at (sectionLine (now text) number (sectionOf p)) × Inside (now text) p ⌝ }
     ensures { λ r. ⌜ Put (now (out .entry)) at (sectionLine (now (text .entry)) number (sectionOf p)) (now (out .exit)) r ⌝ }
 {
     if !p.board {
         return at;
     }
-    put_board_line(out, at, number as u64, heading_of(text, p))
+    put_board_line(out, at, number as u64, section_heading(text, p))
 }
 
-// How many bytes the lines of the boards have, from a cursor at the first section.
+// All boards' lines together, from a cursor at the first section.
 fn lines_len(text: &[u8], cursor: BoardCursor) -> u64
-    requires { ⌜ Ready (now text) cursor ⌝ }
+    requires { ⌜ AtFirst (now text) cursor ⌝ }
     ensures { λ r. ⌜ r ≡ sat (length (boardLines 0 (fileSpans (now (text .entry))))) ⌝ }
 {
     let mut n = 0;
@@ -86,7 +86,7 @@ fn lines_len(text: &[u8], cursor: BoardCursor) -> u64
 
 // Puts the lines of the boards, from a cursor at the first section.
 fn put_lines(out: &mut [u8], at: usize, text: &[u8], cursor: BoardCursor) -> usize
-    requires { ⌜ Room (now out) at (boardLines 0 (fileSpans (now text))) × Ready (now text) cursor ⌝ }
+    requires { ⌜ Room (now out) at (boardLines 0 (fileSpans (now text))) × AtFirst (now text) cursor ⌝ }
     ensures { λ r. ⌜ Put (now (out .entry)) at (boardLines 0 (fileSpans (now (text .entry)))) (now (out .exit)) r ⌝ }
 {
     let mut n = at;
@@ -106,7 +106,7 @@ fn put_lines(out: &mut [u8], at: usize, text: &[u8], cursor: BoardCursor) -> usi
 
 // The header and the lines of the boards, from a cursor at the first section.
 fn list_from(text: &[u8], cursor: BoardCursor, out: &mut [u8]) -> Written
-    requires { ⌜ Ready (now text) cursor ⌝ }
+    requires { ⌜ AtFirst (now text) cursor ⌝ }
     ensures { λ r. ⌜ _≡_ {A = Outcome} (record { answer = answerOf r; output = now (out .exit) }) (writeLine (header ++ boardLines 0 (fileSpans (now (text .entry)))) (now (out .entry))) ⌝ }
 {
     let need = sat_add(43, lines_len(text, cursor));

@@ -1,18 +1,18 @@
 // The lines: each put at a place that has room, its length, and as an entry that fills an output from the first byte on or is refused by 7.
 // (01: Program linlist; refusal 7)
+use crate::words::claim_len;
+use crate::words::field_len;
+use crate::words::lengths_len;
+use crate::words::put_claim;
+use crate::words::put_field;
+use crate::words::put_lengths;
+use crate::words::put_letters;
+use crate::words::put_number;
 use lin_spec::Heading;
 use lin_spec::Refusal;
 use lin_spec::Verdict;
 use lin_spec::Written;
 use lin_spec::room;
-use listing_words::claim_len;
-use listing_words::field_len;
-use listing_words::lengths_len;
-use listing_words::put_claim;
-use listing_words::put_field;
-use listing_words::put_lengths;
-use listing_words::put_letters;
-use listing_words::put_number;
 use output::decimal_len;
 use output::put_byte;
 use output::put_bytes;
@@ -57,7 +57,6 @@ pub fn put_board_line(out: &mut [u8], at: usize, number: u64, heading: Heading) 
     put_byte(out, g, b'\n')
 }
 
-// How many bytes the line of a board has.
 pub fn board_line_len(number: u64, heading: Heading) -> u64
     ensures { λ r. ⌜ r ≡ sat (length (boardLine number heading)) ⌝ }
 {
@@ -81,7 +80,6 @@ pub fn put_refusal_line(out: &mut [u8], at: usize, refusal: Refusal) -> usize
     put_byte(out, b, b'\n')
 }
 
-// How many bytes the line of a refusal has.
 pub fn refusal_line_len(refusal: Refusal) -> u64
     ensures { λ r. ⌜ r ≡ sat (length (refusalLine refusal)) ⌝ }
 {

@@ -1,8 +1,11 @@
-// Bytes and words put into a lent output, one text after the other, and lengths that stop at the largest number. Nothing of LIN.
+// Bytes, words and spans put into a lent output, one after the other, and lengths that stop at the largest number. Nothing of LIN.
 // (01: Writer, "Every output's room ..", and refusal 7)
+use lin_spec::Span;
+use text::shown;
 ghost use mathlib.Core.Path.{_≡_};
 ghost use mathlib.Core.List.{_∷_, []};
 ghost use Prim.Native.Nat.{_+_};
+ghost use Rattle.lin_spec.specs.Records.{bytesAt};
 ghost use Rattle.lin_spec.specs.Refusals.{sat};
 ghost use Rattle.output.specs.Put.{Room, Put};
 
@@ -10,6 +13,8 @@ mod decimal;
 
 pub use decimal::decimal_len;
 pub use decimal::put_decimal;
+
+// Each of these puts at a place that has room, and gives the place after it.
 
 pub fn put_byte(out: &mut [u8], at: usize, b: u8) -> usize
     requires { ⌜ Room (now out) at (b ∷ []) ⌝ }
@@ -39,6 +44,14 @@ pub fn put_bytes(out: &mut [u8], at: usize, s: &[u8]) -> usize
         j += 1;
     }
     o
+}
+
+// Puts the bytes of a span.
+pub fn put_span(out: &mut [u8], at: usize, text: &[u8], x: Span) -> usize
+    requires { ⌜ Room (now out) at (bytesAt (now text) x) ⌝ }
+    ensures { λ r. ⌜ Put (now (out .entry)) at (bytesAt (now (text .entry)) x) (now (out .exit)) r ⌝ }
+{
+    put_bytes(out, at, shown(text, x))
 }
 
 // The sum of two lengths, or 2^64 less 1 where it is more.

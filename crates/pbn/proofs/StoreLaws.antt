@@ -1,4 +1,4 @@
--- Laws of the entry: what is stored once every check is passed, and the answer by the tests that were made. (01: From PBN; Eight refusals)
+-- Laws of the entry: the answer by the tests that were made, and what is stored once every check is passed. (01: From PBN; Eight refusals)
 -- Assumes nothing.
 use Prim.Native.Nat.{ℕ, suc, _+_, _*_, _/_, _≤_, _<_}
 use native.Mathlib.Omega.{arith}
@@ -12,12 +12,14 @@ use borrow.Author.Tests.{lt-ltb, le-ltb, ltb-false}
 use Rattle.lin_spec.specs.Base.{pick, any}
 use Rattle.lin_spec.specs.Records.{limit}
 use Rattle.lin_spec.specs.Refusals.{Answer, refuseIf, unless, sat, tooSmall}
+use Rattle.lin_spec.specs.Refusals.Answer.{accepted}
 use Rattle.lin_spec.specs.Output.{overlay, room}
 use Rattle.lin_spec.specs.Board.{CallOf, BoardOf}
-use Rattle.lin_spec.specs.Reading.{headingOf, callWords, fewRows}
+use Rattle.lin_spec.specs.Reading.{callWords, fewRows}
 use Rattle.lin_spec.specs.Writer.{orEmpty}
-use Rattle.lin_spec.specs.Pbn.{Pbn, pbn, pbnRows, keptCalls, keptCards, fromBoard, boardTexts, laidCalls, laid, badCall, badEntry, badBoardNumber, badPbn, Conversion, converted, convertBoard}
+use Rattle.lin_spec.specs.Pbn.{Pbn, pbn, pbnNames, pbnRows, keptCalls, keptCards, fromBoard, boardTexts, laidCalls, laid, badCall, badEntry, badBoardNumber, badPbn, Conversion, converted, convertBoard}
 use Rattle.lin_spec.specs.declared.Span.{Span}
+use Rattle.lin_spec.specs.declared.MaybeSpan.{MaybeSpan}
 use Rattle.lin_spec.specs.declared.RowKind.the-variants.{Calls, Cards}
 use Rattle.lin_spec.specs.declared.Refusal.{Refusal}
 use Rattle.lin_spec.specs.declared.Refusal.the-variants.{TooFewRows, OutputTooSmall}
@@ -30,13 +32,17 @@ use Rattle.lin_spec.specs.declared.Converted.{Converted}
 use Rattle.lin_spec.proofs.Base.{or-none}
 use Rattle.lin_spec.proofs.Checks.{unmet, unless-refused, unless-passed}
 use Rattle.output.specs.Put.{Room, Put}
-use Rattle.lent.specs.Checks.{verdictOf}
-use Rattle.pbn.specs.declared.heading.Starts.{Starts}
-use Rattle.pbn_calls.specs.Calls.{isKept, keptOne, keptMany, bidBytes, noteBytes, callBytes, callsBytes}
-use Rattle.pbn_calls.specs.Rows.{threeText, notedText, rowText, placedRow, placedRows}
+use Rattle.board_lent.specs.Checks.{verdictOf}
+use Rattle.pbn_texts.specs.declared.sources.Sources.{Sources}
+use Rattle.pbn_texts.specs.declared.layout.Layout.{Layout}
+use Rattle.pbn_texts.specs.Sources.{SourcesOf}
+use Rattle.pbn_texts.specs.Layout.{layoutOf}
+use Rattle.pbn_texts.specs.Raw.{textsOf}
+use Rattle.pbn_texts.specs.Calls.{isKept, keptOne, keptMany, bidBytes, noteBytes, callBytes, callsBytes}
+use Rattle.pbn_texts.specs.Rows.{threeText, notedText, rowText, placedRow, placedRows}
 use Rattle.pbn_checks.specs.Checks.{pbnChecks, checked}
-use Rattle.pbn.specs.Made.{bare, madeText, startsOf, counted, madeHeading, Ready, refusedBoard, storedBoard, fitted}
-use Rattle.pbn.proofs.MadeLaws.{kept-many, rows-are, starts-end, bare-within}
+use Rattle.pbn.specs.Made.{madeHeading, Counted, refusedBoard, fitted}
+use Rattle.pbn.proofs.MadeLaws.{kept-many, rows-are, texts-are, layout-end, calls-at, heading-is}
 
 -- How many there are
 
@@ -68,50 +74,6 @@ rows-long s ns at (c ∷ cs) =
     let y = row-long s ns at c in
     omega (arith, length-append (placedRow s ns at c) (placedRows s ns (at + length (callBytes s ns c)) cs))
 
--- What is stored
-
-module _ {p q : ℕ} {s : List ℕ} {b : PbnBoard} {ws ps ns o rows cards : List ℕ} {n k : ℕ} (r : Ready p q s b ws ps ns o rows cards n k) where
-  pub ready-text : Room o 0 (madeText p q s b ws ns)
-  ready-text = record { room = omega (arith, r .text-fits) }
-
-  pub ready-starts : length (boardTexts (bare p q s b)) ≤ limit
-  ready-starts = bare-within p q s b ws ns (r .sound) limit (omega (arith, r .text-fits))
-
-  pub ready-cards : Room cards 0 (keptCards ps)
-  ready-cards = record { room = omega (arith, r .cards-fit, r .kept) }
-
-  module _ (at : Starts) (ea : at ≡ startsOf (bare p q s b)) where
-    pub ready-rows : Room rows 0 (placedRows s ns (at .calls) (pbnRows ws)) × (at .calls + length (callsBytes s ns (pbnRows ws)) ≤ limit)
-    ready-rows = (
-      record { room = omega (arith, rows-long s ns (at .calls) (pbnRows ws), r .many, r .rows-fit) },
-      omega (arith, ap (λ (x : Starts). x .calls) ea, starts-end p q s b ws ns (r .sound), r .text-fits),
-    )
-
-    -- the calls are laid where the others end
-    rows-laid : placedRows s ns (at .calls) (pbnRows ws) ≡ callWords (laid (fromBoard p q (pbn s b ws ps ns)) .calls)
-    unfolding laid fromBoard bare startsOf
-    rows-laid = rows-are p q s ns (at .calls) (pbnRows ws) ∙ ap (λ (x : Starts). callWords (laidCalls (x .calls) (keptCalls p q s ns (pbnRows ws)))) ea
-
-    heading-whole : madeHeading p q s b n k ≡ headingOf (laid (fromBoard p q (pbn s b ws ps ns)))
-    unfolding madeHeading laid fromBoard bare
-    heading-whole =
-        let e : n ≡ length (laid (fromBoard p q (pbn s b ws ps ns)) .calls) = r .many ∙ sym (laid-many _ (keptCalls p q s ns (pbnRows ws)) ∙ kept-many p q s ns (pbnRows ws)) in
-        λ i. counted (headingOf (laid (bare p q s b))) (e i) (r .kept i)
-
-    pub stored-is : {o′ : List ℕ} {len : ℕ} → Put o 0 (madeText p q s b ws ns) o′ len → {rows′ : List ℕ} {x : ℕ} → Put rows 0 (placedRows s ns (at .calls) (pbnRows ws)) rows′ x
-        → {cards′ : List ℕ} {y : ℕ} → Put cards 0 (keptCards ps) cards′ y → (h : Heading) → h ≡ madeHeading p q s b n k
-        → _≡_ {A = Conversion} (record { heading = h; len = len; rows = rows′; cards = cards′; output = o′ }) (storedBoard p q (pbn s b ws ps ns) o rows cards)
-    unfolding storedBoard
-    stored-is {o′} {len} put {rows′} put₂ {cards′} put₃ h eh =
-        let t : madeText p q s b ws ns ≡ boardTexts (fromBoard p q (pbn s b ws ps ns)) = unfold madeText boardTexts fromBoard in refl in
-        let f : keptCards ps ≡ laid (fromBoard p q (pbn s b ws ps ns)) .play = unfold laid fromBoard in refl in
-        let e₁ = eh ∙ heading-whole in
-        let e₂ : len ≡ length (boardTexts (fromBoard p q (pbn s b ws ps ns))) = omega (arith, put .next, ap length t) in
-        let e₃ = put₂ .text ∙ ap (overlay rows 0) rows-laid in
-        let e₄ = put₃ .text ∙ ap (overlay cards 0) f in
-        let e₅ = put .text ∙ ap (overlay o 0) t in
-        λ i. record { heading = e₁ i; len = e₂ i; rows = e₃ i; cards = e₄ i; output = e₅ i }
-
 -- The answer, by the tests before it
 
 module _ (p q : ℕ) (x : Pbn) (o rows cards : List ℕ) where
@@ -142,7 +104,7 @@ module _ (p q : ℕ) (x : Pbn) (o rows cards : List ℕ) where
         let e₂ = eb ∙ ap (ltb (length cards)) ek in
         λ i. after (three (e₁ i) (e₂ i) (ec i) (en i) (ek i) (et i))
 
-    pub few-calls : length rows / 6 < n → (v : Converted) → v ≡ refusedBoard (TooFewRows Calls n) → Stays v ≡ fitted p q x o rows cards
+    few-calls : length rows / 6 < n → (v : Converted) → v ≡ refusedBoard (TooFewRows Calls n) → Stays v ≡ fitted p q x o rows cards
     unfolding three unless
     few-calls h v ev =
         ap Stays ev
@@ -152,48 +114,120 @@ module _ (p q : ℕ) (x : Pbn) (o rows cards : List ℕ) where
       abbrev enough : false ≡ few
       enough = sym (le-ltb (length rows / 6) n h)
 
-      pub few-cards : length cards < k → (v : Converted) → v ≡ refusedBoard (TooFewRows Cards k) → Stays v ≡ fitted p q x o rows cards
+      few-cards : length cards < k → (v : Converted) → v ≡ refusedBoard (TooFewRows Cards k) → Stays v ≡ fitted p q x o rows cards
       unfolding three unless
       few-cards l v ev =
           ap Stays ev
           ∙ is-three false true (ltb (room o) (length (boardTexts board))) k (sat (length (boardTexts board))) ek refl enough (sym (lt-ltb (length cards) k l)) refl
 
-      module _ (l : k ≤ length cards) (need : ℕ) (et : need ≡ sat (length (boardTexts board))) (r : ℕ) (er : r ≡ room o) where
-        pub small-output : r < need → (v : Converted) → v ≡ refusedBoard (OutputTooSmall need) → Stays v ≡ fitted p q x o rows cards
+      module _ (l : k ≤ length cards) (need : ℕ) (et : need ≡ sat (length (boardTexts board))) where
+        small-output : room o < need → (v : Converted) → v ≡ refusedBoard (OutputTooSmall need) → Stays v ≡ fitted p q x o rows cards
         unfolding three unless
         small-output m v ev =
             ap Stays ev
             ∙ is-three false false true k need ek et enough (sym (le-ltb (length cards) k l)) (sym (lt-ltb (room o) (length (boardTexts board)) (omega arith)))
 
-        pub all-fits : need ≤ r → storedBoard p q x o rows cards ≡ fitted p q x o rows cards
-        unfolding three unless storedBoard
+        all-fits : need ≤ room o → after (accepted (laid board)) ≡ fitted p q x o rows cards
+        unfolding three unless
         all-fits m = is-three false false false k need ek et enough (sym (le-ltb (length cards) k l)) (sym (le-ltb (room o) (length (boardTexts board)) (omega arith)))
 
--- How many calls and cards a record's board has, and how long its texts are
+-- 3: by how many calls and cards are kept
 
 module _ (p q : ℕ) (s : List ℕ) (b : PbnBoard) (ws ps ns : List ℕ) where
-  pub calls-many : (n : ℕ) → n ≡ keptMany (pbnRows ws) → n ≡ length (laid (fromBoard p q (pbn s b ws ps ns)) .calls)
+  calls-many : (n : ℕ) → n ≡ keptMany (pbnRows ws) → n ≡ length (laid (fromBoard p q (pbn s b ws ps ns)) .calls)
   unfolding laid fromBoard
   calls-many n e = e ∙ sym (laid-many _ (keptCalls p q s ns (pbnRows ws)) ∙ kept-many p q s ns (pbnRows ws))
 
-  pub cards-many : (k : ℕ) → k ≡ length (keptCards ps) → k ≡ length (laid (fromBoard p q (pbn s b ws ps ns)) .play)
+  cards-many : (k : ℕ) → k ≡ length (keptCards ps) → k ≡ length (laid (fromBoard p q (pbn s b ws ps ns)) .play)
   unfolding laid fromBoard
   cards-many k e = e
 
-  pub texts-long : (t : ℕ) → t ≡ sat (length (madeText p q s b ws ns)) → t ≡ sat (length (boardTexts (fromBoard p q (pbn s b ws ps ns))))
-  unfolding madeText boardTexts fromBoard
-  texts-long t e = e
+module _ (p q : ℕ) (s : List ℕ) (b : PbnBoard) (ws ps ns o rows cards : List ℕ) (n : ℕ) (en : n ≡ keptMany (pbnRows ws)) where
+  pub calls-refused : length rows / 6 < n → (v : Converted) → v ≡ refusedBoard (TooFewRows Calls n) → Stays p q (pbn s b ws ps ns) o rows cards v ≡ fitted p q (pbn s b ws ps ns) o rows cards
+  calls-refused = few-calls p q (pbn s b ws ps ns) o rows cards n (calls-many p q s b ws ps ns n en)
 
-  -- the calls of a sound record are sound
-  pub sound-calls : badPbn (pbn s b ws ps ns) ≡ false → any badCall (pbnRows ws) ≡ false
-  unfolding badPbn
-  sound-calls h = or-none (any badCall (pbnRows ws)) (any badEntry ps) (or-none (badBoardNumber (b .number)) _ h .1) .0
+  module _ (h : n ≤ length rows / 6) (k : ℕ) (ek : k ≡ length (keptCards ps)) where
+    pub cards-refused : length cards < k → (v : Converted) → v ≡ refusedBoard (TooFewRows Cards k) → Stays p q (pbn s b ws ps ns) o rows cards v ≡ fitted p q (pbn s b ws ps ns) o rows cards
+    cards-refused = few-cards p q (pbn s b ws ps ns) o rows cards n (calls-many p q s b ws ps ns n en) h k (cards-many p q s b ws ps ns k ek)
 
-  -- what storing rests on
-  pub ready : length s ≤ limit → badPbn (pbn s b ws ps ns) ≡ false → (n : ℕ) → n ≡ keptMany (pbnRows ws) → (k : ℕ) → k ≡ length (keptCards ps) → {o rows cards : List ℕ} → n ≤ length rows / 6 → k ≤ length cards
-      → (t : ℕ) → t ≡ sat (length (madeText p q s b ws ns)) → (r : ℕ) → r ≡ room o → t ≤ r → Ready p q s b ws ps ns o rows cards n k
-  ready h sound n en k ek l m t et r er f =
-      record { short = h; sound = sound-calls sound; many = en; kept = ek; rows-fit = l; cards-fit = m; text-fits = omega arith }
+    -- what the rest rests on
+    pub counted : (length s ≤ limit) × (badPbn (pbn s b ws ps ns) ≡ false) → k ≤ length cards → Counted s ws ps rows cards n k
+    unfolding badPbn
+    counted pre l =
+        record {
+          short = pre .0;
+          sound = or-none (any badCall (pbnRows ws)) (any badEntry ps) (or-none (badBoardNumber (b .number)) _ (pre .1) .1) .0;
+          many = en;
+          kept = ek;
+          rows-fit = h;
+          cards-fit = l;
+        }
+
+-- 7, and what is stored: by the sources and the layout
+
+-- what is known once it is computed how many bytes the texts need
+pub record Known (p q : ℕ) (s : List ℕ) (b : PbnBoard) (ws ps ns rows cards : List ℕ) (n k : ℕ) (ms : List MaybeSpan) (x : Sources) (at : Layout) (need : ℕ) : Type 0 where
+  pub counts : Counted s ws ps rows cards n k
+  pub names-are : ms ≡ pbnNames b
+  pub sources-are : SourcesOf s b x
+  pub layout-is : at ≡ layoutOf p q s ms x
+  pub need-is : need ≡ sat (at .calls + length (callsBytes s ns (pbnRows ws)))
+
+module _ {p q : ℕ} {s : List ℕ} {b : PbnBoard} {ws ps ns rows cards : List ℕ} {n k : ℕ} {ms : List MaybeSpan} {x : Sources} {at : Layout} {need : ℕ}
+    (r : Known p q s b ws ps ns rows cards n k ms x at need) (o : List ℕ) where
+  layout-made : at ≡ layoutOf p q s (pbnNames b) x
+  layout-made = r .layout-is ∙ ap (λ (xs : List MaybeSpan). layoutOf p q s xs x) (r .names-are)
+
+  texts-made : textsOf p q s ms x ns ws ≡ boardTexts (fromBoard p q (pbn s b ws ps ns))
+  texts-made = ap (λ (xs : List MaybeSpan). textsOf p q s xs x ns ws) (r .names-are) ∙ sym (texts-are p q s b ws ps ns x (r .sources-are) (r .counts .sound))
+
+  ends : at .calls + length (callsBytes s ns (pbnRows ws)) ≡ length (boardTexts (fromBoard p q (pbn s b ws ps ns)))
+  ends = layout-end p q s b ws ps ns x (r .sources-are) at layout-made ∙ sym (ap length (texts-are p q s b ws ps ns x (r .sources-are) (r .counts .sound)))
+
+  need-made : need ≡ sat (length (boardTexts (fromBoard p q (pbn s b ws ps ns))))
+  need-made = r .need-is ∙ ap sat ends
+
+  abbrev calls-made : n ≡ length (laid (fromBoard p q (pbn s b ws ps ns)) .calls)
+  calls-made = calls-many p q s b ws ps ns n (r .counts .many)
+
+  abbrev cards-made : k ≡ length (laid (fromBoard p q (pbn s b ws ps ns)) .play)
+  cards-made = cards-many p q s b ws ps ns k (r .counts .kept)
+
+  pub output-refused : room o < need → (v : Converted) → v ≡ refusedBoard (OutputTooSmall need) → Stays p q (pbn s b ws ps ns) o rows cards v ≡ fitted p q (pbn s b ws ps ns) o rows cards
+  output-refused = small-output p q (pbn s b ws ps ns) o rows cards n calls-made (r .counts .rows-fit) k cards-made (r .counts .cards-fit) need need-made
+
+  module _ (f : need ≤ room o) where
+    pub texts-room : Room o 0 (textsOf p q s ms x ns ws)
+    texts-room = record { room = omega (arith, f, need-made, ap length texts-made) }
+
+    pub rows-room : Room rows 0 (placedRows s ns (at .calls) (pbnRows ws)) × (at .calls + length (callsBytes s ns (pbnRows ws)) ≤ limit)
+    rows-room = (
+      record { room = omega (arith, rows-long s ns (at .calls) (pbnRows ws), r .counts .many, r .counts .rows-fit) },
+      omega (arith, f, r .need-is),
+    )
+
+    pub cards-room : Room cards 0 (keptCards ps)
+    cards-room = record { room = omega (arith, r .counts .cards-fit, r .counts .kept) }
+
+    -- the calls are laid where the others end
+    rows-laid : placedRows s ns (at .calls) (pbnRows ws) ≡ callWords (laid (fromBoard p q (pbn s b ws ps ns)) .calls)
+    unfolding laid fromBoard
+    rows-laid =
+        rows-are p q s ns (at .calls) (pbnRows ws)
+        ∙ ap (λ (a : ℕ). callWords (laidCalls a (keptCalls p q s ns (pbnRows ws)))) (calls-at p q s b ws ps ns x (r .sources-are) at layout-made)
+
+    pub stored : {o′ : List ℕ} {len : ℕ} → Put o 0 (textsOf p q s ms x ns ws) o′ len → {rows′ : List ℕ} {y : ℕ} → Put rows 0 (placedRows s ns (at .calls) (pbnRows ws)) rows′ y
+        → {cards′ : List ℕ} {z : ℕ} → Put cards 0 (keptCards ps) cards′ z → (h : Heading) → h ≡ madeHeading b at n k
+        → _≡_ {A = Conversion} (record { heading = h; len = len; rows = rows′; cards = cards′; output = o′ }) (fitted p q (pbn s b ws ps ns) o rows cards)
+    stored {o′} {len} put {rows′} put₂ {cards′} put₃ h eh =
+        let play : keptCards ps ≡ laid (fromBoard p q (pbn s b ws ps ns)) .play = unfold laid fromBoard in refl in
+        let e₁ = eh ∙ heading-is p q s b ws ps ns x (r .sources-are) at layout-made n calls-made k cards-made in
+        let e₂ : len ≡ length (boardTexts (fromBoard p q (pbn s b ws ps ns))) = omega (arith, put .next, ap length texts-made) in
+        let e₃ = put₂ .text ∙ ap (overlay rows 0) rows-laid in
+        let e₄ = put₃ .text ∙ ap (overlay cards 0) play in
+        let e₅ = put .text ∙ ap (overlay o 0) texts-made in
+        (λ i. record { heading = e₁ i; len = e₂ i; rows = e₃ i; cards = e₄ i; output = e₅ i })
+        ∙ all-fits p q (pbn s b ws ps ns) o rows cards n calls-made (r .counts .rows-fit) k cards-made (r .counts .cards-fit) need need-made f
 
 -- By the verdict of the checks before them
 

@@ -1,74 +1,65 @@
--- The board that is made of a record: without its calls and cards, where its texts begin, and what is stored and answered. (01: From PBN)
-use Prim.Native.Nat.{ℕ, _+_, _/_, _≤_}
+-- The board that is made of a record: its heading by the layout of its texts, and what is stored and answered. (01: From PBN)
+use Prim.Native.Nat.{ℕ, _-_, _/_, _≤_}
 use mathlib.Core.Path.{_≡_}
 use mathlib.Core.Bool.{false}
 use mathlib.Core.List.{List, [], _∷_, _++_}
 use lib.ListN.{length}
-use lib.Dec.{eqb}
-use Rattle.lin_spec.specs.Base.{pick, any, concat}
+use lib.Dec.{ltb}
+use Rattle.lin_spec.specs.Base.{pick, any}
 use Rattle.lin_spec.specs.Records.{limit, span}
 use Rattle.lin_spec.specs.Fresh.{refusedHeading}
 use Rattle.lin_spec.specs.Refusals.{unless, tooSmall}
-use Rattle.lin_spec.specs.Refusals.Answer.{accepted}
 use Rattle.lin_spec.specs.Output.{room}
-use Rattle.lin_spec.specs.Board.{BoardOf}
-use Rattle.lin_spec.specs.Reading.{headingOf, fewRows}
-use Rattle.lin_spec.specs.Writer.{orEmpty}
-use Rattle.lin_spec.specs.Pbn.{Pbn, pbn, pbnRows, badCall, keptCards, fromBoard, boardTexts, laid, Conversion, converted}
+use Rattle.lin_spec.specs.Reading.{claimedOf, fewRows}
+use Rattle.lin_spec.specs.Pbn.{Pbn, pbnRows, badCall, keptCards, dealerBy, claimFrom, fromBoard, boardTexts, laid, Conversion, converted}
 use Rattle.lin_spec.specs.declared.MaybeSpan.{MaybeSpan}
 use Rattle.lin_spec.specs.declared.MaybeSpan.the-variants.{Absent, Present}
+use Rattle.lin_spec.specs.declared.Verdict.the-variants.{Accepted}
 use Rattle.lin_spec.specs.declared.PbnBoard.{PbnBoard}
 use Rattle.lin_spec.specs.declared.Heading.{Heading}
 use Rattle.lin_spec.specs.declared.Converted.{Converted}
 use Rattle.lin_spec.specs.declared.Refusal.{Refusal}
-use Rattle.pbn.specs.declared.heading.Starts.{Starts}
-use Rattle.pbn_calls.specs.Calls.{keptMany}
-
--- the board without its calls and cards
-unfoldable pub bare : (p q : ℕ) (s : List ℕ) → PbnBoard → BoardOf (List ℕ)
-bare p q s b = fromBoard p q (pbn s b [] [] [])
-
--- the texts that are made, whatever the cards are
-unfoldable pub madeText : (p q : ℕ) (s : List ℕ) → PbnBoard → (calls notes : List ℕ) → List ℕ
-madeText p q s b ws ns = boardTexts (fromBoard p q (pbn s b ws [] ns))
-
--- where the texts after the names begin
-unfoldable pub startsOf : BoardOf (List ℕ) → Starts
-startsOf b =
-    let title = length (concat (b .names)) in
-    let room = title + length (orEmpty (b .title)) in
-    let header = room + length (orEmpty (b .room)) in
-    record { title = title; «room_board» = room; header = header; calls = header + length (orEmpty (b .header)) }
+use Rattle.pbn_texts.specs.declared.layout.Layout.{Layout}
+use Rattle.pbn_texts.specs.Calls.{keptMany}
 
 -- a text without a byte is absent
-abbrev pub textAt : (start len : ℕ) → MaybeSpan
-textAt a n = pick (eqb n 0) Absent (Present (span a n))
+abbrev pub textBetween : (from to : ℕ) → MaybeSpan
+textBetween a e = pick (ltb a e) (Present (span a (e - a))) Absent
 
--- a heading with these numbers of calls and cards
-abbrev pub counted : Heading → (calls cards : ℕ) → Heading
-counted h n k = record { verdict = h .verdict; board = h .board; calls = n; cards = k }
+-- the heading of a board with this layout, and with these numbers of calls and cards
+unfoldable pub madeHeading : PbnBoard → Layout → (calls cards : ℕ) → Heading
+madeHeading b at n k =
+    record {
+      verdict = Accepted;
+      board =
+          record {
+            names = at .names;
+            dealer = dealerBy (b .dealer) (b .number);
+            deal = b .deal;
+            vulnerability = b .vulnerability;
+            title = textBetween (at .title) (at .«room_board»);
+            «room_board» = textBetween (at .«room_board») (at .header);
+            «board_header» = textBetween (at .header) (at .calls);
+            claim = claimedOf (claimFrom (b .result));
+          };
+      calls = n;
+      cards = k;
+    }
 
-unfoldable pub madeHeading : (p q : ℕ) (s : List ℕ) → PbnBoard → (calls cards : ℕ) → Heading
-madeHeading p q s b n k = counted (headingOf (laid (bare p q s b))) n k
-
--- every check is passed: the calls are sound, n of them and k cards are kept, and there are rows, places and room for all
-pub record Ready (p q : ℕ) (s : List ℕ) (b : PbnBoard) (ws ps ns o rows cards : List ℕ) (n k : ℕ) : Type 0 where
+-- the checks before 7 are passed: the calls are sound, n of them and k cards are kept, and there are rows and places for all of these
+pub record Counted (s ws ps rows cards : List ℕ) (n k : ℕ) : Type 0 where
   pub short : length s ≤ limit
   pub sound : any badCall (pbnRows ws) ≡ false
   pub many : n ≡ keptMany (pbnRows ws)
   pub kept : k ≡ length (keptCards ps)
   pub rows-fit : n ≤ length rows / 6
   pub cards-fit : k ≤ length cards
-  pub text-fits : length (madeText p q s b ws ns) ≤ room o
 
 -- what a refused call answers
 abbrev pub refusedBoard : Refusal → Converted
 refusedBoard r = record { heading = refusedHeading r; len = 0 }
 
--- what is stored and answered once every check is passed, and once those before 3 are
-unfoldable pub storedBoard : (p q : ℕ) → Pbn → (o rows cards : List ℕ) → Conversion
-storedBoard p q x o rows cards = let b = fromBoard p q x in converted (accepted (laid b)) (boardTexts b) rows cards o
-
+-- what is stored and answered once the checks before 3 are passed
 unfoldable pub fitted : (p q : ℕ) → Pbn → (o rows cards : List ℕ) → Conversion
 fitted p q x o rows cards =
     let b = fromBoard p q x in

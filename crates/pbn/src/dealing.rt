@@ -48,7 +48,7 @@ pub(crate) fn dealer_by(dealer: MaybeSeat, number: MaybeNumber) -> Seat
 }
 
 // The claim of a result: "A result outside 0 to 255 gives no claim".
-fn claim_of(n: i32) -> MaybeClaim
+fn result_claim(n: i32) -> MaybeClaim
     ensures { λ r. ⌜ r ≡ claimedOf (claimFrom (Tricks n)) ⌝ }
 {
     if n < 0 {
@@ -66,6 +66,6 @@ pub(crate) fn claim_from(result: MaybeResult) -> MaybeClaim
 {
     match result {
         MaybeResult::Absent => MaybeClaim::Absent,
-        MaybeResult::Tricks(n) => claim_of(n),
+        MaybeResult::Tricks(n) => result_claim(n),
     }
 }

@@ -2,7 +2,6 @@
 mod dealing;
 mod entry;
 mod heading;
-mod made;
 
 pub use entry::from_board;
 pub use entry::from_board_with;

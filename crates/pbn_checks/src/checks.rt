@@ -1,50 +1,32 @@
 // The checks of a PBN record: 1, 8, 5 and 6, each over all that is lent before the next. (01: From PBN; Eight refusals)
-use annotation::any_note_faulty;
-use annotation::notes_pass;
+use crate::records::pbn_call_at;
+use crate::records::pbn_names;
 use lin_spec::LIMIT;
 use lin_spec::MaybeNumber;
 use lin_spec::MaybeSpan;
 use lin_spec::PbnBoard;
 use lin_spec::PbnCall;
 use lin_spec::Refusal;
-use lin_spec::Span;
 use lin_spec::Verdict;
+use pbn_annotation::any_note_faulty;
+use pbn_annotation::notes_pass;
 use text::Fault;
 use text::faulty;
 use text::index_text;
 ghost use mathlib.Core.Path.{_≡_};
 ghost use mathlib.Core.Bool.{_||_};
 ghost use mathlib.Core.List.{[]};
-ghost use Prim.Native.Nat.{_-_, _^_, _≤_, _<_};
+ghost use Prim.Native.Nat.{_^_, _≤_, _<_};
 ghost use lib.ListN.{length};
 ghost use Rattle.lin_spec.specs.Base.{any};
 ghost use Rattle.lin_spec.specs.Records.{limit, optionOf};
 ghost use Rattle.lin_spec.specs.Refusals.{passesEnd, illSpan};
 ghost use Rattle.lin_spec.specs.Lent.{spanIn};
-ghost use Rattle.lin_spec.specs.Pbn.{pbn, pbnNames, pbnRow, pbnRows, rawOf, badEntry, badCall, badBoardNumber, rawSpans, nameSpans, pbnSpans};
+ghost use Rattle.lin_spec.specs.Pbn.{pbn, pbnNames, pbnRows, rawOf, badEntry, badCall, badBoardNumber, rawSpans, nameSpans, pbnSpans};
 ghost use Rattle.text.specs.Fault.{faultOf};
 ghost use Rattle.text.specs.Index.{Indexed};
-ghost use Rattle.lent.specs.Calls.{rowAt};
-ghost use Rattle.lent.specs.Checks.{verdictOf};
+ghost use Rattle.board_lent.specs.Checks.{verdictOf};
 ghost use Rattle.pbn_checks.specs.Checks.{checked};
-
-// The call that the six words from i on give.
-pub fn call_at(calls: &[u32], i: usize) -> PbnCall
-    requires { ⌜ 6 ≤ length (now calls) - i ⌝ }
-    ensures { λ r. ⌜ r ≡ rowAt pbnRow (now (calls .entry)) i ⌝ }
-{
-    let annotation = Span {
-        start: calls[i + 4],
-        len: calls[i + 5],
-    };
-    PbnCall {
-        kind: calls[i],
-        level: calls[i + 1],
-        strain: calls[i + 2],
-        annotated: calls[i + 3],
-        annotation,
-    }
-}
 
 // Whether a number of a call is outside its range. Level and strain are those of a bid alone.
 fn bad_call(c: PbnCall) -> bool
@@ -60,7 +42,7 @@ fn bad_calls(calls: &[u32]) -> bool
 {
     let mut i = 0;
     while 6 <= calls.len() - i {
-        if bad_call(call_at(calls, i)) {
+        if bad_call(pbn_call_at(calls, i)) {
             return true;
         }
         i += 6;
@@ -128,7 +110,7 @@ fn raws_faulty(text: &[u8], next: &[u32], calls: &[u32], fault: Fault) -> bool
 {
     let mut i = 0;
     while 6 <= calls.len() - i {
-        if raw_faulty(text, next, call_at(calls, i), fault) {
+        if raw_faulty(text, next, pbn_call_at(calls, i), fault) {
             return true;
         }
         i += 6;
@@ -152,23 +134,12 @@ fn one_faulty(text: &[u8], next: &[u32], names: [MaybeSpan; 4], fault: Fault) ->
     false
 }
 
-// The names of a record.
-pub fn names_of(board: PbnBoard) -> [MaybeSpan; 4]
-    ensures { λ r. ⌜ r ≡ pbnNames board ⌝ }
-{
-    let south = board.south;
-    let west = board.west;
-    let north = board.north;
-    let east = board.east;
-    [south, west, north, east]
-}
-
 // Whether a name of the record has it.
 fn names_faulty(text: &[u8], next: &[u32], board: PbnBoard, fault: Fault) -> bool
     requires { ⌜ Indexed (now text) (now next) ⌝ }
     ensures { λ r. ⌜ r ≡ any (faultOf fault (now (text .entry))) (nameSpans (pbnNames board)) ⌝ }
 {
-    one_faulty(text, next, names_of(board), fault)
+    one_faulty(text, next, pbn_names(board), fault)
 }
 
 // Whether a number of the record is outside its range.
@@ -185,7 +156,7 @@ fn bad_record(number: MaybeNumber, calls: &[u32], plays: &[u8]) -> bool
 }
 
 // Whether a text that the record names has this fault.
-fn any_faulty(
+fn record_faulty(
     text: &[u8],
     next: &[u32],
     board: PbnBoard,
@@ -218,14 +189,14 @@ fn any_faulty(
 }
 
 // Whether a text that the record names passes the end, for which no index is needed.
-fn any_past(text: &[u8], board: PbnBoard, calls: &[u32], notes: &[u32; 768]) -> bool
+fn record_past(text: &[u8], board: PbnBoard, calls: &[u32], notes: &[u32; 768]) -> bool
     ensures { λ r. ⌜ r ≡ any (passesEnd (now (text .entry))) (pbnSpans (pbn (now (text .entry)) board (now (calls .entry)) [] (now (notes .entry)))) ⌝ }
 {
-    any_faulty(text, &calls[..0], board, calls, notes, Fault::PastEnd)
+    record_faulty(text, &calls[..0], board, calls, notes, Fault::PastEnd)
 }
 
-// How many bytes the raw annotation of a call has.
-fn raw_len(c: PbnCall) -> u64
+// 0 where the raw annotation of a call is absent.
+fn raw_annotation_len(c: PbnCall) -> u64
     ensures { λ r. ⌜ r < 2 ^ 32 ⌝ }
 {
     if c.annotated == 0 {
@@ -240,7 +211,7 @@ fn raws_pass(bytes: usize, calls: &[u32]) -> bool {
     let mut left = bytes as u64;
     let mut i = 0;
     while 6 <= calls.len() - i {
-        let n = raw_len(call_at(calls, i));
+        let n = raw_annotation_len(pbn_call_at(calls, i));
         if left < n {
             return true;
         }
@@ -251,21 +222,21 @@ fn raws_pass(bytes: usize, calls: &[u32]) -> bool {
 }
 
 // Whether a text that the record names is not UTF-8. Where its raw annotations, or its notes, are together longer than the text, that is looked at once.
-fn any_ill(text: &[u8], board: PbnBoard, calls: &[u32], notes: &[u32; 768]) -> bool
+fn record_ill(text: &[u8], board: PbnBoard, calls: &[u32], notes: &[u32; 768]) -> bool
     requires { ⌜ length (now text) ≤ limit ⌝ }
     ensures { λ r. ⌜ r ≡ any (illSpan (now (text .entry))) (pbnSpans (pbn (now (text .entry)) board (now (calls .entry)) [] (now (notes .entry)))) ⌝ }
 {
     let once = raws_pass(text.len(), calls) | notes_pass(text.len(), notes);
     if !once {
-        return any_faulty(text, &calls[..0], board, calls, notes, Fault::NotUtf8);
+        return record_faulty(text, &calls[..0], board, calls, notes, Fault::NotUtf8);
     }
     let mut next = [0; 1025];
     index_text(text, &mut next);
-    any_faulty(text, &next, board, calls, notes, Fault::NotUtf8)
+    record_faulty(text, &next, board, calls, notes, Fault::NotUtf8)
 }
 
 // The first of the checks that meets the record. `other` says whether another number of the call is outside its range.
-pub fn check(
+pub fn check_record(
     other: bool,
     text: &[u8],
     board: PbnBoard,
@@ -285,10 +256,10 @@ pub fn check(
     if bad_record(number, calls, plays) {
         return Verdict::Refused(Refusal::OutOfRange);
     }
-    if any_past(text, board, calls, notes) {
+    if record_past(text, board, calls, notes) {
         return Verdict::Refused(Refusal::SpanPastEnd);
     }
-    if any_ill(text, board, calls, notes) {
+    if record_ill(text, board, calls, notes) {
         return Verdict::Refused(Refusal::SpanNotUtf8);
     }
     Verdict::Accepted

@@ -1,15 +1,15 @@
 -- Laws of the four names: one by one, back to back, and where each stands. (01: From PBN)
 -- Assumes nothing.
-use Prim.Native.Nat.{ℕ, _+_, _≤_}
+use Prim.Native.Nat.{ℕ, _+_, _*_, _≤_}
 use native.Mathlib.Nat.{zero-add}
 use native.Mathlib.Omega.{arith}
 use mathlib.Core.Path.{_≡_, refl, ap, _∙_}
 use mathlib.Core.Bool.{not}
 use mathlib.Core.List.{List, [], _∷_, map, append-nil}
-use lib.ListN.{length, drop, length-take, length-drop, length-append}
+use lib.ListN.{length, getD, length-append}
 use lib.Dec.{eqb}
 use Rattle.lin_spec.specs.Base.{keep, concat}
-use Rattle.lin_spec.specs.Records.{span, part, bytesAt}
+use Rattle.lin_spec.specs.Records.{span, bytesAt}
 use Rattle.lin_spec.specs.Writer.{clean, cleanName}
 use Rattle.lin_spec.specs.Pbn.{nameBy, laidNames}
 use Rattle.lin_spec.specs.declared.Span.{Span}
@@ -17,8 +17,9 @@ use Rattle.lin_spec.specs.declared.MaybeSpan.{MaybeSpan}
 use Rattle.lin_spec.specs.declared.MaybeSpan.the-variants.{Absent, Present}
 use Rattle.lin_spec.proofs.Base.{keep-most}
 use Rattle.output.specs.Put.{joined}
-use Rattle.cleaning.proofs.TextLaws.{clean-length}
+use Rattle.writer_texts.proofs.TextLaws.{clean-length}
 use Rattle.pbn_texts.specs.Names.{nameAt, namesPieces, namesText}
+use Rattle.pbn_texts.proofs.TextLaws.{bytes-most}
 
 module _ (p q : ℕ) (s : List ℕ) where
   pub name-absent : (x : MaybeSpan) → x ≡ Absent → nameBy p q s x ≡ []
@@ -38,21 +39,17 @@ module _ (p q : ℕ) (s : List ℕ) where
   names-are (a ∷ b ∷ c ∷ d ∷ e ∷ ms) h = absurd (let z : ⊥ = omega arith in z)
 
   -- how many bytes they have
-  pub names-long : (ms : List MaybeSpan) → length ms ≡ 4
+  names-long : (ms : List MaybeSpan) → length ms ≡ 4
       → length (namesText p q s ms) ≡ length (nameAt p q s ms 0) + length (nameAt p q s ms 1) + (length (nameAt p q s ms 2) + length (nameAt p q s ms 3))
   names-long ms h =
       ap length (names-are ms h)
       ∙ simp (length-append, append-nil) (omega arith)
 
   -- no name is longer than the text
-  bytes-most : (y : Span) → length (bytesAt s y) ≤ length s
-  unfolding part
-  bytes-most y = omega (arith, length-take (y .len) (drop (y .start) s), length-drop (y .start) s)
-
   pub name-most : (x : MaybeSpan) → length (nameBy p q s x) ≤ length s
   unfolding clean keep
   name-most Absent = omega arith
-  name-most (Present y) = omega (arith, keep-most (λ (b : ℕ). not (eqb b 0x2C)) (clean p q (bytesAt s y)), clean-length p q (bytesAt s y), bytes-most y)
+  name-most (Present y) = omega (arith, keep-most (λ (b : ℕ). not (eqb b 0x2C)) (clean p q (bytesAt s y)), clean-length p q (bytesAt s y), bytes-most s y)
 
   -- where each stands
   pub names-placed : (ms : List MaybeSpan) → length ms ≡ 4 → (a b c d : ℕ) → a ≡ length (nameAt p q s ms 0) → b ≡ length (nameAt p q s ms 1) → c ≡ length (nameAt p q s ms 2) → d ≡ length (nameAt p q s ms 3)
@@ -64,3 +61,18 @@ module _ (p q : ℕ) (s : List ℕ) where
   names-placed (w ∷ x ∷ []) h a b c d e f g k = absurd (let z : ⊥ = omega arith in z)
   names-placed (w ∷ x ∷ y ∷ []) h a b c d e f g k = absurd (let z : ⊥ = omega arith in z)
   names-placed (w ∷ x ∷ y ∷ z ∷ v ∷ ms) h a b c d e f g k = absurd (let u : ⊥ = omega arith in u)
+
+  -- they end where the last ends
+  pub names-end : (ms : List MaybeSpan) → length ms ≡ 4 → (xs : List Span) → xs ≡ laidNames 0 (map (nameBy p q s) ms)
+      → getD xs 3 (span 0 0) .start + getD xs 3 (span 0 0) .len ≡ length (namesText p q s ms)
+  unfolding laidNames
+  names-end (w ∷ x ∷ y ∷ z ∷ []) h xs e = rw e (omega (arith, names-long (w ∷ x ∷ y ∷ z ∷ []) h))
+  names-end [] h xs e = absurd (let z : ⊥ = omega arith in z)
+  names-end (w ∷ []) h xs e = absurd (let z : ⊥ = omega arith in z)
+  names-end (w ∷ x ∷ []) h xs e = absurd (let z : ⊥ = omega arith in z)
+  names-end (w ∷ x ∷ y ∷ []) h xs e = absurd (let z : ⊥ = omega arith in z)
+  names-end (w ∷ x ∷ y ∷ z ∷ v ∷ ms) h xs e = absurd (let u : ⊥ = omega arith in u)
+
+  pub names-most : (ms : List MaybeSpan) → length ms ≡ 4 → length (namesText p q s ms) ≤ 4 * length s
+  names-most ms h =
+      omega (arith, names-long ms h, name-most (getD ms 0 Absent), name-most (getD ms 1 Absent), name-most (getD ms 2 Absent), name-most (getD ms 3 Absent))

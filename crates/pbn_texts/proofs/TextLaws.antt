@@ -1,49 +1,45 @@
--- Laws of the texts that are made, before cleaning: an empty text acts as absent, the label, the title. (01: From PBN)
+-- Laws of title, room-and-board and header before cleaning: by the date and by the label, and how long they are. (01: From PBN)
 -- Assumes nothing.
-use Prim.Native.Nat.{ℕ, _+_}
+use Prim.Native.Nat.{ℕ, _+_, _*_, _/_, _^_, _≤_, _<_}
 use native.Mathlib.Omega.{arith}
-use mathlib.Core.Path.{_≡_, refl, ap, sym, _∙_}
-use mathlib.Core.List.{List, [], _∷_, _++_, append-nil}
+use mathlib.Core.Path.{_≡_, ap, sym, _∙_}
+use mathlib.Core.List.{List, [], _++_, append-nil}
 use mathlib.Core.Option.{Option, none, some}
-use mathlib.Core.Bool.{Bool, true, false}
-use lib.ListN.{length, length-append}
+use mathlib.Core.Bool.{Bool, true, false, not, true≢false, false≢true}
+use lib.ListN.{length, drop, length-append, length-take, length-drop}
 use Rattle.lin_spec.specs.Base.{ascii}
-use Rattle.lin_spec.specs.Records.{bytesAt}
-use Rattle.lin_spec.specs.Writer.{orEmpty, present}
-use Rattle.lin_spec.specs.Pbn.{titleOf, labelOf, textBy, filledBy}
+use Rattle.lin_spec.specs.Records.{part, bytesAt}
+use Rattle.lin_spec.specs.Decimal.{decimal}
+use Rattle.lin_spec.specs.Writer.{orEmpty}
+use Rattle.lin_spec.specs.Pbn.{titleOf, textBy}
 use Rattle.lin_spec.specs.declared.Span.{Span}
 use Rattle.lin_spec.specs.declared.MaybeSpan.{MaybeSpan}
 use Rattle.lin_spec.specs.declared.MaybeSpan.the-variants.{Absent, Present}
-use Rattle.lin_spec.specs.declared.MaybeNumber.{MaybeNumber}
-use Rattle.pbn_texts.specs.declared.texts.Label.{Label}
-use Rattle.pbn_texts.specs.declared.texts.Label.the-variants.{Id}
-use Rattle.cleaning.specs.Texts.{emptyOr}
-use Rattle.pbn_texts.specs.Texts.{labelBy, labelled, labelBytes, datedText, titleText, labelsText, labelledText, roomText}
+use Rattle.lin_spec.proofs.Base.{split}
+use Rattle.lin_spec.proofs.Decimal.{length-short, length-long}
+use Rattle.writer_texts.specs.Texts.{emptyOr}
+use Rattle.pbn_texts.specs.declared.sources.Label.{Label}
+use Rattle.pbn_texts.specs.Sources.{labelled}
+use Rattle.pbn_texts.specs.Texts.{labelBytes, datedText, titleText, labelsText, labelledText, roomText, headerText}
 
--- a text that is present, by its length
+-- no text is longer than that which it is part of
+pub bytes-most : (s : List ℕ) (y : Span) → length (bytesAt s y) ≤ length s
+unfolding part
+bytes-most s y = omega (arith, length-take (y .len) (drop (y .start) s), length-drop (y .start) s)
 
-present-empty : (t : List ℕ) → length t ≡ 0 → none ≡ present (some t)
-present-empty [] h = refl
-present-empty (b ∷ t) h = absurd (let z : ⊥ = omega arith in z)
+-- a number of 32 bits has at most ten digits
+more-digits : (m k : ℕ) → ((n : ℕ) → n < m → length (decimal n) ≤ k) → (n : ℕ) → n < 10 * m → length (decimal n) ≤ k + 1
+more-digits m k f n h =
+    split n 10 (λ l. let e = length-short n l in omega arith) (λ l. let e = length-long n l in let g = f (n / 10) (omega arith) in omega arith)
 
-present-filled : (t : List ℕ) → (length t ≡ 0 → ⊥) → some t ≡ present (some t)
-present-filled [] h = absurd (h refl)
-present-filled (b ∷ t) h = refl
+two-digits : (n : ℕ) → n < 100 → length (decimal n) ≤ 2
+two-digits n h = more-digits 10 1 (λ m l. let e = length-short m l in omega arith) n (omega arith)
 
-module _ (s : List ℕ) (x : MaybeSpan) (y : Span) (e : x ≡ Present y) (t : List ℕ) (f : t ≡ bytesAt s y) where
-  pub filled-empty : length t ≡ 0 → textBy s Absent ≡ filledBy s x
-  filled-empty h = present-empty (bytesAt s y) (ap length (sym f) ∙ h) ∙ ap (filledBy s) (sym e)
+six-digits : (n : ℕ) → n < 1000000 → length (decimal n) ≤ 6
+six-digits n h = more-digits 100000 5 (more-digits 10000 4 (more-digits 1000 3 (more-digits 100 2 two-digits))) n (omega arith)
 
-  pub filled-full : (length t ≡ 0 → ⊥) → textBy s (Present y) ≡ filledBy s x
-  filled-full h = present-filled (bytesAt s y) (λ z. h (ap length f ∙ z)) ∙ ap (filledBy s) (sym e)
-
--- the label, by the text that the id is
-module _ (s : List ℕ) (id m : MaybeSpan) (n : MaybeNumber) (e : textBy s m ≡ filledBy s id) where
-  pub label-number : m ≡ Absent → (l : Label) → ((t : List ℕ) → labelBy t l ≡ labelOf none n) → labelBy s l ≡ labelOf (filledBy s id) n
-  label-number k l f = f s ∙ ap (λ (o : Option (List ℕ)). labelOf o n) (ap (textBy s) (sym k) ∙ e)
-
-  pub label-id : (y : Span) → m ≡ Present y → labelBy s (Id y) ≡ labelOf (filledBy s id) n
-  label-id y k = ap (λ (o : Option (List ℕ)). labelOf o n) (ap (textBy s) (sym k) ∙ e)
+pub ten-digits : (n : ℕ) → n < 2 ^ 32 → length (decimal n) ≤ 10
+ten-digits n h = more-digits 1000000000 9 (more-digits 100000000 8 (more-digits 10000000 7 (more-digits 1000000 6 six-digits))) n (omega arith)
 
 -- the title, by the date
 pub title-plain : (s : List ℕ) (e d : MaybeSpan) → d ≡ Absent → titleText s e d ≡ emptyOr s e
@@ -69,13 +65,19 @@ module _ (s : List ℕ) (l : Label) where
   pub labelled-no : (t : Bool) → t ≡ labelled l → t ≡ false → labelledText s l ≡ []
   labelled-no t e f = simp (← e, f)
 
-  pub labels-long : length (labelsText s l) ≡ 14 + (length (labelBytes s l) + (length (labelBytes s l) + length (labelBytes s l)))
-  unfolding labelsText
-  labels-long = simp (length-append, append-nil) (omega arith)
+  -- room-and-board, and the header
+  pub labels-long : (t : Bool) → t ≡ labelled l → not t ≡ false
+      → (length (roomText s l) ≡ 8 + length (labelBytes s l) + length (labelBytes s l)) × (length (headerText s l) ≡ 6 + length (labelBytes s l))
+  labels-long true e f = (simp (← e, length-append) (omega arith), simp (← e, length-append))
+  labels-long false e f = absurd (true≢false f)
 
-  -- room-and-board alone
-  pub room-long : (t : Bool) → t ≡ labelled l → t ≡ true → length (roomText s l) ≡ 8 + (length (labelBytes s l) + length (labelBytes s l))
-  room-long t e f = simp (← e, f, length-append) (omega arith)
+  pub labels-none : (t : Bool) → t ≡ labelled l → not t ≡ true → (length (roomText s l) ≡ 0) × (length (headerText s l) ≡ 0)
+  labels-none true e f = absurd (false≢true f)
+  labels-none false e f = (simp (← e), simp (← e))
 
-  pub room-none : (t : Bool) → t ≡ labelled l → t ≡ false → length (roomText s l) ≡ 0
-  room-none t e f = simp (← e, f)
+-- a title has at most the bytes of event and date, and three
+pub title-most : (s : List ℕ) (e d : MaybeSpan) → length (titleText s e d) ≤ length s + (3 + length s)
+title-most s Absent Absent = omega arith
+title-most s Absent (Present y) = omega (arith, bytes-most s y)
+title-most s (Present x) Absent = omega (arith, bytes-most s x)
+title-most s (Present x) (Present y) = omega (arith, bytes-most s x, bytes-most s y, length-append (bytesAt s x) (ascii " - " ++ bytesAt s y))

@@ -7,6 +7,7 @@ use Rattle.lin_spec.specs.Pbn.{nameBy}
 use Rattle.lin_spec.specs.declared.MaybeSpan.{MaybeSpan}
 use Rattle.lin_spec.specs.declared.MaybeSpan.the-variants.{Absent}
 
+-- the name of a seat
 abbrev pub nameAt : (p q : ℕ) (s : List ℕ) → List MaybeSpan → (seat : ℕ) → List ℕ
 nameAt p q s ms i = nameBy p q s (getD ms i Absent)
 

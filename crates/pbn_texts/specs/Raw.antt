@@ -1,15 +1,22 @@
--- The texts after the names, one after the other, before cleaning. (01: From PBN)
+-- All the texts of a board, from its sources. (01: From PBN)
 use Prim.Native.Nat.{ℕ}
-use mathlib.Core.List.{List, [], _∷_}
+use mathlib.Core.List.{List, [], _∷_, _++_}
+use Rattle.lin_spec.specs.Writer.{clean}
 use Rattle.lin_spec.specs.Pbn.{pbnRows}
 use Rattle.lin_spec.specs.declared.MaybeSpan.{MaybeSpan}
 use Rattle.output.specs.Put.{joined}
-use Rattle.pbn_texts.specs.declared.texts.Label.{Label}
+use Rattle.pbn_texts.specs.declared.sources.Sources.{Sources}
 use Rattle.pbn_texts.specs.Texts.{titleText, labelledText}
-use Rattle.pbn_calls.specs.Calls.{callsBytes}
+use Rattle.pbn_texts.specs.Names.{namesText}
+use Rattle.pbn_texts.specs.Calls.{callsBytes}
 
-abbrev pub rawPieces : (s : List ℕ) (event date : MaybeSpan) → Label → (notes calls : List ℕ) → List (List ℕ)
-rawPieces s e d l ns ws = titleText s e d ∷ labelledText s l ∷ callsBytes s ns (pbnRows ws) ∷ []
+-- those after the names, before cleaning
+abbrev pub rawPieces : (s : List ℕ) → Sources → (notes calls : List ℕ) → List (List ℕ)
+rawPieces s x ns ws = titleText s (x .event) (x .date) ∷ labelledText s (x .label) ∷ callsBytes s ns (pbnRows ws) ∷ []
 
-unfoldable pub rawText : (s : List ℕ) (event date : MaybeSpan) → Label → (notes calls : List ℕ) → List ℕ
-rawText s e d l ns ws = joined (rawPieces s e d l ns ws)
+unfoldable pub rawText : (s : List ℕ) → Sources → (notes calls : List ℕ) → List ℕ
+rawText s x ns ws = joined (rawPieces s x ns ws)
+
+-- the names, and those after them cleaned
+unfoldable pub textsOf : (p q : ℕ) (s : List ℕ) (names : List MaybeSpan) → Sources → (notes calls : List ℕ) → List ℕ
+textsOf p q s ms x ns ws = namesText p q s ms ++ clean p q (rawText s x ns ws)

@@ -1,31 +1,18 @@
--- The texts that are made, as they are before cleaning. (01: From PBN)
+-- Title, room-and-board and header as they are before cleaning. (01: From PBN)
 use Prim.Native.Nat.{ℕ}
-use mathlib.Core.Bool.{Bool, true, false}
 use mathlib.Core.List.{List, [], _∷_, _++_}
-use mathlib.Core.Option.{Option, none, some}
 use Rattle.lin_spec.specs.Base.{pick, ascii}
 use Rattle.lin_spec.specs.Records.{bytesAt}
-use Rattle.lin_spec.specs.Decimal.{decimal}
 use Rattle.lin_spec.specs.Writer.{orEmpty}
 use Rattle.lin_spec.specs.Pbn.{titleOf, textBy}
 use Rattle.lin_spec.specs.declared.Span.{Span}
 use Rattle.lin_spec.specs.declared.MaybeSpan.{MaybeSpan}
 use Rattle.output.specs.Put.{joined}
-use Rattle.cleaning.specs.Texts.{emptyOr}
-use Rattle.pbn_texts.specs.declared.texts.Label.{Label}
-use Rattle.pbn_texts.specs.declared.texts.Label.the-variants.{Absent, Id, Number}
+use Rattle.writer_texts.specs.Texts.{emptyOr}
+use Rattle.pbn_texts.specs.declared.sources.Label.{Label}
+use Rattle.pbn_texts.specs.Sources.{labelBy, labelled}
 
--- the text of a label, and its bytes, none where it is absent
-abbrev pub labelBy : (s : List ℕ) → Label → Option (List ℕ)
-labelBy s Absent = none
-labelBy s (Id x) = some (bytesAt s x)
-labelBy s (Number n) = some (decimal n)
-
-abbrev pub labelled : Label → Bool
-labelled Absent = false
-labelled (Id x) = true
-labelled (Number n) = true
-
+-- the bytes of a label, none where it is absent
 abbrev pub labelBytes : (s : List ℕ) → Label → List ℕ
 labelBytes s l = orEmpty (labelBy s l)
 

@@ -1,16 +1,18 @@
-// The names of a board that is made of a PBN record, and its other texts before cleaning. (01: From PBN)
+// What a board that is made of a PBN record has: its names, its other texts, where each of them stands, its calls and cards. (01: From PBN)
+mod call_rows;
+mod calls;
+mod layout;
 mod names;
 mod raw;
+mod sources;
 mod texts;
 
-pub use names::name_spans;
-pub use names::names_len;
-pub use names::put_names;
-pub use raw::put_raw;
-pub use raw::raw_len;
-pub use texts::Label;
-pub use texts::filled;
-pub use texts::label_of;
-pub use texts::labelled_len;
-pub use texts::room_len;
-pub use texts::title_len;
+pub use call_rows::put_kept_rows;
+pub use calls::kept_calls;
+pub use calls::kept_cards;
+pub use calls::pbn_calls_len;
+pub use calls::put_kept_cards;
+pub use layout::Layout;
+pub use layout::layout_of;
+pub use raw::put_texts;
+pub use sources::sources_of;

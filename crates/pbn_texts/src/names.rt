@@ -1,16 +1,14 @@
 // The four names, cleaned and back to back from the first byte of an output, and where each stands. (01: From PBN)
-use cleaning::Marks;
-use cleaning::name_len;
-use cleaning::put_name;
 use lin_spec::MaybeSpan;
 use lin_spec::Span;
-use output::sat_add;
+use writer_texts::Marks;
+use writer_texts::name_len;
+use writer_texts::put_name;
 ghost use mathlib.Core.Path.{_≡_};
 ghost use mathlib.Core.List.{map};
 ghost use Prim.Native.Nat.{_≤_};
 ghost use lib.ListN.{length};
 ghost use Rattle.lin_spec.specs.Records.{limit};
-ghost use Rattle.lin_spec.specs.Refusals.{sat};
 ghost use Rattle.lin_spec.specs.Pbn.{nameBy, laidNames};
 ghost use Rattle.output.specs.Put.{Room, Put};
 ghost use Rattle.pbn_texts.specs.Names.{namesText};
@@ -26,7 +24,7 @@ fn put_one(out: &mut [u8], at: usize, text: &[u8], x: MaybeSpan, marks: Marks) -
     }
 }
 
-// How many bytes it has.
+// 0 where it is absent.
 fn one_len(text: &[u8], x: MaybeSpan, marks: Marks) -> u64
     ensures { λ r. ⌜ r ≡ length (nameBy (marks .pipe) (marks .line) (now (text .entry)) x) ⌝ }
 {
@@ -36,8 +34,8 @@ fn one_len(text: &[u8], x: MaybeSpan, marks: Marks) -> u64
     }
 }
 
-// Puts the names.
-pub fn put_names(
+// Puts the names back to back.
+pub(crate) fn put_pbn_names(
     out: &mut [u8],
     at: usize,
     text: &[u8],
@@ -57,20 +55,8 @@ pub fn put_names(
     put_one(out, c, text, e, marks)
 }
 
-// How many bytes they have.
-pub fn names_len(text: &[u8], names: [MaybeSpan; 4], marks: Marks) -> u64
-    ensures { λ r. ⌜ r ≡ sat (length (namesText (marks .pipe) (marks .line) (now (text .entry)) names)) ⌝ }
-{
-    let s = names[0];
-    let w = names[1];
-    let n = names[2];
-    let e = names[3];
-    let a = sat_add(one_len(text, s, marks), one_len(text, w, marks));
-    sat_add(a, sat_add(one_len(text, n, marks), one_len(text, e, marks)))
-}
-
 // Where each name stands.
-pub fn name_spans(text: &[u8], names: [MaybeSpan; 4], marks: Marks) -> [Span; 4]
+pub(crate) fn name_spans(text: &[u8], names: [MaybeSpan; 4], marks: Marks) -> [Span; 4]
     requires { ⌜ length (now text) ≤ limit ⌝ }
     ensures { λ r. ⌜ r ≡ laidNames 0 (map (nameBy (marks .pipe) (marks .line) (now (text .entry))) names) ⌝ }
 {

@@ -1,6 +1,6 @@
 -- Laws of rows as structs: a row by its parts, a list over another one row at a time. (01: Records)
 -- Assumes nothing.
-use Prim.Native.Nat.{ℕ, zero, suc, _+_, _-_, _*_, _/_, _≤_, _<_, min}
+use Prim.Native.Nat.{ℕ, zero, suc, _+_, _*_, _/_, _≤_, _<_, min}
 use native.Mathlib.Nat.{not-suc-le-zero, le-of-suc-le-suc}
 use native.Mathlib.Numerals.{add-one}
 use native.Mathlib.Omega.{arith}
@@ -18,8 +18,7 @@ use Rattle.lin_spec.specs.Refusals.{Answer, refuseIf, unless}
 use Rattle.lin_spec.specs.Refusals.Answer.{refused, accepted}
 use Rattle.lin_spec.specs.Output.{overlay, outputAfter}
 use Rattle.lin_spec.specs.Reading.{flag, maybeOf, annotationWords, callWords}
-use Rattle.lin_spec.specs.Lent.{callIn, callRows, badFlag}
-use Rattle.lin_spec.specs.declared.Span.{Span}
+use Rattle.lin_spec.specs.Lent.{callIn, callRows, badFlag, isPresent, placeOf}
 use Rattle.lin_spec.specs.declared.Call.{Call}
 use Rattle.lin_spec.specs.declared.MaybeSpan.{MaybeSpan}
 use Rattle.lin_spec.specs.declared.MaybeSpan.the-variants.{Absent, Present}
@@ -28,8 +27,8 @@ use Rattle.lin_spec.specs.declared.Refusal.the-variants.{TooFewRows, OutOfRange
 use Rattle.rows.specs.declared.CallRow.{CallRow}
 use Rattle.output.specs.Put.{Put}
 use Rattle.output.proofs.Laws.{Left, start, step, finish, overlay-nil}
-use Rattle.lent.specs.Calls.{callAt}
-use Rattle.lent.proofs.LentLaws.{rows-cons, rows-count}
+use Rattle.board_lent.specs.Calls.{callAt}
+use Rattle.board_lent.proofs.LentLaws.{rows-cons, rows-count}
 use Rattle.rows.specs.Rows.{called, rowIn, numbered, emptyRow, laid, wordsOf, turnsOf, Moving, spillAnswer, spillOf, rowsIn, fillAnswer, rowsAfter, fillOf}
 
 -- A row by its parts
@@ -46,12 +45,16 @@ module _ (c : Call) where
   unfolding by-test
   row-annotated e = ap by-test (sym (ne-eqb (c .annotated) 0 e))
 
-module _ (r : CallRow) (f : ℕ) (e : f ≡ flag (r .alerted)) where
-  pub words-bare : r .annotation ≡ Absent → r .bid .start ∷ r .bid .len ∷ f ∷ 0 ∷ 0 ∷ 0 ∷ [] ≡ wordsOf r
-  words-bare h = rw (e, h) refl
-
-  pub words-annotated : (x : Span) → r .annotation ≡ Present x → r .bid .start ∷ r .bid .len ∷ f ∷ 1 ∷ x .start ∷ x .len ∷ [] ≡ wordsOf r
-  words-annotated x h = rw (e, h) refl
+-- the words of a row are its six numbers
+pub words-numbered : (r : CallRow) (c : Call) → c ≡ numbered r
+    → c .bid .start ∷ c .bid .len ∷ c .alerted ∷ c .annotated ∷ c .annotation .start ∷ c .annotation .len ∷ [] ≡ wordsOf r
+words-numbered r c e = rw e (go (r .annotation))
+  where
+    go : (m : MaybeSpan)
+        → r .bid .start ∷ r .bid .len ∷ flag (r .alerted) ∷ isPresent (optionOf m) ∷ placeOf (optionOf m) .start ∷ placeOf (optionOf m) .len ∷ []
+        ≡ r .bid .start ∷ r .bid .len ∷ flag (r .alerted) ∷ annotationWords (optionOf m)
+    go Absent = refl
+    go (Present x) = refl
 
 -- A list over another from i on
 
@@ -248,12 +251,3 @@ module _ (n : ℕ) (ws : List ℕ) (t : Bool) (e : t ≡ any badFlag (callRows w
     pub fill-all : length ws / 6 ≤ n → accepted (length ws / 6) ≡ fillAnswer n ws
     unfolding unless
     fill-all l = simp (← e, h, le-ltb n (length ws / 6) l)
-
--- The numbers of a row by its parts
-
-module _ (r : CallRow) (f : ℕ) (e : f ≡ flag (r .alerted)) where
-  pub numbers-bare : r .annotation ≡ Absent → _≡_ {A = Call} (record { bid = r .bid; alerted = f; annotated = 0; annotation = record { start = 0; len = 0 } }) (numbered r)
-  numbers-bare h = rw (e, h) refl
-
-  pub numbers-annotated : (x : Span) → r .annotation ≡ Present x → _≡_ {A = Call} (record { bid = r .bid; alerted = f; annotated = 1; annotation = x }) (numbered r)
-  numbers-annotated x h = rw (e, h) refl

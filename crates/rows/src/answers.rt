@@ -1,7 +1,7 @@
 // What moving rows answers, before any is moved: how many rows, or a refusal. (01: Eight refusals, 8 and 3)
 use crate::Moved;
-use lent::bad_flag;
-use lent::call_at;
+use board_lent::bad_flag;
+use board_lent::call_at;
 use lin_spec::Refusal;
 use lin_spec::RowKind;
 ghost use mathlib.Core.Path.{_≡_};

@@ -6,8 +6,8 @@ mod words;
 use lin_spec::MaybeSpan;
 use lin_spec::Refusal;
 use lin_spec::Span;
-pub use words::call_of;
 pub use words::fill_rows;
+pub use words::row_numbers;
 pub use words::row_of;
 pub use words::spill_rows;
 

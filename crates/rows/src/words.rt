@@ -4,17 +4,15 @@ use crate::Moved;
 use crate::answers::fill_answer;
 use crate::answers::spill_answer;
 use crate::answers::turns_of;
-use lent::call_at;
+use board_lent::call_at;
 use lin_spec::Call;
 use lin_spec::MaybeSpan;
-use lin_spec::Span;
 ghost use mathlib.Core.Path.{_≡_};
 ghost use Prim.Native.Nat.{ℕ, _-_, _≤_};
 ghost use lib.ListN.{length};
-ghost use Rattle.lin_spec.specs.Reading.{flag};
 ghost use Rattle.lin_spec.specs.Lent.{callIn};
 ghost use Rattle.output.specs.Put.{Room, Put};
-ghost use Rattle.lent.specs.Calls.{callAt};
+ghost use Rattle.board_lent.specs.Calls.{callAt};
 ghost use Rattle.rows.specs.declared.CallRow.{CallRow};
 ghost use Rattle.rows.specs.Rows.{rowIn, numbered, wordsOf, movedOf, Moving, fillOf, spillOf};
 
@@ -41,7 +39,7 @@ pub fn row_of(c: Call) -> CallRow
 }
 
 // The row that the six words from i on give.
-fn row_at(words: &[u32], i: usize) -> CallRow
+fn call_row_at(words: &[u32], i: usize) -> CallRow
     requires { ⌜ 6 ≤ length (now words) - i ⌝ }
     ensures { λ r. ⌜ r ≡ rowIn (callIn (callAt (now (words .entry)) i)) ⌝ }
 {
@@ -56,53 +54,36 @@ pub fn fill_rows(rows: &mut [CallRow], words: &[u32]) -> Moved
     let n = turns_of(moved);
     let mut i = 0;
     while i < n {
-        rows[i] = row_at(words, i * 6);
+        rows[i] = call_row_at(words, i * 6);
         i += 1;
     }
     moved
 }
 
-// 1 or 0.
-fn flag_of(b: bool) -> u32
-    ensures { λ r. ⌜ r ≡ flag b ⌝ }
-{
-    if b { 1 } else { 0 }
-}
-
 // The six numbers of a row: an annotation that is absent has no place.
-pub fn call_of(row: CallRow) -> Call
+pub fn row_numbers(row: CallRow) -> Call
     ensures { λ r. ⌜ r ≡ numbered row ⌝ }
 {
     let bid = row.bid;
-    let alerted = flag_of(row.alerted);
     let annotation = row.annotation;
-    match annotation {
-        MaybeSpan::Absent => Call {
-            bid,
-            alerted,
-            annotated: 0,
-            annotation: Span { start: 0, len: 0 },
-        },
-        MaybeSpan::Present(x) => Call {
-            bid,
-            alerted,
-            annotated: 1,
-            annotation: x,
-        },
-    }
+    Call::new(bid, row.alerted, annotation)
 }
 
 // The six words of a row.
 pub(crate) fn words_of(row: CallRow) -> [u32; 6]
     ensures { λ r. ⌜ r ≡ wordsOf row ⌝ }
 {
-    let bid = row.bid;
-    let alerted = flag_of(row.alerted);
-    let annotation = row.annotation;
-    match annotation {
-        MaybeSpan::Absent => [bid.start, bid.len, alerted, 0, 0, 0],
-        MaybeSpan::Present(x) => [bid.start, bid.len, alerted, 1, x.start, x.len],
-    }
+    let c = row_numbers(row);
+    let bid = c.bid;
+    let annotation = c.annotation;
+    [
+        bid.start,
+        bid.len,
+        c.alerted,
+        c.annotated,
+        annotation.start,
+        annotation.len,
+    ]
 }
 
 // Puts words from a place on that has room for them.
@@ -121,7 +102,7 @@ fn copy_words(out: &mut [u32], at: usize, s: &[u32]) -> usize
 }
 
 // Puts the words of a row.
-fn put_words(out: &mut [u32], at: usize, row: CallRow) -> usize
+fn put_row_words(out: &mut [u32], at: usize, row: CallRow) -> usize
     requires { ⌜ Room (now out) at (wordsOf row) ⌝ }
     ensures { λ r. ⌜ Put (now (out .entry)) at (wordsOf row) (now (out .exit)) r ⌝ }
 {
@@ -138,7 +119,7 @@ pub fn spill_rows(rows: &[CallRow], words: &mut [u32]) -> Moved
     let mut i = 0;
     let mut at = 0;
     while i < n {
-        at = put_words(words, at, rows[i]);
+        at = put_row_words(words, at, rows[i]);
         i += 1;
     }
     moved

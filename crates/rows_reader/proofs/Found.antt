@@ -37,7 +37,7 @@ use Rattle.lin_spec.proofs.Given.{read-given, file-given}
 use Rattle.lin_spec.proofs.ThirdDemand.{third-demand}
 use Rattle.rows.specs.declared.CallRow.{CallRow}
 use Rattle.rows.specs.Rows.{called, rowIn, laid, lentRows}
-use Rattle.row_steps.specs.Steps.{fewStructs, fileAnswer}
+use Rattle.rows_steps.specs.Steps.{fewStructs, fileAnswer}
 use Rattle.rows_reader.specs.Reader.{storedRows, readRows, fileRows}
 use Rattle.rows_reader.specs.Given.{GivesRows}
 

@@ -16,14 +16,14 @@ use Rattle.lin_spec.specs.Reading.{stream, headed}
 use Rattle.lin_spec.specs.declared.Span.{Span}
 use Rattle.lin_spec.specs.declared.Heading.{Heading}
 use Rattle.output.proofs.Laws.{overlay-nil}
-use Rattle.board_steps.specs.Calls.{callsFrom}
-use Rattle.board_steps.specs.Head.{boardAt}
+use Rattle.board_loop.specs.Calls.{callsFrom}
+use Rattle.board_loop.specs.Head.{boardAt}
 use Rattle.board.proofs.ReaderLaws.{calls-are}
 use Rattle.rows.specs.declared.CallRow.{CallRow}
-use Rattle.row_steps.specs.declared.steps.RowStep.{RowStep}
-use Rattle.row_steps.specs.declared.steps.Headed.{Headed}
+use Rattle.rows_steps.specs.declared.steps.RowStep.{RowStep}
+use Rattle.rows_steps.specs.declared.steps.Headed.{Headed}
 use Rattle.rows.specs.Rows.{called, rowIn, emptyRow, laid}
-use Rattle.row_steps.specs.Steps.{Steps, callsIn, playIn, Heads}
+use Rattle.rows_steps.specs.Steps.{Steps, callsIn, playIn, Heads}
 use Rattle.rows_reader.specs.Reader.{RowReading, storedRows}
 use Rattle.rows.proofs.Laws.{front, laidAt, laid-start, laid-more, laid-none}
 

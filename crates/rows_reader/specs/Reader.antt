@@ -12,7 +12,7 @@ use Rattle.lin_spec.specs.declared.Span.{Span}
 use Rattle.lin_spec.specs.declared.Heading.{Heading}
 use Rattle.rows.specs.declared.CallRow.{CallRow}
 use Rattle.rows.specs.Rows.{rowIn, laid}
-use Rattle.row_steps.specs.Steps.{textAnswer, fileAnswer}
+use Rattle.rows_steps.specs.Steps.{textAnswer, fileAnswer}
 
 -- the heading, and the rows and cards afterwards
 pub record RowReading : Type 0 where

@@ -1,15 +1,15 @@
 // A board's calls read into rows: the entries of `parse_lin` and of a file's board by its number. (01: Board; File; Language form)
 use lin_spec::Heading;
-use row_steps::file_headed;
-use row_steps::heading_of;
-use row_steps::next_row;
-use row_steps::text_headed;
 use rows::CallRow;
+use rows_steps::file_headed;
+use rows_steps::heading_alone;
+use rows_steps::next_row;
+use rows_steps::text_headed;
 ghost use mathlib.Core.Path.{_≡_};
 ghost use mathlib.Core.List.{map};
 ghost use Prim.Native.Nat.{_<_, _≤_, _^_};
 ghost use lib.ListN.{length, take};
-ghost use Rattle.board_steps.specs.Head.{boardAt};
+ghost use Rattle.board_loop.specs.Head.{boardAt};
 ghost use Rattle.rows.specs.Rows.{rowIn, laid};
 ghost use Rattle.rows_reader.specs.Reader.{RowReading, readRows, fileRows};
 
@@ -34,7 +34,7 @@ pub fn parse_lin_rows(text: &[u8], rows: &mut [CallRow], cards: &mut [u8]) -> He
 {
     let h = text_headed(text, rows.len(), cards);
     store_rows(rows, text, h.calls, h.start, h.stop);
-    heading_of(h)
+    heading_alone(h)
 }
 
 // The board of a number: its calls go into the rows, and its play into the cards.
@@ -48,5 +48,5 @@ pub fn file_board_rows(
 {
     let h = file_headed(text, number, rows.len(), cards);
     store_rows(rows, text, h.calls, h.start, h.stop);
-    heading_of(h)
+    heading_alone(h)
 }

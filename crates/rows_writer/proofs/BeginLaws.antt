@@ -27,20 +27,20 @@ use Rattle.lin_spec.specs.declared.Verdict.the-variants.{Accepted, Refused as R
 use Rattle.lin_spec.proofs.Base.{or-none}
 use Rattle.output.specs.Put.{Room, Put}
 use Rattle.output.proofs.Laws.{Left, start, roomy, step, overlay-nil, sat-sum}
-use Rattle.lent.specs.Checks.{verdictOf, checked, amiss, Bounded}
-use Rattle.lent.specs.Heads.{headOf, boardOf, headSpans}
-use Rattle.lent.specs.declared.heads.Head.{Head}
-use Rattle.lent.proofs.LentLaws.{spans-any, check-long, check-other, check-number, check-past, check-ill, check-good, check-refuses, check-passes, check-passed}
-use Rattle.cleaning.specs.declared.texts.Marks.{Marks}
-use Rattle.boardtext.specs.Pieces.{frontText, backText}
-use Rattle.boardtext.specs.Filing.{fitted}
-use Rattle.boardtext.proofs.PieceLaws.{written-lent, lent-long}
+use Rattle.board_lent.specs.Checks.{verdictOf, checked, amiss, Bounded}
+use Rattle.board_lent.specs.Heads.{headOf, boardOf, headSpans}
+use Rattle.board_lent.specs.declared.heads.Head.{Head}
+use Rattle.board_lent.proofs.LentLaws.{spans-any, check-long, check-other, check-number, check-past, check-ill, check-good, check-refuses, check-passes, check-passed}
+use Rattle.writer_texts.specs.declared.texts.Marks.{Marks}
+use Rattle.writer.specs.Pieces.{frontText, backText}
+use Rattle.writer.specs.Filing.{fitted}
+use Rattle.writer.proofs.PieceLaws.{written-lent, lent-long}
 use Rattle.rows.specs.declared.CallRow.{CallRow}
 use Rattle.rows.specs.Rows.{numbered, lentRows}
 use Rattle.rows.proofs.MoveLaws.{words-flags}
-use Rattle.row_walks.specs.declared.Scan.{Scan}
+use Rattle.rows_walks.specs.declared.Scan.{Scan}
 use Rattle.rows_writer.specs.declared.begins.Begun.{Begun}
-use Rattle.row_walks.specs.Walks.{rowsBytes}
+use Rattle.rows_walks.specs.Walks.{rowsBytes}
 use Rattle.rows_writer.specs.Seen.{Found, Seen}
 use Rattle.rows_writer.specs.Begun.{plainMarks, lastText, restText, closing, Begins}
 

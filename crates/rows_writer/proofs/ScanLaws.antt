@@ -15,9 +15,9 @@ use Rattle.lin_spec.proofs.Base.{and-left}
 use Rattle.text.specs.Index.{Indexed}
 use Rattle.text.proofs.IndexLaws.{indexed-none}
 use Rattle.rows.specs.declared.CallRow.{CallRow}
-use Rattle.row_walks.specs.declared.Scan.{Scan}
-use Rattle.row_walks.specs.Walks.{scanned}
-use Rattle.row_walks.proofs.ScanLaws.{look-past, look-need, found-past, found-ill, found-need}
+use Rattle.rows_walks.specs.declared.Scan.{Scan}
+use Rattle.rows_walks.specs.Walks.{scanned}
+use Rattle.rows_walks.proofs.ScanLaws.{look-past, look-need, found-past, found-ill, found-need}
 use Rattle.rows_writer.specs.Seen.{measuringScan, Looks, Seen}
 
 -- a scan that has found nothing looks at nothing

@@ -11,11 +11,11 @@ use Rattle.lin_spec.specs.Lent.{badCards}
 use Rattle.lin_spec.specs.declared.Written.{Written}
 use Rattle.lin_spec.specs.declared.Written.the-variants.{Length}
 use Rattle.output.specs.Put.{Room, Put}
-use Rattle.cleaning.specs.declared.texts.Marks.{Marks}
-use Rattle.boardtext.specs.Pieces.{backText}
+use Rattle.writer_texts.specs.declared.texts.Marks.{Marks}
+use Rattle.writer.specs.Pieces.{backText}
 use Rattle.rows.specs.declared.CallRow.{CallRow}
 use Rattle.rows_writer.specs.declared.begins.Begun.{Begun}
-use Rattle.row_walks.specs.Walks.{rowsBytes}
+use Rattle.rows_walks.specs.Walks.{rowsBytes}
 
 -- "pipe to `/`, CR and LF each to a space"
 abbrev pub plainMarks : Marks

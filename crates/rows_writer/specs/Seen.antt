@@ -8,13 +8,13 @@ use lib.ListN.{length, take}
 use Rattle.lin_spec.specs.Base.{any}
 use Rattle.lin_spec.specs.Records.{limit}
 use Rattle.lin_spec.specs.Refusals.{passesEnd, sat}
-use Rattle.lent.specs.Calls.{spansOf}
-use Rattle.lent.specs.Checks.{amiss}
+use Rattle.board_lent.specs.Calls.{spansOf}
+use Rattle.board_lent.specs.Checks.{amiss}
 use Rattle.rows.specs.declared.CallRow.{CallRow}
 use Rattle.rows.specs.Rows.{numbered}
-use Rattle.row_walks.specs.declared.Scan.{Scan}
+use Rattle.rows_walks.specs.declared.Scan.{Scan}
 use Rattle.text.specs.Index.{Indexed}
-use Rattle.row_walks.specs.Walks.{rowsBytes}
+use Rattle.rows_walks.specs.Walks.{rowsBytes}
 
 -- a scan of places and lengths that has found nothing yet
 abbrev pub measuringScan : Scan

@@ -1,14 +1,9 @@
 // What is done before the calls of a board are put, and after: the checks, and all of the board but its calls. (01: Writer; Eight refusals)
-use boardtext::others_len;
-use boardtext::put_back;
-use boardtext::put_front;
-use cleaning::Marks;
-use dealtext::sizes_of;
-use lent::Head;
-use lent::bad_cards;
-use lent::head_meets;
-use lent::head_of;
-use lent::head_past;
+use board_lent::Head;
+use board_lent::bad_cards;
+use board_lent::head_meets;
+use board_lent::head_of;
+use board_lent::head_past;
 use lin_spec::Board;
 use lin_spec::LIMIT;
 use lin_spec::MaybeClaim;
@@ -17,7 +12,13 @@ use lin_spec::Verdict;
 use lin_spec::Written;
 use lin_spec::room;
 use output::sat_add;
-use row_walks::Scan;
+use rows_walks::Scan;
+use writer::others_len;
+use writer::put_back;
+use writer::put_front;
+use writer_cards::sizes_of;
+use writer_texts::Marks;
+use writer_texts::PLAIN;
 ghost use mathlib.Core.Path.{_≡_};
 ghost use Prim.Native.Nat.{ℕ, _+_};
 ghost use mathlib.Core.Bool.{false};
@@ -27,13 +28,13 @@ ghost use Rattle.lin_spec.specs.Refusals.{sat};
 ghost use Rattle.lin_spec.specs.Lent.{badCards};
 ghost use Rattle.lin_spec.specs.Append.{plain, append};
 ghost use Rattle.lin_spec.specs.declared.Written.the-variants.{Refused};
-ghost use Rattle.lent.specs.Heads.{boardOf};
-ghost use Rattle.lent.specs.Checks.{verdictOf, checked};
+ghost use Rattle.board_lent.specs.Heads.{boardOf};
+ghost use Rattle.board_lent.specs.Checks.{verdictOf, checked};
 ghost use Rattle.output.specs.Put.{Room, Put};
-ghost use Rattle.boardtext.specs.Filing.{fitted};
+ghost use Rattle.writer.specs.Filing.{fitted};
 ghost use Rattle.rows.specs.declared.CallRow.{CallRow};
 ghost use Rattle.rows.specs.Rows.{lentRows};
-ghost use Rattle.row_walks.specs.Walks.{rowsBytes};
+ghost use Rattle.rows_walks.specs.Walks.{rowsBytes};
 ghost use Rattle.rows_writer.specs.Seen.{Seen};
 ghost use Rattle.rows_writer.specs.Begun.{plainMarks, lastText, closing, Playable, Begins};
 
@@ -48,29 +49,18 @@ pub(crate) struct Begun {
     pub claim: MaybeClaim,
 }
 
-// What cleaning puts.
-fn plain_marks() -> Marks
-    ensures { λ r. ⌜ r ≡ plainMarks ⌝ }
-{
-    Marks {
-        pipe: b'/',
-        line: b' ',
-    }
-}
-
 // A board that is refused: nothing is put, and no call is to be.
 fn refused_board(r: Refusal) -> Begun
     ensures { λ b. ⌜ (b .passed ≡ false) × (b .answer ≡ Refused r) × (b .at ≡ 0) × (b .count ≡ 0) ⌝ }
 {
     let answer = Written::Refused(r);
-    let marks = plain_marks();
     let claim = MaybeClaim::Absent;
     Begun {
         passed: false,
         answer,
         at: 0,
         count: 0,
-        marks,
+        marks: PLAIN,
         claim,
     }
 }
@@ -113,7 +103,7 @@ fn begin_checked(
     ensures { λ r. ⌜ ((rs : List CallRow) → count ≡ length rs → badCards (now (cards .entry)) ≡ false → calls ≡ sat (length (rowsBytes (plainMarks .pipe) (plainMarks .line) (now (text .entry)) rs)) → Begins (now (text .entry)) rs (now (cards .entry)) (fitted (plain (lentRows (now (text .entry)) (boardOf head (now (counts .entry))) rs (now (cards .entry)))) (now (out .entry)) used) r (now (out .exit))) ⌝ }
 {
     let claim = head.claim;
-    let marks = plain_marks();
+    let marks = PLAIN;
     let sizes = sizes_of(counts);
     let need = sat_add(others_len(text, head, sizes, cards, marks), calls);
     if (room(out.len()) as u64) < sat_add(used as u64, need) {

@@ -1,8 +1,8 @@
 // What is found in lent rows before a board is written: first the places and the lengths of their texts, then the bytes. (01: Eight refusals, 5 to 7)
 use lin_spec::LIMIT;
-use row_walks::Scan;
-use row_walks::scan_rows;
 use rows::CallRow;
+use rows_walks::Scan;
+use rows_walks::scan_rows;
 use text::index_text;
 ghost use mathlib.Core.Path.{_≡_};
 ghost use Rattle.rows_writer.specs.Seen.{measuringScan, Looks, Seen};

@@ -15,7 +15,7 @@ use Rattle.lin_spec.specs.Records.{part}
 use Rattle.lin_spec.specs.Utf8.{utf8, longest}
 use Rattle.lin_spec.proofs.Base.{split, or-none}
 use Rattle.lin_spec.proofs.Utf8.{longest-within, longest-is, longest-most, longest-after}
-use Rattle.text.specs.Utf8.{isTail, tailAt, Past, Stepped}
+use Rattle.text.specs.Utf8.{isTail, tailAt, Past, PassesChars}
 use Rattle.text.specs.Index.{illFrom, nextIll, illPart, Indexed, Filled}
 use Rattle.text.proofs.Utf8Laws.{rest}
 use Rattle.text.proofs.TornLaws.{start-is, ill-start, empty-utf8, tail-beyond}
@@ -223,7 +223,7 @@ module _ (s next : List ℕ) (x : Indexed s next) where
 
     module _ (t : tailAt s a ≡ false) (i : ℕ) (p : Past s a i) where
       -- a place that whole characters lead to, and that has none
-      pub word-none : (j : ℕ) → Stepped s i j → j ≡ i → i ≡ nextIll s a
+      pub word-none : (j : ℕ) → PassesChars s i j → j ≡ i → i ≡ nextIll s a
       word-none j d e = let n = next-at s a t in omega (arith, p .after, d .none e)
 
       -- the word of the next block, where whole characters lead up to it

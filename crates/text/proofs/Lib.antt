@@ -4,3 +4,4 @@ pub mod ListLaws
 pub mod PartLaws
 pub mod TornLaws
 pub mod Utf8Laws
+pub mod ApartLaws

@@ -17,7 +17,7 @@ use Rattle.lin_spec.specs.Utf8.{Utf, first, tails, utfStep, utf, isWhole, utf8,
 use Rattle.lin_spec.specs.Utf8.Utf.{whole, needs, ill}
 use Rattle.lin_spec.proofs.Base.{and-left, and-right, allBelow, same-below}
 use Rattle.lin_spec.proofs.Utf8.{utf-append, whole-utf8, utf8-ascii, utf8-longest, longest-within, longest-after}
-use Rattle.text.specs.Utf8.{bytesOf, lowOf, highOf, Front, Past, Block, Stepped}
+use Rattle.text.specs.Utf8.{bytesOf, lowOf, highOf, Front, Past, Block, PassesChars}
 
 -- From place to place
 
@@ -114,11 +114,11 @@ module _ (s : List ℕ) (i n : ℕ) (f : Front (take (length s - i) (drop i s)) 
   char-none p e = omega (arith, p .after, here .none e)
 
   -- a step passes it, or there is none
-  pub step-char : Stepped s i (i + n)
+  pub step-char : PassesChars s i (i + n)
   step-char = record { past = char-past; none = λ e. here .none (omega arith) }
 
 -- a step passes sixteen bytes
-pub step-sixteen : (s : List ℕ) (i : ℕ) → Block s i 16 → Stepped s i (i + 16)
+pub step-sixteen : (s : List ℕ) (i : ℕ) → Block s i 16 → PassesChars s i (i + 16)
 step-sixteen s i b = record { past = b .past; none = λ e. absurd (omega arith) }
 
 -- the whole text is UTF-8 where its longest start is as long

@@ -51,6 +51,6 @@ pub record Block (s : List ℕ) (i n : ℕ) : Type 0 where
   pub past : Past s i (i + n)
 
 -- whole characters of s are passed from i to j; where there is none at i, j is i
-pub record Stepped (s : List ℕ) (i j : ℕ) : Type 0 where
+pub record PassesChars (s : List ℕ) (i j : ℕ) : Type 0 where
   pub past : Past s i j
   pub none : j ≡ i → longest (drop i s) ≡ 0

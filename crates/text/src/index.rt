@@ -3,7 +3,7 @@
 use crate::parts::part;
 use crate::parts::past_end;
 use crate::utf8::is_utf8;
-use crate::utf8::step;
+use crate::utf8::pass_chars;
 use crate::utf8::well_formed_len;
 use lin_spec::Span;
 ghost use mathlib.Core.Path.{_≡_};
@@ -87,7 +87,7 @@ fn next_ill(text: &[u8], next: &[u32], a: usize) -> usize
     let end = (k + 1) * 1024;
     let mut i = a;
     while i < end {
-        let j = step(text, i);
+        let j = pass_chars(text, i);
         if j == i {
             return i;
         }

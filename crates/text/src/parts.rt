@@ -42,7 +42,7 @@ pub fn past_end(text: &[u8], x: Span) -> bool
     (text.len() as u64) < (x.start as u64) + (x.len as u64)
 }
 
-// Tests sixteen bytes from `i` on for c. Promised is what the search needs: where it says true, they are there and none of them is c.
+// Tests sixteen bytes from `i` on for c. Where it says true, they are there and none of them is c.
 fn sixteen_without(s: &[u8], c: u8, i: usize) -> bool
     ensures { λ r. ⌜ (r ≡ true → Without (now (s .entry)) c i) ⌝ }
 {
@@ -71,7 +71,7 @@ fn sixteen_without(s: &[u8], c: u8, i: usize) -> bool
 }
 
 // Passes bytes other than c from `from` on, by sixteens, and gives the place after them.
-fn sixteens_end(s: &[u8], c: u8, from: usize) -> usize
+fn sixteens_without(s: &[u8], c: u8, from: usize) -> usize
     ensures { λ r. ⌜ findFrom c (now (s .entry)) r ≡ findFrom c (now (s .entry)) from ⌝ }
 {
     let mut i = from;
@@ -85,7 +85,7 @@ fn sixteens_end(s: &[u8], c: u8, from: usize) -> usize
 fn find_far(s: &[u8], c: u8, from: usize) -> usize
     ensures { λ r. ⌜ r ≡ findFrom c (now (s .entry)) from ⌝ }
 {
-    let mut i = sixteens_end(s, c, from);
+    let mut i = sixteens_without(s, c, from);
     while i < s.len() {
         if s[i] == c {
             return i;

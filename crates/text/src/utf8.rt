@@ -5,9 +5,9 @@ ghost use Prim.Native.Nat.{_+_, _≤_};
 ghost use lib.ListN.{length};
 ghost use lib.Dec.{leb};
 ghost use Rattle.lin_spec.specs.Utf8.{first, utf8, longest};
-ghost use Rattle.text.specs.Utf8.{bytesOf, lowOf, highOf, Front, Past, Block, Stepped};
+ghost use Rattle.text.specs.Utf8.{bytesOf, lowOf, highOf, Front, Past, Block, PassesChars};
 
-// How many bytes a character has that begins with `a`, 0 where none does. RFC 3629, 4: UTF8-1 to UTF8-4
+// The length of a character by its first byte, 0 where none begins so. RFC 3629, 4: UTF8-1 to UTF8-4
 pub fn width(a: u8) -> usize
     ensures { λ r. ⌜ r ≡ bytesOf (first a) ⌝ }
 {
@@ -92,7 +92,7 @@ fn char_len(t: &[u8]) -> usize
     n
 }
 
-// Whether the sixteen bytes from `i` on are ASCII. Promised is that they are whole characters then.
+// Whether the sixteen bytes from `i` on are ASCII: they are whole characters then.
 fn sixteen_ascii(s: &[u8], i: usize) -> bool
     requires { ⌜ i + 16 ≤ length (now s) ⌝ }
     ensures { λ r. ⌜ (r ≡ true → Past (now (s .entry)) i (i + 16)) ⌝ }
@@ -115,7 +115,7 @@ fn sixteen_ascii(s: &[u8], i: usize) -> bool
         & (s[i + 15] <= 0x7F)
 }
 
-// Tests sixteen bytes from `i` on for ASCII. Promised is what the loop needs: where it says true, they are there and are whole characters.
+// Tests sixteen bytes from `i` on for ASCII. Where it says true, they are there and are whole characters.
 fn ascii_sixteen(s: &[u8], i: usize) -> bool
     ensures { λ r. ⌜ (r ≡ true → Block (now (s .entry)) i 16) ⌝ }
 {
@@ -145,7 +145,7 @@ fn ascii_sixty_four(s: &[u8], i: usize) -> bool
     (a & b) & (c & d)
 }
 
-// Passes bytes of ASCII from `from` on, by sixty-fours, and gives the place after them. Promised is that whole characters were passed.
+// Passes bytes of ASCII from `from` on, by sixty-fours, and gives the place after them: whole characters are passed.
 fn sixty_fours_end(s: &[u8], from: usize) -> usize
     ensures { λ r. ⌜ Past (now (s .entry)) from r ⌝ }
 {
@@ -156,8 +156,8 @@ fn sixty_fours_end(s: &[u8], from: usize) -> usize
     i
 }
 
-// Passes bytes of ASCII from `from` on, by sixteens, and gives the place after them. Promised is that whole characters were passed.
-fn sixteens_end(s: &[u8], from: usize) -> usize
+// Passes bytes of ASCII from `from` on, by sixteens, and gives the place after them: whole characters are passed.
+fn sixteens_ascii(s: &[u8], from: usize) -> usize
     ensures { λ r. ⌜ Past (now (s .entry)) from r ⌝ }
 {
     let mut i = from;
@@ -167,11 +167,11 @@ fn sixteens_end(s: &[u8], from: usize) -> usize
     i
 }
 
-// Passes bytes of ASCII from `from` on, and gives the place after them. Promised is that whole characters were passed.
+// Passes bytes of ASCII from `from` on, and gives the place after them: whole characters are passed.
 fn ascii_end(s: &[u8], from: usize) -> usize
     ensures { λ r. ⌜ Past (now (s .entry)) from r ⌝ }
 {
-    let mut i = sixteens_end(s, from);
+    let mut i = sixteens_ascii(s, from);
     while i < s.len() {
         if 0x7F < s[i] {
             return i;
@@ -195,9 +195,9 @@ fn past_ascii(s: &[u8], from: usize) -> usize
 }
 
 // Passes sixteen bytes of ASCII from `i` on, or one character, and gives the place after them; `i` where there is no character.
-pub(crate) fn step(s: &[u8], i: usize) -> usize
+pub(crate) fn pass_chars(s: &[u8], i: usize) -> usize
     requires { ⌜ i ≤ length (now s) ⌝ }
-    ensures { λ r. ⌜ Stepped (now (s .entry)) i r ⌝ }
+    ensures { λ r. ⌜ PassesChars (now (s .entry)) i r ⌝ }
 {
     if ascii_sixteen(s, i) {
         return i + 16;

@@ -53,7 +53,7 @@ fn byte_back(s: &[u8], k: usize) -> u8
     0
 }
 
-// How many bytes the white space character at the front has, 0 where there is none.
+// The length of the white space character at the front, 0 where there is none.
 fn white_front(s: &[u8]) -> usize
     ensures { λ r. ⌜ r ≡ whiteAt (now (s .entry)) ⌝ }
 {
@@ -75,7 +75,7 @@ fn white_front(s: &[u8]) -> usize
     0
 }
 
-// How many bytes the white space character at the end has, 0 where there is none.
+// The length of the white space character at the end, 0 where there is none.
 fn white_back(s: &[u8]) -> usize
     ensures { λ r. ⌜ r ≡ whiteBack (now (s .entry)) ⌝ }
 {
@@ -127,7 +127,7 @@ fn trim_end(s: &[u8]) -> usize
     n
 }
 
-// Whether the first and the last byte are of ASCII and no white space. Promised is what the trimming needs: where it says true, the text stays.
+// Whether the first and the last byte are of ASCII and no white space. Where it says true, the text stays.
 fn plain_ends(s: &[u8]) -> bool
     ensures { λ r. ⌜ (r ≡ true → trim (now (s .entry)) ≡ now (s .entry)) ⌝ }
 {

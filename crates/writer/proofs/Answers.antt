@@ -21,10 +21,10 @@ use Rattle.lin_spec.specs.declared.Verdict.the-variants.{Accepted, Refused}
 use Rattle.lin_spec.specs.declared.Board.{Board}
 use Rattle.lin_spec.proofs.Base.{or-none}
 use Rattle.output.specs.Put.{Room, Put}
-use Rattle.lent.specs.Checks.{verdictOf, checked}
-use Rattle.lent.proofs.LentLaws.{number-is, check-refuses, check-passes, check-passed}
-use Rattle.cleaning.specs.declared.texts.Marks.{Marks}
-use Rattle.boardtext.specs.Filing.{filing, fitted}
+use Rattle.board_lent.specs.Checks.{verdictOf, checked}
+use Rattle.board_lent.proofs.LentLaws.{number-is, check-refuses, check-passes, check-passed}
+use Rattle.writer_texts.specs.declared.texts.Marks.{Marks}
+use Rattle.writer.specs.Filing.{filing, fitted}
 
 -- once the checks before 7 are passed
 module _ (f : Filing) (o : List ℕ) (used : ℕ) (h : used ≤ room o) (need : ℕ) (en : need ≡ sat (length (writtenForm f))) (r : ℕ) (er : r ≡ room o) where

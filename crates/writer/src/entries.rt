@@ -1,16 +1,17 @@
 // The entries that write a board: `write_lin` from the first byte on, append after the used bytes. (01: Writer; Eight refusals)
-use boardtext::board_len;
-use boardtext::put_board;
-use cleaning::Marks;
-use dealtext::sizes_of;
-use lent::Head;
-use lent::check;
-use lent::head_of;
+use crate::boards::board_len;
+use crate::boards::put_board;
+use board_lent::Head;
+use board_lent::check_board;
+use board_lent::head_of;
 use lin_spec::Board;
 use lin_spec::Refusal;
 use lin_spec::Verdict;
 use lin_spec::Written;
 use lin_spec::room;
+use writer_cards::sizes_of;
+use writer_texts::Marks;
+use writer_texts::PLAIN;
 ghost use mathlib.Core.Path.{_≡_};
 ghost use mathlib.Core.Bool.{false};
 ghost use Prim.Native.Nat.{_≤_};
@@ -18,8 +19,8 @@ ghost use lib.ListN.{length};
 ghost use Rattle.lin_spec.specs.Lent.{lent, badCards};
 ghost use Rattle.lin_spec.specs.Output.{Outcome, answerOf, room as roomOf};
 ghost use Rattle.lin_spec.specs.Append.{appended, append as appendOf, writeLin};
-ghost use Rattle.lent.specs.Heads.{boardOf};
-ghost use Rattle.boardtext.specs.Filing.{filing, fitted};
+ghost use Rattle.board_lent.specs.Heads.{boardOf};
+ghost use Rattle.writer.specs.Filing.{filing, fitted};
 
 // Puts a board that the checks before 7 have passed after the used bytes, if there is room for it.
 fn append_checked(
@@ -61,7 +62,7 @@ pub fn append_head(
     ensures { λ r. ⌜ _≡_ {A = Outcome} (record { answer = answerOf r; output = now (out .exit) }) (appended other (filing marks (now (text .entry)) (boardOf head (now (counts .entry))) (now (rows .entry)) (now (cards .entry))) (now (out .entry)) used) ⌝ }
 {
     let beyond = room(out.len()) < used;
-    match check(other | beyond, text, head, rows, cards) {
+    match check_board(other | beyond, text, head, rows, cards) {
         Verdict::Accepted => { append_checked(text, head, counts, rows, cards, marks, out, used) }
         Verdict::Refused(r) => Written::Refused(r),
     }
@@ -104,10 +105,7 @@ pub fn append(
 ) -> Written
     ensures { λ r. ⌜ _≡_ {A = Outcome} (record { answer = answerOf r; output = now (out .exit) }) (appendOf (lent (now (text .entry)) board (now (rows .entry)) (now (cards .entry))) (now (out .entry)) used) ⌝ }
 {
-    let marks = Marks {
-        pipe: b'/',
-        line: b' ',
-    };
+    let marks = PLAIN;
     append_with(marks, text, board, rows, cards, out, used)
 }
 

@@ -1,5 +1,5 @@
 //! The runs of linlist that the gate makes: what stands on its standard
-//! input, and in the files that replay_listing lists by the same code.
+//! input, and in the files that test_listing lists by the same code.
 
 use super::{files::full, printed, vectors, LIMIT};
 
@@ -24,7 +24,7 @@ md|2|sv|e|\n \t\u{3000}\nhello\nmd|4SAAAA,SKKKKK|mb|p|mb|p|\rmb|p|\nmc|12|";
 
 const EXAMPLE: &str = "qx|o1|md|3SAK,SQJ,ST9|mb|1C!|pc|SA|mc|9|";
 
-/// The runs of replay_listing, in its order: a file's name and its bytes.
+/// The runs of test_listing, in its order: a file's name and its bytes.
 pub fn inputs() -> Vec<(&'static str, Vec<u8>)> {
     let mut over_ill = full(LIMIT + 1);
     over_ill[0] = 0xFF;
@@ -51,9 +51,9 @@ pub fn files() -> Vec<(String, Vec<u8>)> {
     let mut said = String::new();
     for (name, bytes) in inputs() {
         said += &format!("{name}\n{}", printed(&bytes));
-        out.push((format!("replay_listing/data/{name}.lin"), bytes));
+        out.push((format!("test_listing/data/{name}.lin"), bytes));
     }
     said += &format!("listings {} ok\n", vectors().cases());
-    out.push(("replay_listing/stdout".to_string(), said.into()));
+    out.push(("test_listing/stdout".to_string(), said.into()));
     out
 }

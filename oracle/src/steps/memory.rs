@@ -1,5 +1,5 @@
 //! The places of the program's memory. The first are the program's own, as in
-//! crates/replay_memory/src/memory.rt; the others are known to the files alone.
+//! crates/test_memory/src/memory.rt; the others are known to the files alone.
 
 /// 1 until a comparison of the case fails.
 pub const OK: usize = 0;

@@ -4,23 +4,18 @@ use Rattle.output.proofs.Laws.{set-overlay}
 use Rattle.output.proofs.put_word.Statement.{statement}
 use Rattle.output.proofs.put_word.Tie as tie
 
--- src/lib.rt:21:5
 mul-out : tie.Need-mul-out
 mul-out c = search needs
 
--- src/lib.rt:21:5
 slice-write-out : tie.Need-slice-write-out
 slice-write-out c = search needs
 
--- src/lib.rt:22:5
 add-result : tie.Need-add-result
 add-result c = search needs
 
--- src/lib.rt:17:1
 same-length : tie.Need-same-length
 same-length c = search needs
 
--- src/lib.rt:17:1
 returns : tie.Need-returns
 returns c = record { next = search needs; text = set-overlay _ _ _ (search needs) }
 

@@ -6,51 +6,39 @@ use borrow.Author.Needs.{needs}
 use Rattle.board.proofs.reader.board_at.Statement.{statement}
 use Rattle.board.proofs.reader.board_at.Tie as tie
 
--- src/reader.rt:129:11
 few-rows-requires : tie.Need-few-rows-requires
 few-rows-requires c κs = search needs
 
--- src/reader.rt:130:67
 enum-told : tie.Need-enum-told
 enum-told c = search needs
 
--- src/reader.rt:130:47
 read-into-requires : tie.Need-read-into-requires
 read-into-requires c κs = fits (now (c .before .before .before .before .before .before .before .before .before .before .args .text)) (c .before .before .before .before .before .before .before .before .before .before .args .at) (now (c .before .before .before .before .before .before .before .before .before .before .args .rows)) (now (c .before .before .before .before .before .before .before .before .before .before .args .cards)) (counted (now (c .before .before .before .before .before .before .before .before .before .before .args .text)) (c .before .before .before .before .before .before .before .before .before .before .args .at) (now (c .before .before .before .before .before .before .before .before .before .before .args .rows)) (now (c .before .before .before .before .before .before .before .before .before .before .args .cards)) _ _ (c .before .before .before .before .few-rows .ensures) (c .before .before .enum-told .given .1)) (c .before .before .before .before .before .before .before .before .before .before .pre)
 
--- src/reader.rt:130:30
-heading-of-requires : tie.Need-heading-of-requires
-heading-of-requires c κs = search needs
+with-deal-requires : tie.Need-with-deal-requires
+with-deal-requires c κs = search needs
 
--- src/reader.rt:131:26
 enum-known-r : tie.Need-enum-known-r
 enum-known-r c = search needs
 
--- src/reader.rt:131:32
 refused-requires : tie.Need-refused-requires
 refused-requires c κs = search needs
 
--- src/reader.rt:125:1
 same-length : tie.Need-same-length
 same-length c = search needs
 
--- src/reader.rt:125:1
 same-length-2 : tie.Need-same-length-2
 same-length-2 c = search needs
 
--- src/reader.rt:125:1
 returns : tie.Need-returns
-returns c = board-stored (now (c .before .before .before .before .before .before .before .before .before .before .before .before .before .before .before .before .args .text)) (c .before .before .before .before .before .before .before .before .before .before .before .before .before .before .before .before .args .at) (now (c .before .before .before .before .before .before .before .before .before .before .before .before .before .before .before .before .args .rows)) (now (c .before .before .before .before .before .before .before .before .before .before .before .before .before .before .before .before .args .cards)) (counted (now (c .before .before .before .before .before .before .before .before .before .before .before .before .before .before .before .before .args .text)) (c .before .before .before .before .before .before .before .before .before .before .before .before .before .before .before .before .args .at) (now (c .before .before .before .before .before .before .before .before .before .before .before .before .before .before .before .before .args .rows)) (now (c .before .before .before .before .before .before .before .before .before .before .before .before .before .before .before .before .args .cards)) _ _ (c .before .before .before .before .before .before .before .before .before .before .few-rows .ensures) (c .before .before .before .before .before .before .before .before .enum-told .given .1)) _ _ _ (c .before .before .before .before .before .read-into .ensures) _ (c .heading-of .ensures)
+returns c = board-stored (now (c .before .before .before .before .before .before .before .before .before .before .before .before .before .before .before .before .args .text)) (c .before .before .before .before .before .before .before .before .before .before .before .before .before .before .before .before .args .at) (now (c .before .before .before .before .before .before .before .before .before .before .before .before .before .before .before .before .args .rows)) (now (c .before .before .before .before .before .before .before .before .before .before .before .before .before .before .before .before .args .cards)) (counted (now (c .before .before .before .before .before .before .before .before .before .before .before .before .before .before .before .before .args .text)) (c .before .before .before .before .before .before .before .before .before .before .before .before .before .before .before .before .args .at) (now (c .before .before .before .before .before .before .before .before .before .before .before .before .before .before .before .before .args .rows)) (now (c .before .before .before .before .before .before .before .before .before .before .before .before .before .before .before .before .args .cards)) _ _ (c .before .before .before .before .before .before .before .before .before .before .few-rows .ensures) (c .before .before .before .before .before .before .before .before .enum-told .given .1)) _ _ _ (c .before .before .before .before .before .read-into .ensures) _ (c .with-deal .ensures)
 
--- src/reader.rt:125:1
 same-length-3 : tie.Need-same-length-3
 same-length-3 c = search needs
 
--- src/reader.rt:125:1
 same-length-4 : tie.Need-same-length-4
 same-length-4 c = search needs
 
--- src/reader.rt:125:1
 returns-2 : tie.Need-returns-2
 returns-2 c = rows-refused (now (c .before .before .before .before .before .before .before .before .before .before .args .text)) (c .before .before .before .before .before .before .before .before .before .before .args .at) (now (c .before .before .before .before .before .before .before .before .before .before .args .rows)) (now (c .before .before .before .before .before .before .before .before .before .before .args .cards)) _ (counted (now (c .before .before .before .before .before .before .before .before .before .before .args .text)) (c .before .before .before .before .before .before .before .before .before .before .args .at) (now (c .before .before .before .before .before .before .before .before .before .before .args .rows)) (now (c .before .before .before .before .before .before .before .before .before .before .args .cards)) _ _ (c .before .before .before .before .few-rows .ensures) (c .before .before .r .given .1)) _ (c .refused .ensures)
 
@@ -61,7 +49,7 @@ board-at-spec =
     few-rows-requires
     enum-told
     read-into-requires
-    heading-of-requires
+    with-deal-requires
     enum-known-r
     refused-requires
     same-length

@@ -7,27 +7,21 @@ use borrow.Author.Needs.{needs}
 use Rattle.board.proofs.reader.few_rows.Statement.{statement}
 use Rattle.board.proofs.reader.few_rows.Tie as tie
 
--- src/reader.rt:111:8
 roomy-requires : tie.Need-roomy-requires
 roomy-requires c κs = search needs
 
--- src/reader.rt:112:9
 returns : tie.Need-returns
 returns c = ample _ _ _ _ _ (omega arith) (c .before .roomy .ensures (c .if1 .taken))
 
--- src/reader.rt:114:9
 read-head-requires : tie.Need-read-head-requires
 read-head-requires c κs = search needs
 
--- src/reader.rt:116:9
 returns-2 : tie.Need-returns-2
 returns-2 c = few-calls (now (c .before .before .before .before .before .before .before .before .args .text)) (c .before .before .before .before .before .before .before .before .args .at) (now (c .before .before .before .before .before .before .before .before .args .rows)) (now (c .before .before .before .before .before .before .before .before .args .cards)) _ (c .before .before .read-head .ensures) (c .if2 .taken)
 
--- src/reader.rt:119:9
 returns-3 : tie.Need-returns-3
 returns-3 c = few-cards (now (c .before .before .before .before .before .before .before .before .before .before .args .text)) (c .before .before .before .before .before .before .before .before .before .before .args .at) (now (c .before .before .before .before .before .before .before .before .before .before .args .rows)) (now (c .before .before .before .before .before .before .before .before .before .before .args .cards)) _ (c .before .before .before .before .read-head .ensures) (c .before .before .if2 .left) (c .if3 .taken)
 
--- src/reader.rt:107:1
 returns-4 : tie.Need-returns-4
 returns-4 c = enough (now (c .before .before .before .before .before .before .before .before .before .before .args .text)) (c .before .before .before .before .before .before .before .before .before .before .args .at) (now (c .before .before .before .before .before .before .before .before .before .before .args .rows)) (now (c .before .before .before .before .before .before .before .before .before .before .args .cards)) _ (c .before .before .before .before .read-head .ensures) (c .before .before .if2 .left) (c .if3 .left)
 

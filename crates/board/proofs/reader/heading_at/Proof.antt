@@ -6,17 +6,14 @@ use borrow.Author.Needs.{needs}
 use Rattle.board.proofs.reader.heading_at.Statement.{statement}
 use Rattle.board.proofs.reader.heading_at.Tie as tie
 
--- src/reader.rt:85:22
 read-head-requires : tie.Need-read-head-requires
 read-head-requires c κs = search needs
 
--- src/reader.rt:85:5
-heading-of-requires : tie.Need-heading-of-requires
-heading-of-requires c κs = search needs
+with-deal-requires : tie.Need-with-deal-requires
+with-deal-requires c κs = search needs
 
--- src/reader.rt:81:1
 returns : tie.Need-returns
-returns c = (c .heading-of .ensures) ∙ read-heading _ _ _ (c .before .read-head .ensures)
+returns c = (c .with-deal .ensures) ∙ read-heading _ _ _ (c .before .read-head .ensures)
 
 pub heading-at-spec : {M : Type 1} → statement M
-heading-at-spec = tie.close (tie.spec read-head-requires heading-of-requires returns)
+heading-at-spec = tie.close (tie.spec read-head-requires with-deal-requires returns)

@@ -5,11 +5,9 @@ use borrow.Author.Needs.{needs}
 use Rattle.board.proofs.reader.names_at.Statement.{statement}
 use Rattle.board.proofs.reader.names_at.Tie as tie
 
--- src/reader.rt:123:9
 read-head-requires : tie.Need-read-head-requires
 read-head-requires c κs = search needs
 
--- src/reader.rt:119:1
 returns : tie.Need-returns
 returns c = read-names _ _ _ (c .before .read-head .ensures)
 

@@ -7,31 +7,24 @@ use borrow.Author.Needs.{needs}
 use Rattle.board.proofs.reader.parse_lin_heading.Statement.{statement}
 use Rattle.board.proofs.reader.parse_lin_heading.Tie as tie
 
--- src/reader.rt:138:11
 open-requires : tie.Need-open-requires
 open-requires c κs = search needs
 
--- src/reader.rt:139:26
 enum-told : tie.Need-enum-told
 enum-told c = search needs
 
--- src/reader.rt:139:26
 heading-at-requires : tie.Need-heading-at-requires
 heading-at-requires c κs = (omega arith, short _ _ (c .before .before .«open» .ensures) _ (c .enum-told .given .1))
 
--- src/reader.rt:140:25
 enum-known-r : tie.Need-enum-known-r
 enum-known-r c = search needs
 
--- src/reader.rt:140:31
 refused-requires : tie.Need-refused-requires
 refused-requires c κs = search needs
 
--- src/reader.rt:135:1
 returns : tie.Need-returns
 returns c = c .heading-at .ensures ∙ heading-read _ _ (c .before .before .before .«open» .ensures) _ (c .before .enum-told .given .1)
 
--- src/reader.rt:135:1
 returns-2 : tie.Need-returns-2
 returns-2 c = heading-refused _ _ (c .before .before .before .before .«open» .ensures) _ (c .before .before .r .given .1) _ (c .refused .ensures)
 

@@ -5,11 +5,9 @@ use borrow.Author.Needs.{needs}
 use Rattle.board.proofs.reader.roomy.Statement.{statement}
 use Rattle.board.proofs.reader.roomy.Tie as tie
 
--- src/reader.rt:102:17
 sub-most : tie.Need-sub-most
 sub-most c = search needs
 
--- src/reader.rt:98:1
 returns : tie.Need-returns
 returns c = places _ _ _
 

@@ -6,20 +6,20 @@ use native.Mathlib.Omega.{arith}
 use denote.Ref.{now}
 use lib.Seq.{paste, paste-zero}
 use borrow.Author.Needs.{needs}
-use Rattle.lin_spec.specs.Cards.{remainder}
+use Rattle.lin_spec.specs.Cards.{unheldCards}
 use Rattle.cards.specs.Deals.{handOf}
 use Rattle.cards.proofs.DealLaws.{rest-turn, rest-end}
 use Rattle.cards.proofs.hands.count_rest.Statement.{statement}
 use Rattle.cards.proofs.hands.count_rest.Tie as tie
 
 abbrev Inv-loop : tie.InvT-loop
-Inv-loop counts₀ c₀ counts c = (counts ≡ paste counts₀ 156 (remainder (handOf counts₀ 0) (handOf counts₀ 1) (handOf counts₀ 2)) c) × (c ≤ 52)
+Inv-loop counts₀ c₀ counts c = (counts ≡ paste counts₀ 156 (unheldCards (handOf counts₀ 0) (handOf counts₀ 1) (handOf counts₀ 2)) c) × (c ≤ 52)
 
 abbrev μ-loop : tie.MeasureT-loop
 μ-loop counts₀ c₀ counts c = 52 - c
 
 loop-holds : tie.Need-loop-holds Inv-loop μ-loop
-loop-holds c = let d = now (c .args .counts) in (paste-zero d 156 (remainder (handOf d 0) (handOf d 1) (handOf d 2)), omega arith)
+loop-holds c = let d = now (c .args .counts) in (paste-zero d 156 (unheldCards (handOf d 0) (handOf d 1) (handOf d 2)), omega arith)
 
 mul-unheld : tie.Need-mul-unheld Inv-loop μ-loop
 mul-unheld c = search needs

@@ -27,20 +27,20 @@ mul-first c = omega (arith, c .number .ensures .1)
 loop-holds : tie.Need-loop-holds Inv-loop μ-loop
 loop-holds c = (zero-add _, omega arith, omega arith)
 
-add-wide : tie.Need-add-wide Inv-loop μ-loop
-add-wide c = omega (arith, c .before .before .number .ensures .1)
+add-wide-count : tie.Need-add-wide-count Inv-loop μ-loop
+add-wide-count c = omega (arith, c .before .before .number .ensures .1)
 
-mul-wide : tie.Need-mul-wide Inv-loop μ-loop
-mul-wide c = search needs
+mul-wide-count : tie.Need-mul-wide-count Inv-loop μ-loop
+mul-wide-count c = search needs
 
-element-copy-out-wide : tie.Need-element-copy-out-wide Inv-loop μ-loop
-element-copy-out-wide c = omega (arith, c .before .before .number .ensures .1)
+element-copy-out-wide-count : tie.Need-element-copy-out-wide-count Inv-loop μ-loop
+element-copy-out-wide-count c = omega (arith, c .before .before .number .ensures .1)
 
-wide-requires : tie.Need-wide-requires Inv-loop μ-loop
-wide-requires c κs = search needs
+wide-count-requires : tie.Need-wide-count-requires Inv-loop μ-loop
+wide-count-requires c κs = search needs
 
 add-n : tie.Need-add-n Inv-loop μ-loop
-add-n c = omega (arith, c .wide .ensures .1)
+add-n c = omega (arith, c .wide-count .ensures .1)
 
 add-c : tie.Need-add-c Inv-loop μ-loop
 add-c c = search needs
@@ -52,7 +52,7 @@ loop-again : tie.Need-loop-again Inv-loop μ-loop
 loop-again c = let d = c .before .before .before .before .before .args .counts .now in
     let i = c .before .before .before .loop .c in
     let v = c .before .before .before .loop .inv in
-    (sum-next _ _ _ _ (v .0) (c .wide .ensures .0 ∙ count-at d _ 52 i (c .before .before .loop-test .taken)), omega (arith, c .wide .ensures .1), omega arith)
+    (sum-next _ _ _ _ (v .0) (c .wide-count .ensures .0 ∙ count-at d _ 52 i (c .before .before .loop-test .taken)), omega (arith, c .wide-count .ensures .1), omega arith)
 
 returns : tie.Need-returns Inv-loop μ-loop
 returns c = let d = c .before .before .before .args .counts .now in
@@ -67,10 +67,10 @@ seat-sum-spec =
     number-requires
     mul-first
     loop-holds
-    add-wide
-    mul-wide
-    element-copy-out-wide
-    wide-requires
+    add-wide-count
+    mul-wide-count
+    element-copy-out-wide-count
+    wide-count-requires
     add-n
     add-c
     loop-less

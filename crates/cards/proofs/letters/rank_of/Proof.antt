@@ -7,18 +7,18 @@ use Rattle.cards.specs.Letters.{table}
 use Rattle.cards.proofs.letters.rank_of.Statement.{statement}
 use Rattle.cards.proofs.letters.rank_of.Tie as tie
 
-letter-requires : tie.Need-letter-requires
+letter-number-requires : tie.Need-letter-number-requires
 unfolding table
-letter-requires c κs = refl
+letter-number-requires c κs = refl
 
 returns : tie.Need-returns
-returns c = sym (c .before .letter .ensures .1 ∙ simp (lt-leb _ _ (c .if1 .taken)))
+returns c = sym (c .before .letter-number .ensures .1 ∙ simp (lt-leb _ _ (c .if1 .taken)))
 
 returns-2 : tie.Need-returns-2
-returns-2 c = sym (c .before .before .letter .ensures .1 ∙ simp (le-leb _ _ (c .before .if1 .left), lt-ltb _ _ (c .if2 .taken)))
+returns-2 c = sym (c .before .before .letter-number .ensures .1 ∙ simp (le-leb _ _ (c .before .if1 .left), lt-ltb _ _ (c .if2 .taken)))
 
 returns-3 : tie.Need-returns-3
-returns-3 c = sym (c .before .before .letter .ensures .1 ∙ simp (le-ltb _ _ (c .if2 .left), and-false))
+returns-3 c = sym (c .before .before .letter-number .ensures .1 ∙ simp (le-ltb _ _ (c .if2 .left), and-false))
 
 pub rank-of-spec : {M : Type 1} → statement M
-rank-of-spec = tie.close (tie.spec letter-requires returns returns-2 returns-3)
+rank-of-spec = tie.close (tie.spec letter-number-requires returns returns-2 returns-3)

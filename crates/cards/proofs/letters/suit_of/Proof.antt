@@ -6,15 +6,15 @@ use Rattle.cards.specs.Letters.{table}
 use Rattle.cards.proofs.letters.suit_of.Statement.{statement}
 use Rattle.cards.proofs.letters.suit_of.Tie as tie
 
-letter-requires : tie.Need-letter-requires
+letter-number-requires : tie.Need-letter-number-requires
 unfolding table
-letter-requires c κs = refl
+letter-number-requires c κs = refl
 
 returns : tie.Need-returns
-returns c = sym (c .before .letter .ensures .0 ∙ simp (lt-ltb _ _ (c .if1 .taken)))
+returns c = sym (c .before .letter-number .ensures .0 ∙ simp (lt-ltb _ _ (c .if1 .taken)))
 
 returns-2 : tie.Need-returns-2
-returns-2 c = sym (c .before .letter .ensures .0 ∙ simp (le-ltb _ _ (c .if1 .left)))
+returns-2 c = sym (c .before .letter-number .ensures .0 ∙ simp (le-ltb _ _ (c .if1 .left)))
 
 pub suit-of-spec : {M : Type 1} → statement M
-suit-of-spec = tie.close (tie.spec letter-requires returns returns-2)
+suit-of-spec = tie.close (tie.spec letter-number-requires returns returns-2)

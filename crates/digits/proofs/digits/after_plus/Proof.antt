@@ -6,31 +6,24 @@ use borrow.Author.Needs.{needs}
 use Rattle.digits.proofs.digits.after_plus.Statement.{statement}
 use Rattle.digits.proofs.digits.after_plus.Tie as tie
 
--- src/digits.rt:17:9
 returns : tie.Need-returns
 returns c = plus-none _ (c .if1 .taken)
 
--- src/digits.rt:19:8
 shared-slice-read-if2 : tie.Need-shared-slice-read-if2
 shared-slice-read-if2 c = search needs
 
--- src/digits.rt:20:16
 sub-result : tie.Need-sub-result
 sub-result c = search needs
 
--- src/digits.rt:20:16
 part-result-start : tie.Need-part-result-start
 part-result-start c = search needs
 
--- src/digits.rt:20:16
 part-result-end : tie.Need-part-result-end
 part-result-end c = search needs
 
--- src/digits.rt:20:9
 returns-2 : tie.Need-returns-2
 returns-2 c = plus-here (now (c .before .before .before .before .args .s)) (c .before .before .before .if1 .left) (c .before .if2 .taken)
 
--- src/digits.rt:13:1
 returns-3 : tie.Need-returns-3
 returns-3 c = plus-not _ (c .if2 .left)
 

@@ -15,63 +15,48 @@ Inv-loop s bound t top n₀ i₀ n i = Counted t top i n
 abbrev μ-loop : tie.MeasureT-loop
 μ-loop s bound t top n₀ i₀ n i = length t - i
 
--- src/digits.rt:45:9
 after-plus-requires : tie.Need-after-plus-requires Inv-loop μ-loop
 after-plus-requires c κs = tt
 
--- src/digits.rt:47:9
 returns : tie.Need-returns Inv-loop μ-loop
 returns c = number-empty _ _ _ (c .before .after-plus .ensures) (c .if1 .taken)
 
--- src/digits.rt:49:15
 add-top : tie.Need-add-top Inv-loop μ-loop
 add-top c = omega arith
 
--- src/digits.rt:52:5
 loop-holds : tie.Need-loop-holds Inv-loop μ-loop
 loop-holds c = record { within = omega arith; digits = refl; value = refl; least = omega arith }
 
--- src/digits.rt:53:22
 shared-slice-read-is-digit : tie.Need-shared-slice-read-is-digit Inv-loop μ-loop
 shared-slice-read-is-digit c = omega arith
 
--- src/digits.rt:53:13
 is-digit-requires : tie.Need-is-digit-requires Inv-loop μ-loop
 is-digit-requires c κs = tt
 
--- src/digits.rt:54:13
 returns-2 : tie.Need-returns-2 Inv-loop μ-loop
 returns-2 c = number-bad _ _ _ (c .before .before .before .before .before .before .after-plus .ensures) _ _ _ (c .before .before .before .before .loop .inv) (c .before .before .before .loop-test .taken) (sym (c .before .is-digit .ensures) ∙ not-true _ (c .if2 .taken))
 
--- src/digits.rt:56:28
-shared-slice-read-next-number : tie.Need-shared-slice-read-next-number Inv-loop μ-loop
-shared-slice-read-next-number c = omega arith
+shared-slice-read-with-digit : tie.Need-shared-slice-read-with-digit Inv-loop μ-loop
+shared-slice-read-with-digit c = omega arith
 
--- src/digits.rt:56:9
-next-number-requires : tie.Need-next-number-requires Inv-loop μ-loop
-next-number-requires c κs = (omega (arith, c .before .before .before .before .before .loop .inv .least), digit-least _ (sym (c .before .before .is-digit .ensures) ∙ not-false _ (c .before .if2 .left)))
+with-digit-requires : tie.Need-with-digit-requires Inv-loop μ-loop
+with-digit-requires c κs = (omega (arith, c .before .before .before .before .before .loop .inv .least), digit-least _ (sym (c .before .before .is-digit .ensures) ∙ not-false _ (c .before .if2 .left)))
 
--- src/digits.rt:57:9
 add-i : tie.Need-add-i Inv-loop μ-loop
 add-i c = omega arith
 
--- src/digits.rt:52:5
 loop-less : tie.Need-loop-less Inv-loop μ-loop
 loop-less c = omega arith
 
--- src/digits.rt:52:5
 loop-again : tie.Need-loop-again Inv-loop μ-loop
-loop-again c = count-turn _ _ _ _ (c .before .before .before .before .before .before .loop .inv) (c .before .before .before .before .before .loop-test .taken) (sym (c .before .before .before .is-digit .ensures) ∙ not-false _ (c .before .before .if2 .left)) _ (c .next-number .ensures)
+loop-again c = count-turn _ _ _ _ (c .before .before .before .before .before .before .loop .inv) (c .before .before .before .before .before .loop-test .taken) (sym (c .before .before .before .is-digit .ensures) ∙ not-false _ (c .before .before .if2 .left)) _ (c .with-digit .ensures)
 
--- src/digits.rt:60:36
 cast-t16 : tie.Need-cast-t16 Inv-loop μ-loop
 cast-t16 c = omega arith
 
--- src/digits.rt:60:9
 returns-3 : tie.Need-returns-3 Inv-loop μ-loop
 returns-3 c = number-is _ _ _ (c .before .before .before .before .after-plus .ensures) (c .before .before .before .if1 .left) _ _ _ refl (c .before .before .loop .inv) (c .before .loop-test .left) (c .if3 .taken)
 
--- src/digits.rt:42:1
 returns-4 : tie.Need-returns-4 Inv-loop μ-loop
 returns-4 c = number-over _ _ _ (c .before .before .before .before .after-plus .ensures) (c .before .before .before .if1 .left) _ _ _ refl (c .before .before .loop .inv) (c .before .loop-test .left) (c .if3 .left)
 
@@ -88,8 +73,8 @@ read-number-spec =
     shared-slice-read-is-digit
     is-digit-requires
     returns-2
-    shared-slice-read-next-number
-    next-number-requires
+    shared-slice-read-with-digit
+    with-digit-requires
     add-i
     loop-less
     loop-again

@@ -18,8 +18,8 @@ loop-holds c = search needs
 sub-loop : tie.Need-sub-loop Inv-loop μ-loop
 sub-loop c = search needs
 
-row-at-requires : tie.Need-row-at-requires Inv-loop μ-loop
-row-at-requires c κs = search needs
+document-row-at-requires : tie.Need-document-row-at-requires Inv-loop μ-loop
+document-row-at-requires c κs = search needs
 
 row-size-requires : tie.Need-row-size-requires Inv-loop μ-loop
 row-size-requires c κs = search needs
@@ -47,7 +47,7 @@ rows-pass-spec =
     μ-loop
     loop-holds
     sub-loop
-    row-at-requires
+    document-row-at-requires
     row-size-requires
     returns
     add-i

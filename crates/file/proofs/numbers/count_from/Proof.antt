@@ -1,8 +1,8 @@
 -- `file::count_from` meets its contract: a turn passes a section.
 -- Assumes nothing.
-use Rattle.sections.proofs.SectionLaws.{seen}
+use Rattle.file_sections.proofs.SectionLaws.{seen}
 use Rattle.file.proofs.NumberLaws.{Way, way-begin, way-on, way-end}
-use Rattle.sections.specs.Sections.{standingOf}
+use Rattle.file_sections.specs.Sections.{standingOf}
 use lib.ListN.{length}
 use borrow.Author.Needs.{needs}
 use native.Mathlib.Omega.{arith}

@@ -1,6 +1,7 @@
 -- `file::file_board` meets its contract.
 -- Assumes nothing.
-use Rattle.file.proofs.NumberLaws.{ready, given, stop-is, stop-within, board-refused, board-found, board-missing}
+use Rattle.file.proofs.NumberLaws.{ready, given, board-refused, board-found, board-missing}
+use Rattle.file_sections.proofs.SectionLaws.{inside-long, inside-within}
 use native.Mathlib.Omega.{arith}
 use borrow.Author.Needs.{needs}
 use Rattle.file.proofs.numbers.file_board.Statement.{statement}
@@ -28,10 +29,10 @@ enum-known-p : tie.Need-enum-known-p
 enum-known-p c = search needs
 
 slice-aggregate-board-at : tie.Need-slice-aggregate-board-at
-slice-aggregate-board-at c = stop-is _ _ ((given _ _ _ _ (c .before .before .before .before .find-board .ensures) (c .before .before .p .given .1)) .holds)
+slice-aggregate-board-at c = inside-long _ _ ((given _ _ _ _ (c .before .before .before .before .find-board .ensures) (c .before .before .p .given .1)) .inside)
 
 board-at-requires : tie.Need-board-at-requires
-board-at-requires c κs = let h = stop-within _ _ ((given _ _ _ _ (c .before .before .before .before .before .before .find-board .ensures) (c .before .before .before .before .p .given .1)) .holds) in (omega (arith, h .0), h .1)
+board-at-requires c κs = let h = inside-within _ _ ((given _ _ _ _ (c .before .before .before .before .before .before .find-board .ensures) (c .before .before .before .before .p .given .1)) .inside) in (omega (arith, h .0), h .1)
 
 enum-known-n : tie.Need-enum-known-n
 enum-known-n c = search needs

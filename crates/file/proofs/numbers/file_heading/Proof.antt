@@ -1,6 +1,7 @@
 -- `file::file_heading` meets its contract.
 -- Assumes nothing.
-use Rattle.file.proofs.NumberLaws.{ready, given, stop-is, stop-within, heading-refused, heading-found, heading-missing}
+use Rattle.file.proofs.NumberLaws.{ready, given, heading-refused, heading-found, heading-missing}
+use Rattle.file_sections.proofs.SectionLaws.{inside-long, inside-within}
 use native.Mathlib.Omega.{arith}
 use borrow.Author.Needs.{needs}
 use Rattle.file.proofs.numbers.file_heading.Statement.{statement}
@@ -28,10 +29,10 @@ enum-known-p : tie.Need-enum-known-p
 enum-known-p c = search needs
 
 slice-aggregate-heading-at : tie.Need-slice-aggregate-heading-at
-slice-aggregate-heading-at c = stop-is _ _ ((given _ _ _ _ (c .before .before .before .before .find-board .ensures) (c .before .before .p .given .1)) .holds)
+slice-aggregate-heading-at c = inside-long _ _ ((given _ _ _ _ (c .before .before .before .before .find-board .ensures) (c .before .before .p .given .1)) .inside)
 
 heading-at-requires : tie.Need-heading-at-requires
-heading-at-requires c κs = let h = stop-within _ _ ((given _ _ _ _ (c .before .before .before .before .find-board .ensures) (c .before .before .p .given .1)) .holds) in (omega (arith, h .0), h .1)
+heading-at-requires c κs = let h = inside-within _ _ ((given _ _ _ _ (c .before .before .before .before .find-board .ensures) (c .before .before .p .given .1)) .inside) in (omega (arith, h .0), h .1)
 
 enum-known-n : tie.Need-enum-known-n
 enum-known-n c = search needs

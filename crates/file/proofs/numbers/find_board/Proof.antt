@@ -1,8 +1,8 @@
 -- `file::find_board` meets its contract: a turn passes a section that is not the one looked for.
 -- Assumes nothing.
-use Rattle.sections.proofs.SectionLaws.{seen}
+use Rattle.file_sections.proofs.SectionLaws.{seen}
 use Rattle.file.proofs.NumberLaws.{Seeks, seeks-begin, seeks-on, seeks-found, seeks-missing}
-use Rattle.sections.specs.Sections.{standingOf}
+use Rattle.file_sections.specs.Sections.{standingOf}
 use lib.ListN.{length}
 use borrow.Author.Needs.{needs}
 use native.Mathlib.Omega.{arith}

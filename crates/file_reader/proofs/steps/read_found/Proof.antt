@@ -1,7 +1,8 @@
 -- `file_reader::read_found` meets its contract: 2 over the bytes looked at, then 3, then the board.
 -- Assumes nothing.
 use denote.Ref.{now}
-use Rattle.file_reader.proofs.StepLaws.{found-ill, inside-long, inside-within, found-few, found-read}
+use Rattle.file_reader.proofs.StepLaws.{found-ill, found-few, found-read}
+use Rattle.file_sections.proofs.SectionLaws.{inside-long, inside-within}
 use borrow.Author.Needs.{needs}
 use Rattle.file_reader.proofs.steps.read_found.Statement.{statement}
 use Rattle.file_reader.proofs.steps.read_found.Tie as tie
@@ -22,10 +23,10 @@ enum-told : tie.Need-enum-told
 enum-told c = search needs
 
 slice-aggregate-board-at : tie.Need-slice-aggregate-board-at
-slice-aggregate-board-at c = inside-long _ _ _ (c .before .before .before .before .before .before .before .pre)
+slice-aggregate-board-at c = inside-long _ _ (c .before .before .before .before .before .before .before .pre .1)
 
 board-at-requires : tie.Need-board-at-requires
-board-at-requires c κs = inside-within _ _ _ (c .before .before .before .before .before .before .before .before .before .pre)
+board-at-requires c κs = inside-within _ _ (c .before .before .before .before .before .before .before .before .before .pre .1)
 
 enum-known-verdict : tie.Need-enum-known-verdict
 enum-known-verdict c = search needs

@@ -1,7 +1,7 @@
 -- `lin_host::lin_parse_lin` meets its contract: the numbers of the entry's answer, with the same rows and cards.
 -- Assumes nothing.
 use mathlib.Core.Path.{ap}
-use Rattle.host_numbers.specs.Boards.{readingNumbers}
+use Rattle.lin_host_numbers.specs.Boards.{readingNumbers}
 use borrow.Author.Needs.{needs}
 use Rattle.lin_host.proofs.boards.lin_parse_lin.Statement.{statement}
 use Rattle.lin_host.proofs.boards.lin_parse_lin.Tie as tie

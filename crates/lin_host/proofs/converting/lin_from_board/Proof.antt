@@ -8,8 +8,8 @@ use borrow.Author.Needs.{needs}
 use Rattle.lin_host.proofs.converting.lin_from_board.Statement.{statement}
 use Rattle.lin_host.proofs.converting.lin_from_board.Tie as tie
 
-bad-record-requires : tie.Need-bad-record-requires
-bad-record-requires c κs = search needs
+bad-record-codes-requires : tie.Need-bad-record-codes-requires
+bad-record-codes-requires c κs = search needs
 
 record-of-requires : tie.Need-record-of-requires
 record-of-requires c κs = search needs
@@ -33,13 +33,13 @@ returns : tie.Need-returns
 returns c =
     rw (c .heading-numbers .ensures)
     (ap conversionNumbers (c .before .before .before .before .before .before .before .before .from-board-with .ensures)
-    ∙ converting (now (c .before .before .before .before .before .before .before .before .before .before .before .before .before .before .before .before .before .before .before .before .args .text)) (c .before .before .before .before .before .before .before .before .before .before .before .before .before .before .before .before .before .before .before .before .args .board) (now (c .before .before .before .before .before .before .before .before .before .before .before .before .before .before .before .before .before .before .before .before .args .calls)) (now (c .before .before .before .before .before .before .before .before .before .before .before .before .before .before .before .before .before .before .before .before .args .plays)) (now (c .before .before .before .before .before .before .before .before .before .before .before .before .before .before .before .before .before .before .before .before .args .notes)) (now (c .before .before .before .before .before .before .before .before .before .before .before .before .before .before .before .before .before .before .before .before .args .out)) (now (c .before .before .before .before .before .before .before .before .before .before .before .before .before .before .before .before .before .before .before .before .args .rows)) (now (c .before .before .before .before .before .before .before .before .before .before .before .before .before .before .before .before .before .before .before .before .args .cards)) (c .before .before .before .before .before .before .before .before .before .before .before .before .before .bad-record .ensures) (c .before .before .before .before .before .before .before .before .before .before .before .before .record-of .ensures))
+    ∙ converting (now (c .before .before .before .before .before .before .before .before .before .before .before .before .before .before .before .before .before .before .before .before .args .text)) (c .before .before .before .before .before .before .before .before .before .before .before .before .before .before .before .before .before .before .before .before .args .board) (now (c .before .before .before .before .before .before .before .before .before .before .before .before .before .before .before .before .before .before .before .before .args .calls)) (now (c .before .before .before .before .before .before .before .before .before .before .before .before .before .before .before .before .before .before .before .before .args .plays)) (now (c .before .before .before .before .before .before .before .before .before .before .before .before .before .before .before .before .before .before .before .before .args .notes)) (now (c .before .before .before .before .before .before .before .before .before .before .before .before .before .before .before .before .before .before .before .before .args .out)) (now (c .before .before .before .before .before .before .before .before .before .before .before .before .before .before .before .before .before .before .before .before .args .rows)) (now (c .before .before .before .before .before .before .before .before .before .before .before .before .before .before .before .before .before .before .before .before .args .cards)) (c .before .before .before .before .before .before .before .before .before .before .before .before .before .bad-record-codes .ensures) (c .before .before .before .before .before .before .before .before .before .before .before .before .record-of .ensures))
 
 pub lin-from-board-spec : {M : Type 1} → statement M
 lin-from-board-spec =
     tie.close
     (tie.spec
-    bad-record-requires
+    bad-record-codes-requires
     record-of-requires
     from-board-with-requires
     heading-numbers-requires

@@ -21,11 +21,11 @@ bad-codes-requires c κs = search needs
 bad-codes-requires-2 : tie.Need-bad-codes-requires-2
 bad-codes-requires-2 c κs = search needs
 
-head-of-requires : tie.Need-head-of-requires
-head-of-requires c κs = search needs
+coded-head-requires : tie.Need-coded-head-requires
+coded-head-requires c κs = search needs
 
-head-of-requires-2 : tie.Need-head-of-requires-2
-head-of-requires-2 c κs = search needs
+coded-head-requires-2 : tie.Need-coded-head-requires-2
+coded-head-requires-2 c κs = search needs
 
 same-heads-requires : tie.Need-same-heads-requires
 same-heads-requires c κs = (counts-long (c .before .before .before .before .before .before .before .before .before .before .before .before .before .before), counts-long-2 (c .before .before .before .before .before .before .before .before .before .before .before .before .before .before))
@@ -36,7 +36,7 @@ compared-requires c κs = search needs
 returns : tie.Need-returns
 returns c =
     c .compared .ensures
-    ∙ (ap equalityNumbers (c .before .same-heads .ensures) ∙ comparing (now (c .before .before .before .before .before .before .before .before .before .before .before .before .before .before .before .before .args .text)) (c .before .before .before .before .before .before .before .before .before .before .before .before .before .before .before .before .args .t2) (now (c .before .before .before .before .before .before .before .before .before .before .before .before .before .before .before .before .args .rows)) (now (c .before .before .before .before .before .before .before .before .before .before .before .before .before .before .before .before .args .cards)) (now (c .before .before .before .before .before .before .before .before .before .before .before .before .before .before .before .before .args .text2)) (c .before .before .before .before .before .before .before .before .before .before .before .before .before .before .before .before .args .t6) (now (c .before .before .before .before .before .before .before .before .before .before .before .before .before .before .before .before .args .rows2)) (now (c .before .before .before .before .before .before .before .before .before .before .before .before .before .before .before .before .args .cards2)) (c .before .before .before .before .before .before .before .before .before .bad-codes .ensures) (c .before .before .before .before .before .before .before .before .bad-codes2 .ensures) (c .before .before .before .before .before .before .before .head-of .ensures) (c .before .before .before .before .before .before .head-of2 .ensures))
+    ∙ (ap equalityNumbers (c .before .same-heads .ensures) ∙ comparing (now (c .before .before .before .before .before .before .before .before .before .before .before .before .before .before .before .before .args .text)) (c .before .before .before .before .before .before .before .before .before .before .before .before .before .before .before .before .args .t2) (now (c .before .before .before .before .before .before .before .before .before .before .before .before .before .before .before .before .args .rows)) (now (c .before .before .before .before .before .before .before .before .before .before .before .before .before .before .before .before .args .cards)) (now (c .before .before .before .before .before .before .before .before .before .before .before .before .before .before .before .before .args .text2)) (c .before .before .before .before .before .before .before .before .before .before .before .before .before .before .before .before .args .t6) (now (c .before .before .before .before .before .before .before .before .before .before .before .before .before .before .before .before .args .rows2)) (now (c .before .before .before .before .before .before .before .before .before .before .before .before .before .before .before .before .args .cards2)) (c .before .before .before .before .before .before .before .before .before .bad-codes .ensures) (c .before .before .before .before .before .before .before .before .bad-codes2 .ensures) (c .before .before .before .before .before .before .before .coded-head .ensures) (c .before .before .before .before .before .before .coded-head2 .ensures))
 
 pub lin-same-board-spec : {M : Type 1} → statement M
 lin-same-board-spec =
@@ -44,8 +44,8 @@ lin-same-board-spec =
     (tie.spec
     bad-codes-requires
     bad-codes-requires-2
-    head-of-requires
-    head-of-requires-2
+    coded-head-requires
+    coded-head-requires-2
     same-heads-requires
     compared-requires
     returns)

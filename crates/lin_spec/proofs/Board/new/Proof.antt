@@ -4,11 +4,9 @@ use borrow.Author.Needs.{needs}
 use Rattle.lin_spec.proofs.Board.new.Statement.{statement}
 use Rattle.lin_spec.proofs.Board.new.Tie as tie
 
--- src/lib.rt:164:13
 new-requires : tie.Need-new-requires
 new-requires c κs = search needs
 
--- src/lib.rt:160:5
 returns : tie.Need-returns
 returns c = rw (c .new .ensures)
 

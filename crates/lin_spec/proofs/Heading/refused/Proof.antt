@@ -4,11 +4,9 @@ use borrow.Author.Needs.{needs}
 use Rattle.lin_spec.proofs.Heading.refused.Statement.{statement}
 use Rattle.lin_spec.proofs.Heading.refused.Tie as tie
 
--- src/lib.rt:198:13
 new-requires : tie.Need-new-requires
 new-requires c κs = search needs
 
--- src/lib.rt:194:5
 returns : tie.Need-returns
 returns c = simp (c .new .ensures)
 

@@ -1,9 +1,9 @@
 -- `listing::lines_len` meets its contract: a turn measures the line of one section.
 -- Assumes nothing.
-use Rattle.sections.proofs.SectionLaws.{seen}
+use Rattle.file_sections.proofs.SectionLaws.{seen}
 use Rattle.listing.proofs.FileLaws.{Measured, measured-begin, measured-on, measured-end}
-use Rattle.file.proofs.NumberLaws.{found-holds}
-use Rattle.sections.specs.Sections.{standingOf}
+use Rattle.file.proofs.NumberLaws.{found-inside}
+use Rattle.file_sections.specs.Sections.{standingOf}
 use lib.ListN.{length}
 use borrow.Author.Needs.{needs}
 use native.Mathlib.Omega.{arith}
@@ -27,7 +27,7 @@ enum-known-number : tie.Need-enum-known-number Inv-loop μ-loop
 enum-known-number c = search needs
 
 section-len-requires : tie.Need-section-len-requires Inv-loop μ-loop
-section-len-requires c κs = found-holds _ _ (c .before .before .before .before .loop .inv .way) _ _ _ (seen _ _ _ _ (c .before .before .before .next .ensures) (c .before .number .given .1))
+section-len-requires c κs = found-inside _ _ (c .before .before .before .before .loop .inv .way) _ _ _ (seen _ _ _ _ (c .before .before .before .next .ensures) (c .before .number .given .1))
 
 sat-add-requires : tie.Need-sat-add-requires Inv-loop μ-loop
 sat-add-requires c κs = search needs

@@ -1,9 +1,9 @@
 -- `listing::put_lines` meets its contract: a turn puts the line of one section.
 -- Assumes nothing.
-use Rattle.sections.proofs.SectionLaws.{seen}
+use Rattle.file_sections.proofs.SectionLaws.{seen}
 use Rattle.listing.proofs.FileLaws.{Listed, listed-begin, listed-room, listed-on, listed-end}
-use Rattle.file.proofs.NumberLaws.{found-holds}
-use Rattle.sections.specs.Sections.{standingOf}
+use Rattle.file.proofs.NumberLaws.{found-inside}
+use Rattle.file_sections.specs.Sections.{standingOf}
 use lib.ListN.{length}
 use borrow.Author.Needs.{needs}
 use native.Mathlib.Omega.{arith}
@@ -27,7 +27,7 @@ enum-known-number : tie.Need-enum-known-number Inv-loop μ-loop
 enum-known-number c = search needs
 
 put-section-requires : tie.Need-put-section-requires Inv-loop μ-loop
-put-section-requires c κs = let f = seen _ _ _ _ (c .before .before .before .before .next .ensures) (c .before .before .number .given .1) in (listed-room _ _ _ _ _ _ (c .before .before .before .before .before .loop .inv) _ _ _ f, found-holds _ _ (c .before .before .before .before .before .loop .inv .way) _ _ _ f)
+put-section-requires c κs = let f = seen _ _ _ _ (c .before .before .before .before .next .ensures) (c .before .before .number .given .1) in (listed-room _ _ _ _ _ _ (c .before .before .before .before .before .loop .inv) _ _ _ f, found-inside _ _ (c .before .before .before .before .before .loop .inv .way) _ _ _ f)
 
 loop-less : tie.Need-loop-less Inv-loop μ-loop
 loop-less c = let f = seen _ _ _ _ (c .before .before .before .before .before .before .before .next .ensures) (c .before .before .before .before .before .number .given .1) in omega (arith, f .later, f .within)

@@ -1,7 +1,7 @@
 -- `listing_lines::board_line_len` meets its contract: the words, the spaces and LF.
 -- Assumes nothing.
-use Rattle.listing_words.proofs.LineLaws.{board-long}
-use Rattle.listing_words.specs.Pieces.{fieldText, lengthsText}
+use Rattle.listing_lines.proofs.LineLaws.{board-long}
+use Rattle.listing_lines.specs.Pieces.{fieldText, lengthsText}
 use Rattle.output.proofs.Laws.{sat-sum}
 use Rattle.lin_spec.specs.Listing.{claimWord}
 use Rattle.lin_spec.specs.Refusals.{sat}

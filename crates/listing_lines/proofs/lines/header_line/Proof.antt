@@ -1,6 +1,6 @@
 -- `listing_lines::header_line` meets its contract: its answer by the test that led there.
 -- Assumes nothing.
-use Rattle.listing_words.proofs.LineLaws.{header-long}
+use Rattle.listing_lines.proofs.LineLaws.{header-long}
 use Rattle.listing_lines.proofs.Answers.{line-small, line-fits, line-done}
 use borrow.Author.Needs.{needs}
 use Rattle.listing_lines.proofs.lines.header_line.Statement.{statement}

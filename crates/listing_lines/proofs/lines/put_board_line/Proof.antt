@@ -7,14 +7,14 @@ use denote.Ref.{now}
 use Rattle.output.specs.Put.{joined}
 use Rattle.output.proofs.Laws.{Left, start, roomy, step, finish}
 use Rattle.lin_spec.specs.Listing.{boardLine}
-use Rattle.listing_words.specs.Pieces.{boardPieces}
-use Rattle.listing_words.proofs.LineLaws.{board-is}
+use Rattle.listing_lines.specs.Pieces.{linePieces}
+use Rattle.listing_lines.proofs.LineLaws.{board-is}
 use Rattle.listing_lines.proofs.lines.put_board_line.Statement.{statement}
 use Rattle.listing_lines.proofs.lines.put_board_line.Tie as tie
 
 -- what is left to write after k of the puts
 abbrev After : ℕ → tie.Start → List ℕ → ℕ → Type 0
-After k s d pos = Left d pos (joined (drop k (boardPieces (s .args .number) (s .args .heading)))) (now (s .args .out)) (s .args .at) (boardLine (s .args .number) (s .args .heading))
+After k s d pos = Left d pos (joined (drop k (linePieces (s .args .number) (s .args .heading)))) (now (s .args .out)) (s .args .at) (boardLine (s .args .number) (s .args .heading))
 
 after-0 : (s : tie.Start) → After 0 s (now (s .args .out)) (s .args .at)
 after-0 s = rw (← board-is (s .args .number) (s .args .heading)) (start (s .pre))

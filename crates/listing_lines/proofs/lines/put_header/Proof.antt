@@ -1,6 +1,6 @@
 -- `listing_lines::put_header` meets its contract: one put.
 -- Assumes nothing.
-use Rattle.listing_words.proofs.LineLaws.{header-is}
+use Rattle.listing_lines.proofs.LineLaws.{header-is}
 use borrow.Author.Needs.{needs}
 use Rattle.listing_lines.proofs.lines.put_header.Statement.{statement}
 use Rattle.listing_lines.proofs.lines.put_header.Tie as tie

@@ -8,8 +8,8 @@ use borrow.Author.Needs.{needs}
 use Rattle.output.specs.Put.{joined}
 use Rattle.output.proofs.Laws.{Left, start, roomy, step, finish}
 use Rattle.lin_spec.specs.Listing.{refusalLine}
-use Rattle.listing_words.specs.Pieces.{refusalPieces}
-use Rattle.listing_words.proofs.LineLaws.{refusal-is}
+use Rattle.listing_lines.specs.Pieces.{refusalPieces}
+use Rattle.listing_lines.proofs.LineLaws.{refusal-is}
 use Rattle.listing_lines.proofs.lines.put_refusal_line.Statement.{statement}
 use Rattle.listing_lines.proofs.lines.put_refusal_line.Tie as tie
 

@@ -1,6 +1,6 @@
 -- `listing_lines::refusal_line_len` meets its contract: eight bytes, the digits and LF.
 -- Assumes nothing.
-use Rattle.listing_words.proofs.LineLaws.{refusal-long}
+use Rattle.listing_lines.proofs.LineLaws.{refusal-long}
 use Rattle.lin_spec.specs.Decimal.{decimal}
 use Prim.Native.Nat.{ℕ}
 use lib.ListN.{length}

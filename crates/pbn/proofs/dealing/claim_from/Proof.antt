@@ -13,15 +13,15 @@ enum-told c = search needs
 enum-known-result : tie.Need-enum-known-result
 enum-known-result c = search needs
 
-claim-of-requires : tie.Need-claim-of-requires
-claim-of-requires c κs = search needs
+result-claim-requires : tie.Need-result-claim-requires
+result-claim-requires c κs = search needs
 
 returns : tie.Need-returns
 returns c = search needs
 
 returns-2 : tie.Need-returns-2
-returns-2 c = claim-known {x = toZ w32 (ofZ w32 (c .before .before .result .given .0 .0))} {y = c .before .before .result .given .0 .0} (c .claim-of .ensures) (c .before .before .result .given .1) (search needs)
+returns-2 c = claim-known {x = toZ w32 (ofZ w32 (c .before .before .result .given .0 .0))} {y = c .before .before .result .given .0 .0} (c .result-claim .ensures) (c .before .before .result .given .1) (search needs)
 
 pub claim-from-spec : {M : Type 1} → statement M
 claim-from-spec =
-    tie.close (tie.spec enum-told enum-known-result claim-of-requires returns returns-2)
+    tie.close (tie.spec enum-told enum-known-result result-claim-requires returns returns-2)

@@ -6,7 +6,7 @@ use mathlib.Core.Path.{_≡_, refl}
 use lib.ListN.{length, drop}
 use Rattle.lin_spec.specs.Base.{any}
 use Rattle.lin_spec.specs.Pbn.{pbnRow, pbnRows, badCall}
-use Rattle.lent.proofs.LentLaws.{none-row, found-row, next-row}
+use Rattle.board_lent.proofs.LentLaws.{none-row, found-row, next-row}
 use Rattle.pbn_checks.proofs.checks.bad_calls.Statement.{statement}
 use Rattle.pbn_checks.proofs.checks.bad_calls.Tie as tie
 
@@ -22,14 +22,14 @@ loop-holds c = (omega arith, refl)
 sub-loop : tie.Need-sub-loop Inv-loop μ-loop
 sub-loop c = omega arith
 
-call-at-requires : tie.Need-call-at-requires Inv-loop μ-loop
-call-at-requires c κs = omega arith
+pbn-call-at-requires : tie.Need-pbn-call-at-requires Inv-loop μ-loop
+pbn-call-at-requires c κs = omega arith
 
 bad-call-requires : tie.Need-bad-call-requires Inv-loop μ-loop
 bad-call-requires c κs = tt
 
 returns : tie.Need-returns Inv-loop μ-loop
-returns c = found-row pbnRow badCall _ _ (c .before .before .before .before .loop .inv .1) (c .before .before .before .loop-test .taken) _ (c .before .before .call-at .ensures) _ (c .before .bad-call .ensures) (c .if1 .taken)
+returns c = found-row pbnRow badCall _ _ (c .before .before .before .before .loop .inv .1) (c .before .before .before .loop-test .taken) _ (c .before .before .pbn-call-at .ensures) _ (c .before .bad-call .ensures) (c .if1 .taken)
 
 add-i : tie.Need-add-i Inv-loop μ-loop
 add-i c = omega arith
@@ -38,7 +38,7 @@ loop-less : tie.Need-loop-less Inv-loop μ-loop
 loop-less c = omega arith
 
 loop-again : tie.Need-loop-again Inv-loop μ-loop
-loop-again c = (omega arith, next-row pbnRow badCall _ _ (c .before .before .before .before .loop .inv .1) (c .before .before .before .loop-test .taken) _ (c .before .before .call-at .ensures) _ (c .before .bad-call .ensures) (c .if1 .left))
+loop-again c = (omega arith, next-row pbnRow badCall _ _ (c .before .before .before .before .loop .inv .1) (c .before .before .before .loop-test .taken) _ (c .before .before .pbn-call-at .ensures) _ (c .before .bad-call .ensures) (c .if1 .left))
 
 returns-2 : tie.Need-returns-2 Inv-loop μ-loop
 returns-2 c = none-row pbnRow badCall _ _ (c .before .loop .inv .1) (c .loop-test .left)
@@ -51,7 +51,7 @@ bad-calls-spec =
     μ-loop
     loop-holds
     sub-loop
-    call-at-requires
+    pbn-call-at-requires
     bad-call-requires
     returns
     add-i

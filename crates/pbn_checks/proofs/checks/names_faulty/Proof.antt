@@ -11,14 +11,14 @@ use borrow.Author.Needs.{needs}
 use Rattle.pbn_checks.proofs.checks.names_faulty.Statement.{statement}
 use Rattle.pbn_checks.proofs.checks.names_faulty.Tie as tie
 
-names-of-requires : tie.Need-names-of-requires
-names-of-requires c κs = search needs
+pbn-names-requires : tie.Need-pbn-names-requires
+pbn-names-requires c κs = search needs
 
 one-faulty-requires : tie.Need-one-faulty-requires
 one-faulty-requires c κs = search needs
 
 returns : tie.Need-returns
-returns c = c .one-faulty .ensures ∙ ap (λ (ms : List MaybeSpan). any (faultOf (c .before .before .before .before .args .fault) (now (c .before .before .before .before .args .text))) (nameSpans ms)) (c .before .names-of .ensures)
+returns c = c .one-faulty .ensures ∙ ap (λ (ms : List MaybeSpan). any (faultOf (c .before .before .before .before .args .fault) (now (c .before .before .before .before .args .text))) (nameSpans ms)) (c .before .pbn-names .ensures)
 
 pub names-faulty-spec : {M : Type 1} → statement M
-names-faulty-spec = tie.close (tie.spec names-of-requires one-faulty-requires returns)
+names-faulty-spec = tie.close (tie.spec pbn-names-requires one-faulty-requires returns)

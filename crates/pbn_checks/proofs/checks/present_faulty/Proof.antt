@@ -2,7 +2,7 @@
 -- Assumes nothing.
 use mathlib.Core.Path.{_∙_}
 use borrow.Author.Needs.{needs}
-use Rattle.lent.proofs.LentLaws.{absent-none, present-one}
+use Rattle.board_lent.proofs.LentLaws.{absent-none, present-one}
 use Rattle.pbn_checks.proofs.checks.present_faulty.Statement.{statement}
 use Rattle.pbn_checks.proofs.checks.present_faulty.Tie as tie
 

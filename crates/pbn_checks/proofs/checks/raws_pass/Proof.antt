@@ -18,11 +18,11 @@ loop-holds c = search needs
 sub-loop : tie.Need-sub-loop Inv-loop μ-loop
 sub-loop c = search needs
 
-call-at-requires : tie.Need-call-at-requires Inv-loop μ-loop
-call-at-requires c κs = search needs
+pbn-call-at-requires : tie.Need-pbn-call-at-requires Inv-loop μ-loop
+pbn-call-at-requires c κs = search needs
 
-raw-len-requires : tie.Need-raw-len-requires Inv-loop μ-loop
-raw-len-requires c κs = search needs
+raw-annotation-len-requires : tie.Need-raw-annotation-len-requires Inv-loop μ-loop
+raw-annotation-len-requires c κs = search needs
 
 returns : tie.Need-returns Inv-loop μ-loop
 returns c = tt
@@ -47,8 +47,8 @@ raws-pass-spec =
     μ-loop
     loop-holds
     sub-loop
-    call-at-requires
-    raw-len-requires
+    pbn-call-at-requires
+    raw-annotation-len-requires
     returns
     add-i
     loop-less

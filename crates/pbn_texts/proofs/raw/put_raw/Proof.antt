@@ -12,7 +12,7 @@ use Rattle.pbn_texts.proofs.raw.put_raw.Tie as tie
 
 -- what is left to write after k of the puts
 abbrev After : ℕ → tie.Start → List ℕ → ℕ → Type 0
-After k s d pos = Left d pos (joined (drop k (rawPieces (now (s .args .text)) (s .args .event) (s .args .date) (s .args .l) (now (s .args .notes)) (now (s .args .calls))))) (now (s .args .out)) (s .args .at) (rawText (now (s .args .text)) (s .args .event) (s .args .date) (s .args .l) (now (s .args .notes)) (now (s .args .calls)))
+After k s d pos = Left d pos (joined (drop k (rawPieces (now (s .args .text)) (s .args .sources) (now (s .args .notes)) (now (s .args .calls))))) (now (s .args .out)) (s .args .at) (rawText (now (s .args .text)) (s .args .sources) (now (s .args .notes)) (now (s .args .calls)))
 
 after-0 : (s : tie.Start) → After 0 s (now (s .args .out)) (s .args .at)
 unfolding rawText
@@ -24,8 +24,8 @@ after-1 c = step (after-0 (c .before .before .before .before .before)) (c .put-t
 after-2 : (c : tie.After-put-labelled) → After 2 (c .before .before .before .before .before .before .before .before .before) (c .put-labelled .last .0) (c .put-labelled .result)
 after-2 c = step (after-1 (c .before .before .before .before)) (c .put-labelled .ensures)
 
-after-3 : (c : tie.After-put-calls) → After 3 (c .before .before .before .before .before .before .before .before .before .before .before .before .before) (c .put-calls .last .0) (c .put-calls .result)
-after-3 c = step (after-2 (c .before .before .before .before)) (c .put-calls .ensures)
+after-3 : (c : tie.After-put-pbn-calls) → After 3 (c .before .before .before .before .before .before .before .before .before .before .before .before .before) (c .put-pbn-calls .last .0) (c .put-pbn-calls .result)
+after-3 c = step (after-2 (c .before .before .before .before)) (c .put-pbn-calls .ensures)
 
 put-title-requires : tie.Need-put-title-requires
 put-title-requires c κs = roomy _ _ (after-0 (c .before .before .before .before))
@@ -33,8 +33,8 @@ put-title-requires c κs = roomy _ _ (after-0 (c .before .before .before .before
 put-labelled-requires : tie.Need-put-labelled-requires
 put-labelled-requires c κs = roomy _ _ (after-1 (c .before .before .before))
 
-put-calls-requires : tie.Need-put-calls-requires
-put-calls-requires c κs = (roomy _ _ (after-2 (c .before .before .before)), c .before .before .before .before .before .before .before .before .before .before .before .before .pre .1)
+put-pbn-calls-requires : tie.Need-put-pbn-calls-requires
+put-pbn-calls-requires c κs = (roomy _ _ (after-2 (c .before .before .before)), c .before .before .before .before .before .before .before .before .before .before .before .before .pre .1)
 
 same-length : tie.Need-same-length
 same-length c = (after-3 (c .before .before)) .long
@@ -48,6 +48,6 @@ put-raw-spec =
     (tie.spec
     put-title-requires
     put-labelled-requires
-    put-calls-requires
+    put-pbn-calls-requires
     same-length
     returns)

@@ -19,8 +19,8 @@ after-0 : (s : tie.Start) → After 0 s (now (s .args .out)) (s .args .at)
 unfolding datedText
 after-0 s = start (s .pre)
 
-after-1 : (c : tie.After-put-text) → After 1 (c .before .before .before .before) (c .put-text .last .0) (c .put-text .result)
-after-1 c = step (after-0 (c .before .before .before .before)) (c .put-text .ensures)
+after-1 : (c : tie.After-put-uncleaned) → After 1 (c .before .before .before .before) (c .put-uncleaned .last .0) (c .put-uncleaned .result)
+after-1 c = step (after-0 (c .before .before .before .before)) (c .put-uncleaned .ensures)
 
 after-2 : (c : tie.After-put-bytes) → After 2 (c .before .before .before .before .before .before .before .before .before) (c .put-bytes .last .0) (c .put-bytes .result)
 after-2 c = step (after-1 (c .before .before .before .before .before)) (c .put-bytes .ensures)
@@ -28,8 +28,8 @@ after-2 c = step (after-1 (c .before .before .before .before .before)) (c .put-b
 after-3 : (c : tie.After-put-span) → After 3 (c .before .before .before .before .before .before .before .before .before .before .before .before .before) (c .put-span .last .0) (c .put-span .result)
 after-3 c = step (after-2 (c .before .before .before .before)) (c .put-span .ensures)
 
-put-text-requires : tie.Need-put-text-requires
-put-text-requires c κs = roomy _ _ (after-0 (c .before .before .before))
+put-uncleaned-requires : tie.Need-put-uncleaned-requires
+put-uncleaned-requires c κs = roomy _ _ (after-0 (c .before .before .before))
 
 slice-aggregate-put-bytes : tie.Need-slice-aggregate-put-bytes
 slice-aggregate-put-bytes c = search needs
@@ -50,7 +50,7 @@ pub put-dated-spec : {M : Type 1} → statement M
 put-dated-spec =
     tie.close
     (tie.spec
-    put-text-requires
+    put-uncleaned-requires
     slice-aggregate-put-bytes
     put-bytes-requires
     put-span-requires

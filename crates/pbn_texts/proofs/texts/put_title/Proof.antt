@@ -9,8 +9,8 @@ use Rattle.pbn_texts.proofs.texts.put_title.Tie as tie
 enum-told : tie.Need-enum-told
 enum-told c = search needs
 
-put-text-requires : tie.Need-put-text-requires
-put-text-requires c κs = rw (title-plain (now (c .before .before .before .before .before .args .text)) (c .before .before .before .before .before .args .event) (c .before .before .before .before .before .args .date) (c .before .enum-told .given .1)) at (c .before .before .before .before .before .pre)
+put-uncleaned-requires : tie.Need-put-uncleaned-requires
+put-uncleaned-requires c κs = rw (title-plain (now (c .before .before .before .before .before .args .text)) (c .before .before .before .before .before .args .event) (c .before .before .before .before .before .args .date) (c .before .enum-told .given .1)) at (c .before .before .before .before .before .pre)
 
 enum-known-date : tie.Need-enum-known-date
 enum-known-date c = search needs
@@ -22,7 +22,7 @@ same-length : tie.Need-same-length
 same-length c = search needs
 
 returns : tie.Need-returns
-returns c = rw (title-plain (now (c .before .before .before .before .before .before .before .before .args .text)) (c .before .before .before .before .before .before .before .before .args .event) (c .before .before .before .before .before .before .before .before .args .date) (c .before .before .before .before .enum-told .given .1)) (c .before .before .put-text .ensures)
+returns c = rw (title-plain (now (c .before .before .before .before .before .before .before .before .args .text)) (c .before .before .before .before .before .before .before .before .args .event) (c .before .before .before .before .before .before .before .before .args .date) (c .before .before .before .before .enum-told .given .1)) (c .before .before .put-uncleaned .ensures)
 
 same-length-2 : tie.Need-same-length-2
 same-length-2 c = search needs
@@ -35,7 +35,7 @@ put-title-spec =
     tie.close
     (tie.spec
     enum-told
-    put-text-requires
+    put-uncleaned-requires
     enum-known-date
     put-dated-requires
     same-length

@@ -6,7 +6,7 @@ use mathlib.Core.Bool.{_||_}
 use lib.ListN.{length, drop}
 use Rattle.lin_spec.specs.Base.{any}
 use Rattle.lin_spec.specs.Lent.{callRow, callRows, badFlag}
-use Rattle.lent.proofs.LentLaws.{all-rows, or-row}
+use Rattle.board_lent.proofs.LentLaws.{all-rows, or-row}
 use Rattle.rows.proofs.answers.bad_flags.Statement.{statement}
 use Rattle.rows.proofs.answers.bad_flags.Tie as tie
 

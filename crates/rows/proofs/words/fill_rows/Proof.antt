@@ -51,7 +51,7 @@ use denote.Triple.Table.{entered, cited}
 use denote.Triple.Walked.{says, Stays, stay-slice, stay-none-slice, walkOf, AllGo, goes-slice, goes-none-slice, Walks, ends-at, walked, walk-meets}
 use denote.Exit.{yes}
 use Rattle.lin_spec.specs.Lent.{callIn}
-use Rattle.lent.specs.Calls.{callAt}
+use Rattle.board_lent.specs.Calls.{callAt}
 use Rattle.rows.specs.declared.CallRow.{CallRow}
 use Rattle.rows.specs.declared.Moved.{Moved}
 use Rattle.rows.specs.Rows.{emptyRow, rowIn, laid, movedOf, turnsOf, Moving, rowsIn, fillAnswer, fillOf}
@@ -67,16 +67,16 @@ use Rattle.rows.proofs.answers.fill_answer.Met as answer-thm
 use Rattle.rows.proofs.answers.turns_of as turns-of
 use Rattle.rows.proofs.answers.turns_of.Symbol as turns-of-def
 use Rattle.rows.proofs.answers.turns_of.Met as turns-of-thm
-use Rattle.rows.proofs.words.row_at as row-at
-use Rattle.rows.proofs.words.row_at.Symbol as row-at-def
-use Rattle.rows.proofs.words.row_at.Met as row-at-thm
+use Rattle.rows.proofs.words.call_row_at as call-row-at
+use Rattle.rows.proofs.words.call_row_at.Symbol as row-at-def
+use Rattle.rows.proofs.words.call_row_at.Met as row-at-thm
 use Rattle.rows.proofs.words.fill_rows as f
 use Rattle.rows.proofs.words.fill_rows.Statement as stated
 use Rattle.rows.proofs.words.fill_rows.Code as code
 use Rattle.rows.proofs.words.fill_rows.Code.Mir as mir
 use Rattle.rows.proofs.answers.fill_answer.Symbol.{name as #rows·answer}
 use Rattle.rows.proofs.answers.turns_of.Symbol.{name as #rows·turns-of}
-use Rattle.rows.proofs.words.row_at.Symbol.{name as #rows·row-at}
+use Rattle.rows.proofs.words.call_row_at.Symbol.{name as #rows·call-row-at}
 use Rattle.rows.proofs.words.fill_rows.Key.{name as #rows·fill-rows}
 
 abbrev Arg : Type 0
@@ -104,7 +104,7 @@ module _ {M : Type 1} (𝓤 : URA M) (H : Heap 𝓤) (A : Atoms 𝓤) (at-mem : 
   TurnsOf = tripleOf 𝓤 H A turns-of.signature (turns-of.spec 𝓤 H A at-mem run)
 
   abbrev RowAt : Contract 𝓤
-  RowAt = tripleOf 𝓤 H A row-at.signature (row-at.spec 𝓤 H A at-mem run)
+  RowAt = tripleOf 𝓤 H A call-row-at.signature (call-row-at.spec 𝓤 H A at-mem run)
 
 module _ {M : Type 1} (𝓤 : URA M) (H : Heap 𝓤) (A : Atoms 𝓤) (W : Given 𝓤 H A) (at-mem : Memory → SProp 𝓤) (run : Routine → Fun 𝓤) (κ κ′ : Lft) (q q′ : Share) (b o : ℕ) (γ : GName) (ys : List CallRow) (w : RefT (List ℕ)) where
   abbrev κs : Lfts 2
@@ -162,8 +162,8 @@ module _ {M : Type 1} (𝓤 : URA M) (H : Heap 𝓤) (A : Atoms 𝓤) (W : Given
       qed W (‵ (flft κ′ q′) ∷ ‵ Words ∷ []) ∵ says ! in-words $ nothing ! $ move ! (1 ∷ 0 ∷ []) $ join ! $ frame ! $
       nothing ! $ owned ! usize (Is usize) (uint-makes 𝓤 H A W w64) at _ (refl, fits) $ fjoin ! $ move ! (1 ∷ 0 ∷ []) $ fjoin ! $ done !
 
-  said : (at : ℕ) (r : CallRow) → ent 𝓤 (ensured 𝓤 H A row-at.ended (row-at.clauses 𝓤 H A at-mem run) (κ′, tt) (w, (at, tt)) tt r) (fact 𝓤 (r ≡ rowIn (callIn (callAt (w .now) at))))
-  said at r = exE 𝓤 _ (λ ws. snd∗ 𝓤 (sem 𝓤 H A (lasts row-at.ended (κ′, tt) (w, (at, tt)) ws)) (fact 𝓤 (r ≡ rowIn (callIn (callAt (w .now) at)))))
+  said : (at : ℕ) (r : CallRow) → ent 𝓤 (ensured 𝓤 H A call-row-at.ended (call-row-at.clauses 𝓤 H A at-mem run) (κ′, tt) (w, (at, tt)) tt r) (fact 𝓤 (r ≡ rowIn (callIn (callAt (w .now) at))))
+  said at r = exE 𝓤 _ (λ ws. snd∗ 𝓤 (sem 𝓤 H A (lasts call-row-at.ended (κ′, tt) (w, (at, tt)) ws)) (fact 𝓤 (r ≡ rowIn (callIn (callAt (w .now) at)))))
 
   abbrev Ends : Moved → List CallRow → Type 0
   Ends m zs = _≡_ {A = Moving CallRow} (record { answer = movedOf m; after = zs }) (fillOf (w .now) ys)
@@ -178,7 +178,7 @@ module _ {M : Type 1} (𝓤 : URA M) (H : Heap 𝓤) (A : Atoms 𝓤) (W : Given
       fjoin ! $ pureI ! (at-slice T.the-row (x zs) (s ∷ [])) (tt, (tt, tt)) (ap (λ (l : ℕ). sliceVal (b, o) l ∷ []) (sym len), subst (Room T.the-row) (sym len) room) $ fjoin ! $
       nothing ! $ move ! (2 ∷ 0 ∷ []) $ fjoin ! $ move ! (1 ∷ 0 ∷ []) $ fjoin ! $ frame ! $ owned ! N.the-row (Is N.the-row) (EL.makes N.the-type N′.the-plain 𝓤 H A) m _ is $ done !
 
-  module _ (𝓣 : Tables 𝓤 H) (known : Triple 𝓤 (𝓣 .C #rows·row-at) (RowAt 𝓤 H A at-mem run)) (room : Room T.the-row (length ys)) (m : Moved) (um : Val) (ism : Is N.the-row m (um ∷ [])) (answers : movedOf m ≡ fillAnswer (length ys) (w .now)) (n : ℕ) (gn : n < 2 ^ 64) (many : n ≡ turnsOf (movedOf m)) (l₀ l₁ l₂ l₃ l₄ l₅ l₆ l₇ l₈ l₉ l₁₀ l₁₁ : ℕ) where
+  module _ (𝓣 : Tables 𝓤 H) (known : Triple 𝓤 (𝓣 .C #rows·call-row-at) (RowAt 𝓤 H A at-mem run)) (room : Room T.the-row (length ys)) (m : Moved) (um : Val) (ism : Is N.the-row m (um ∷ [])) (answers : movedOf m ≡ fillAnswer (length ys) (w .now)) (n : ℕ) (gn : n < 2 ^ 64) (many : n ≡ turnsOf (movedOf m)) (l₀ l₁ l₂ l₃ l₄ l₅ l₆ l₇ l₈ l₉ l₁₀ l₁₁ : ℕ) where
     abbrev C : Calls 𝓤 H
     C = 𝓣 .C
 
@@ -234,7 +234,7 @@ module _ {M : Type 1} (𝓤 : URA M) (H : Heap 𝓤) (A : Atoms 𝓤) (W : Given
         use1 W (‵ Words ⊛ ‵ Words) (shr-slice-copy 𝓤 H A W (named 1) κ′ u32 .twice w (s′ ∷ [])) $ split ! $ move ! (15 ∷ 0 ∷ []) $ use2 W (raw (RowAt 𝓤 H A at-mem run .pre (to (i * 6)))) (asked (i * 6) f6 six) $
         -- [0 pre; 1 words2; 2 rows; 3 _5; 4 _9; 5 _7; 6 _8; 7 _10; 8 _11; 9 _1; 10 _2; 11 _0; 12 bor; 13 obs; 14 auth; 15 _4; 16 _6; 17 _3]
         calls-at ! (fmOf 𝓤 H (W .laws) 𝓣) (RowAt 𝓤 H A at-mem run) known (to (i * 6)) (and-then ! (load ! (from ! (stop !)) (look ! 10 refl)) (and-then ! (load ! (from ! (stop !)) (look ! 4 refl)) (no-more !))) (λ u.
-        use1 W (later (some (λ (r : CallRow). ((‵ (flft κ′ q′) ⊛ ‵ ftrue) ⊛ ‵ (T.the-row .own r (u ∷ []))) ⊛ raw (ensured 𝓤 H A row-at.ended (row-at.clauses 𝓤 H A at-mem run) (κ′, tt) (w, (i * 6, tt)) tt r)))) (id⊢ 𝓤 _) $ await ! tt $ pick ! (λ r.
+        use1 W (later (some (λ (r : CallRow). ((‵ (flft κ′ q′) ⊛ ‵ ftrue) ⊛ ‵ (T.the-row .own r (u ∷ []))) ⊛ raw (ensured 𝓤 H A call-row-at.ended (call-row-at.clauses 𝓤 H A at-mem run) (κ′, tt) (w, (i * 6, tt)) tt r)))) (id⊢ 𝓤 _) $ await ! tt $ pick ! (λ r.
         split ! $ move ! (1 ∷ []) $ use1 W (raw (fact 𝓤 (r ≡ rowIn (callIn (callAt (w .now) (i * 6)))))) (said (i * 6) r) $ heard ! (r ≡ rowIn (callIn (callAt (w .now) (i * 6)))) (λ e. split ! $ move ! (1 ∷ []) $
         -- [0 own; 1 tok'; 2 words2; 3 rows; 4 _5; 5 _9; 6 _7; 7 _8; 8 _10; 9 _11; 10 _1; 11 _2; 12 _0; 13 bor; 14 obs; 15 auth; 16 _4; 17 _6; 18 _3]
         peeks ! T.the-row (Is T.the-row) (shows 𝓤 H A T.the-row) r (u ∷ []) (λ is. land ! (from ! (stop !)) (init ! 7 refl (LL.lawful T.the-type T′.the-laws 𝓤 H A W .typed r _ is .0)) $
@@ -298,7 +298,7 @@ module _ {M : Type 1} (𝓤 : URA M) (H : Heap 𝓤) (A : Atoms 𝓤) (W : Given
   Entry = (‵ (flft κ q) ⊛ ‵ (flft κ′ q′) ⊛ ‵ ftrue) ∷ ‵ (owns (MutSlice (named 0) κ T.the-row ∷ ShrSlice (named 1) κ′ u32 ∷ []) a ats) ∷ []
 
   -- the MIR, up to the loop: the borrow is opened once, before it
-  framed : (𝓣 : Tables 𝓤 H) → Triple 𝓤 (𝓣 .C #rows·answer) (Answers 𝓤 H A at-mem run) → Triple 𝓤 (𝓣 .C #rows·turns-of) (TurnsOf 𝓤 H A at-mem run) → Triple 𝓤 (𝓣 .C #rows·row-at) (RowAt 𝓤 H A at-mem run) → Room T.the-row (length ys) → Room u32 (length (w .now))
+  framed : (𝓣 : Tables 𝓤 H) → Triple 𝓤 (𝓣 .C #rows·answer) (Answers 𝓤 H A at-mem run) → Triple 𝓤 (𝓣 .C #rows·turns-of) (TurnsOf 𝓤 H A at-mem run) → Triple 𝓤 (𝓣 .C #rows·call-row-at) (RowAt 𝓤 H A at-mem run) → Room T.the-row (length ys) → Room u32 (length (w .now))
       → Seq (Go {0}) W Entry (allocs Frame (λ E. params′ E (s ∷ s′ ∷ []) (runs (𝓣 .C) (𝓣 .Λ) E mir.t-1 (atRet E Post))))
   framed 𝓣 known-answer known-turns known room room′ =
       alloc1 ! (λ l₀. alloc1 ! (λ l₁. alloc1 ! (λ l₂. alloc1 ! (λ l₃. alloc1 ! (λ l₄. alloc1 ! (λ l₅. alloc1 ! (λ l₆. alloc1 ! (λ l₇. alloc1 ! (λ l₈. alloc1 ! (λ l₉. alloc1 ! (λ l₁₀. alloc1 ! (λ l₁₁. alloc0 ! $ params1 ! $
@@ -328,12 +328,12 @@ module _ {M : Type 1} (𝓤 : URA M) (H : Heap 𝓤) (A : Atoms 𝓤) (W : Given
       keep ! (3 ∷ 21 ∷ 13 ∷ 17 ∷ 15 ∷ 11 ∷ 9 ∷ 29 ∷ 27 ∷ 31 ∷ 4 ∷ 5 ∷ 6 ∷ 0 ∷ 2 ∷ 23 ∷ 19 ∷ 25 ∷ 32 ∷ 30 ∷ 28 ∷ 26 ∷ 24 ∷ 22 ∷ 20 ∷ 18 ∷ 16 ∷ 14 ∷ 12 ∷ 10 ∷ []) $
       by ! (loops 𝓣 known room m u ism e n (is .1) many l₀ l₁ l₂ l₃ l₄ l₅ l₆ l₇ l₈ l₉ l₁₀ l₁₁)))))))))))))))))))))
 
-  walk : (𝓣 : Tables 𝓤 H) → Triple 𝓤 (𝓣 .C #rows·answer) (Answers 𝓤 H A at-mem run) → Triple 𝓤 (𝓣 .C #rows·turns-of) (TurnsOf 𝓤 H A at-mem run) → Triple 𝓤 (𝓣 .C #rows·row-at) (RowAt 𝓤 H A at-mem run) → Room T.the-row (length ys) → Room u32 (length (w .now))
+  walk : (𝓣 : Tables 𝓤 H) → Triple 𝓤 (𝓣 .C #rows·answer) (Answers 𝓤 H A at-mem run) → Triple 𝓤 (𝓣 .C #rows·turns-of) (TurnsOf 𝓤 H A at-mem run) → Triple 𝓤 (𝓣 .C #rows·call-row-at) (RowAt 𝓤 H A at-mem run) → Room T.the-row (length ys) → Room u32 (length (w .now))
       → ent 𝓤 (onEntry 𝓤 H A f.signature κs (q, (q′, tt)) a ats) (WpFn 𝓤 H (𝓣 .C) (𝓣 .Λ) code.function (s ∷ s′ ∷ []) Post)
   walk 𝓣 known-answer known-turns known room room′ = qed W Entry ∵ enter ! (𝓣 .C) (𝓣 .Λ) code.function (s ∷ s′ ∷ []) _ $ framed 𝓣 known-answer known-turns known room room′
 
 module _ {M : Type 1} (𝓤 : URA M) (H : Heap 𝓤) (A : Atoms 𝓤) (W : Given 𝓤 H A) (at-mem : Memory → SProp 𝓤) (run : Routine → Fun 𝓤) where
-  fill-rows-walks : (𝓣 : Tables 𝓤 H) → Triple 𝓤 (𝓣 .C #rows·answer) (Answers 𝓤 H A at-mem run) → Triple 𝓤 (𝓣 .C #rows·turns-of) (TurnsOf 𝓤 H A at-mem run) → Triple 𝓤 (𝓣 .C #rows·row-at) (RowAt 𝓤 H A at-mem run) → Walks 𝓤 H A f.ended stayed (WpFn 𝓤 H (𝓣 .C) (𝓣 .Λ) code.function) (f.clauses 𝓤 H A at-mem run)
+  fill-rows-walks : (𝓣 : Tables 𝓤 H) → Triple 𝓤 (𝓣 .C #rows·answer) (Answers 𝓤 H A at-mem run) → Triple 𝓤 (𝓣 .C #rows·turns-of) (TurnsOf 𝓤 H A at-mem run) → Triple 𝓤 (𝓣 .C #rows·call-row-at) (RowAt 𝓤 H A at-mem run) → Walks 𝓤 H A f.ended stayed (WpFn 𝓤 H (𝓣 .C) (𝓣 .Λ) code.function) (f.clauses 𝓤 H A at-mem run)
   fill-rows-walks 𝓣 known-answer known-turns known = walked 𝓤 H A f.ended stayed (f.clauses 𝓤 H A at-mem run) (WpFn 𝓤 H (𝓣 .C) (𝓣 .Λ) code.function)
       (λ κs. (slice-vals, (slice-vals, tt))) (λ κs. (mut-slice-tells (named 0) (κs .0) T.the-row, (shr-slice-tells (named 1) (κs .1 .0) u32, tt)))
       (λ κs qs bounds a g are. via 𝓤 _ (fst∗ 𝓤 _ (emp 𝓤))
@@ -343,7 +343,7 @@ module _ {M : Type 1} (𝓤 : URA M) (H : Heap 𝓤) (A : Atoms 𝓤) (W : Given
   goes = (goes-slice 𝓤 H A W 2 0 tt (plain (λ _. T.the-row)), (goes-none-slice 𝓤 H A W 2 (1 ∷ []) tt (plain (λ _. u32)) yes, tt))
 
 fill-rows-meets : {M : Type 1} (𝓤 : URA M) (H : Heap 𝓤) (A : Atoms 𝓤) → Given 𝓤 H A → (at-mem : Memory → SProp 𝓤) (run : Routine → Fun 𝓤) (𝓣 : Tables 𝓤 H) → Triple 𝓤 (𝓣 .C #rows·answer) (Answers 𝓤 H A at-mem run) → Triple 𝓤 (𝓣 .C #rows·turns-of) (TurnsOf 𝓤 H A at-mem run)
-    → Triple 𝓤 (𝓣 .C #rows·row-at) (RowAt 𝓤 H A at-mem run) → Meets 𝓤 H A f.signature (WpFn 𝓤 H (𝓣 .C) (𝓣 .Λ) code.function) (f.spec 𝓤 H A at-mem run)
+    → Triple 𝓤 (𝓣 .C #rows·call-row-at) (RowAt 𝓤 H A at-mem run) → Meets 𝓤 H A f.signature (WpFn 𝓤 H (𝓣 .C) (𝓣 .Λ) code.function) (f.spec 𝓤 H A at-mem run)
 fill-rows-meets 𝓤 H A W at-mem run 𝓣 known-answer known-turns known = walk-meets 𝓤 H A f.ended stayed W (goes 𝓤 H A W at-mem run) (f.clauses 𝓤 H A at-mem run) (WpFn 𝓤 H (𝓣 .C) (𝓣 .Λ) code.function) (WpFn-mono 𝓤 H (W .laws) 𝓣 code.function) (fill-rows-walks 𝓤 H A W at-mem run 𝓣 known-answer known-turns known)
 
 pub fill-rows-spec : {M : Type 1} → stated.statement M
@@ -354,4 +354,4 @@ fill-rows-spec 𝓤 H 𝓜 𝓖 𝓡 =
     (fill-rows-meets 𝓤 H (𝓖 .A) (givenOf 𝓤 H 𝓜 𝓖) (𝓜 .mem) (𝓡 .run) (tablesOf 𝓤 H 𝓜 (tables 𝓤 H 𝓜 𝓡 code.env))
     (cited 𝓤 H (Answers 𝓤 H (𝓖 .A) (𝓜 .mem) (𝓡 .run)) 𝓜 𝓡 code.env #rows·answer answer-def.routine code.calls-rows·answers·fill-answer (answer-thm.met 𝓤 H 𝓜 𝓖 𝓡))
     (cited 𝓤 H (TurnsOf 𝓤 H (𝓖 .A) (𝓜 .mem) (𝓡 .run)) 𝓜 𝓡 code.env #rows·turns-of turns-of-def.routine code.calls-rows·answers·turns-of (turns-of-thm.met 𝓤 H 𝓜 𝓖 𝓡))
-    (cited 𝓤 H (RowAt 𝓤 H (𝓖 .A) (𝓜 .mem) (𝓡 .run)) 𝓜 𝓡 code.env #rows·row-at row-at-def.routine code.calls-rows·words·row-at (row-at-thm.met 𝓤 H 𝓜 𝓖 𝓡)))
+    (cited 𝓤 H (RowAt 𝓤 H (𝓖 .A) (𝓜 .mem) (𝓡 .run)) 𝓜 𝓡 code.env #rows·call-row-at row-at-def.routine code.calls-rows·words·call-row-at (row-at-thm.met 𝓤 H 𝓜 𝓖 𝓡)))

@@ -70,16 +70,16 @@ use Rattle.rows.proofs.answers.spill_answer.Met as answer-thm
 use Rattle.rows.proofs.answers.turns_of as turns-of
 use Rattle.rows.proofs.answers.turns_of.Symbol as turns-of-def
 use Rattle.rows.proofs.answers.turns_of.Met as turns-of-thm
-use Rattle.rows.proofs.words.put_words as put-words
-use Rattle.rows.proofs.words.put_words.Symbol as put-words-def
-use Rattle.rows.proofs.words.put_words.Met as put-words-thm
+use Rattle.rows.proofs.words.put_row_words as put-row-words
+use Rattle.rows.proofs.words.put_row_words.Symbol as put-words-def
+use Rattle.rows.proofs.words.put_row_words.Met as put-words-thm
 use Rattle.rows.proofs.words.spill_rows as f
 use Rattle.rows.proofs.words.spill_rows.Statement as stated
 use Rattle.rows.proofs.words.spill_rows.Code as code
 use Rattle.rows.proofs.words.spill_rows.Code.Mir as mir
 use Rattle.rows.proofs.answers.spill_answer.Symbol.{name as #rows·answer}
 use Rattle.rows.proofs.answers.turns_of.Symbol.{name as #rows·turns-of}
-use Rattle.rows.proofs.words.put_words.Symbol.{name as #rows·put-words}
+use Rattle.rows.proofs.words.put_row_words.Symbol.{name as #rows·put-row-words}
 use Rattle.rows.proofs.words.spill_rows.Key.{name as #rows·spill-rows}
 
 abbrev Arg : Type 0
@@ -114,7 +114,7 @@ module _ {M : Type 1} (𝓤 : URA M) (H : Heap 𝓤) (A : Atoms 𝓤) (at-mem : 
   TurnsOf = tripleOf 𝓤 H A turns-of.signature (turns-of.spec 𝓤 H A at-mem run)
 
   abbrev PutWords : Contract 𝓤
-  PutWords = tripleOf 𝓤 H A put-words.signature (put-words.spec 𝓤 H A at-mem run)
+  PutWords = tripleOf 𝓤 H A put-row-words.signature (put-row-words.spec 𝓤 H A at-mem run)
 
 module _ {M : Type 1} (𝓤 : URA M) (H : Heap 𝓤) (A : Atoms 𝓤) (W : Given 𝓤 H A) (at-mem : Memory → SProp 𝓤) (run : Routine → Fun 𝓤) (κ κ′ : Lft) (q q′ : Share) (b₁ o₁ : ℕ) (γ₁ : GName) (rs : List CallRow) (b o : ℕ) (γ : GName) (vs : List ℕ) where
   abbrev κs : Lfts 2
@@ -202,7 +202,7 @@ module _ {M : Type 1} (𝓤 : URA M) (H : Heap 𝓤) (A : Atoms 𝓤) (W : Given
       move ! (3 ∷ 1 ∷ []) $ fjoin ! $ move ! (2 ∷ 0 ∷ []) $ fjoin ! $ nothing ! $ move ! (2 ∷ 0 ∷ []) $ fjoin ! $ move ! (1 ∷ 0 ∷ []) $ fjoin ! $ frame ! $
       owned ! N.the-row (Is N.the-row) (EL.makes N.the-type N′.the-plain 𝓤 H A) m _ is $ done !
 
-  module _ (𝓣 : Tables 𝓤 H) (known : Triple 𝓤 (𝓣 .C #rows·put-words) (PutWords 𝓤 H A at-mem run)) (room : Room T.the-row (length rs)) (room′ : Room u32 (length vs)) (m : Moved) (um : Val) (ism : Is N.the-row m (um ∷ [])) (answers : movedOf m ≡ spillAnswer (length rs) (length vs)) (n : ℕ) (gn : n < 2 ^ 64) (many : n ≡ turnsOf (movedOf m)) (l₀ l₁ l₂ l₃ l₄ l₅ l₆ l₇ l₈ l₉ l₁₀ l₁₁ l₁₂ l₁₃ l₁₄ : ℕ) where
+  module _ (𝓣 : Tables 𝓤 H) (known : Triple 𝓤 (𝓣 .C #rows·put-row-words) (PutWords 𝓤 H A at-mem run)) (room : Room T.the-row (length rs)) (room′ : Room u32 (length vs)) (m : Moved) (um : Val) (ism : Is N.the-row m (um ∷ [])) (answers : movedOf m ≡ spillAnswer (length rs) (length vs)) (n : ℕ) (gn : n < 2 ^ 64) (many : n ≡ turnsOf (movedOf m)) (l₀ l₁ l₂ l₃ l₄ l₅ l₆ l₇ l₈ l₉ l₁₀ l₁₁ l₁₂ l₁₃ l₁₄ : ℕ) where
     abbrev C : Calls 𝓤 H
     C = 𝓣 .C
 
@@ -268,9 +268,9 @@ module _ {M : Type 1} (𝓤 : URA M) (H : Heap 𝓤) (A : Atoms 𝓤) (W : Given
         use2 W (raw (PutWords 𝓤 H A at-mem run .pre (to ν δ ws j r))) (asked ν δ ws j r gj fit g) $
         -- [0 pre; 1 again; 2 tok; 3 shr; 4 _5; 5 _6; 6 _9; 7 _10; 8 _11; 9 _12; 10 _13; 11 _14; 12 _1; 13 _2; 14 _0; 15 _4; 16 _7; 17 _8; 18 fact; 19 res; 20 _3]
         calls-at ! (fmOf 𝓤 H (W .laws) 𝓣) (PutWords 𝓤 H A at-mem run) known (to ν δ ws j r) (and-then ! (load ! (from ! (stop !)) (look ! 8 refl)) (and-then ! (load ! (from ! (stop !)) (look ! 5 refl)) (and-then ! (load ! (from ! (stop !)) (look ! 11 refl)) (no-more !)))) (λ u.
-        use1 W (later (some (λ (t : ℕ). ((‵ (flft (ν ∷ []) fullShare) ⊛ ‵ ftrue) ⊛ ‵ (usize .own t (u ∷ []))) ⊛ raw (ensured 𝓤 H A put-words.ended (put-words.clauses 𝓤 H A at-mem run) (ν ∷ [], tt) (y δ ws, (j, (r, tt))) tt t)))) (id⊢ 𝓤 _) $ await ! tt $ pick ! (λ t.
+        use1 W (later (some (λ (t : ℕ). ((‵ (flft (ν ∷ []) fullShare) ⊛ ‵ ftrue) ⊛ ‵ (usize .own t (u ∷ []))) ⊛ raw (ensured 𝓤 H A put-row-words.ended (put-row-words.clauses 𝓤 H A at-mem run) (ν ∷ [], tt) (y δ ws, (j, (r, tt))) tt t)))) (id⊢ 𝓤 _) $ await ! tt $ pick ! (λ t.
         split ! $ move ! (1 ∷ []) $
-        use1 W (some (λ (zs : List ℕ × (Unit {0} × (Unit {0} × Unit {0}))). ‵ (lasts put-words.ended (ν ∷ [], tt) (y δ ws, (j, (r, tt))) zs) ⊛ raw (fact 𝓤 (Put ws j (wordsOf r) (zs .0) t)))) (id⊢ 𝓤 _) $ pick ! (λ zs. split ! $
+        use1 W (some (λ (zs : List ℕ × (Unit {0} × (Unit {0} × Unit {0}))). ‵ (lasts put-row-words.ended (ν ∷ [], tt) (y δ ws, (j, (r, tt))) zs) ⊛ raw (fact 𝓤 (Put ws j (wordsOf r) (zs .0) t)))) (id⊢ 𝓤 _) $ pick ! (λ zs. split ! $
         move ! (1 ∷ []) $ heard ! (Put ws j (wordsOf r) (zs .0) t) (λ e. fsplit ! $ fsplit ! $ move ! (1 ∷ []) $ feqL ! (λ l. move ! (2 ∷ []) $ split ! $ move ! (1 ∷ []) $
         -- [0 own; 1 νt; 2 finally; 3 more; 4 again; 5 tok; 6 shr; 7 _5; 8 _6; 9 _9; 10 _10; 11 _11; 12 _12; 13 _13; 14 _14; 15 _1; 16 _2; 17 _0; 18 _4; 19 _7; 20 _8; 21 fact; 22 res; 23 _3]
         peeks ! usize (Is usize) (shows 𝓤 H A usize) t (u ∷ []) (λ is. land ! (from ! (stop !)) (store ! 8 refl (uint-lawful 𝓤 H A W w64 .typed t _ is .0)) $
@@ -332,7 +332,7 @@ module _ {M : Type 1} (𝓤 : URA M) (H : Heap 𝓤) (A : Atoms 𝓤) (W : Given
   Entry = (‵ (flft κ q) ⊛ ‵ (flft κ′ q′) ⊛ ‵ ftrue) ∷ ‵ (owns (ShrSlice (named 0) κ T.the-row ∷ MutSlice (named 1) κ′ u32 ∷ []) a ats) ∷ []
 
   -- the MIR, up to the loop
-  framed : (𝓣 : Tables 𝓤 H) → Triple 𝓤 (𝓣 .C #rows·answer) (Answers 𝓤 H A at-mem run) → Triple 𝓤 (𝓣 .C #rows·turns-of) (TurnsOf 𝓤 H A at-mem run) → Triple 𝓤 (𝓣 .C #rows·put-words) (PutWords 𝓤 H A at-mem run) → Room T.the-row (length rs) → Room u32 (length vs)
+  framed : (𝓣 : Tables 𝓤 H) → Triple 𝓤 (𝓣 .C #rows·answer) (Answers 𝓤 H A at-mem run) → Triple 𝓤 (𝓣 .C #rows·turns-of) (TurnsOf 𝓤 H A at-mem run) → Triple 𝓤 (𝓣 .C #rows·put-row-words) (PutWords 𝓤 H A at-mem run) → Room T.the-row (length rs) → Room u32 (length vs)
       → Seq (Go {0}) W Entry (allocs Frame (λ E. params′ E (s ∷ s′ (length vs) ∷ []) (runs (𝓣 .C) (𝓣 .Λ) E mir.t-1 (atRet E Post))))
   framed 𝓣 known-answer known-turns known room room′ =
       alloc1 ! (λ l₀. alloc1 ! (λ l₁. alloc1 ! (λ l₂. alloc1 ! (λ l₃. alloc1 ! (λ l₄. alloc1 ! (λ l₅. alloc1 ! (λ l₆. alloc1 ! (λ l₇. alloc1 ! (λ l₈. alloc1 ! (λ l₉. alloc1 ! (λ l₁₀. alloc1 ! (λ l₁₁. alloc1 ! (λ l₁₂. alloc1 ! (λ l₁₃. alloc1 ! (λ l₁₄. alloc0 ! $ params1 ! $
@@ -360,12 +360,12 @@ module _ {M : Type 1} (𝓤 : URA M) (H : Heap 𝓤) (A : Atoms 𝓤) (W : Given
       keep ! (3 ∷ 0 ∷ 6 ∷ 2 ∷ 26 ∷ 24 ∷ 18 ∷ 16 ∷ 14 ∷ 12 ∷ 10 ∷ 8 ∷ 34 ∷ 32 ∷ 36 ∷ 28 ∷ 22 ∷ 20 ∷ 7 ∷ 5 ∷ 30 ∷ 37 ∷ 35 ∷ 33 ∷ 31 ∷ 29 ∷ 27 ∷ 25 ∷ 23 ∷ 21 ∷ 19 ∷ 17 ∷ 15 ∷ 13 ∷ 11 ∷ 9 ∷ []) $
       by ! (loops 𝓣 known room room′ m u ism e n (is .1) many l₀ l₁ l₂ l₃ l₄ l₅ l₆ l₇ l₈ l₉ l₁₀ l₁₁ l₁₂ l₁₃ l₁₄))))))))))))))))))))))))
 
-  walk : (𝓣 : Tables 𝓤 H) → Triple 𝓤 (𝓣 .C #rows·answer) (Answers 𝓤 H A at-mem run) → Triple 𝓤 (𝓣 .C #rows·turns-of) (TurnsOf 𝓤 H A at-mem run) → Triple 𝓤 (𝓣 .C #rows·put-words) (PutWords 𝓤 H A at-mem run) → Room T.the-row (length rs) → Room u32 (length vs)
+  walk : (𝓣 : Tables 𝓤 H) → Triple 𝓤 (𝓣 .C #rows·answer) (Answers 𝓤 H A at-mem run) → Triple 𝓤 (𝓣 .C #rows·turns-of) (TurnsOf 𝓤 H A at-mem run) → Triple 𝓤 (𝓣 .C #rows·put-row-words) (PutWords 𝓤 H A at-mem run) → Room T.the-row (length rs) → Room u32 (length vs)
       → ent 𝓤 (onEntry 𝓤 H A f.signature κs (q, (q′, tt)) a ats) (WpFn 𝓤 H (𝓣 .C) (𝓣 .Λ) code.function (s ∷ s′ (length vs) ∷ []) Post)
   walk 𝓣 known-answer known-turns known room room′ = qed W Entry ∵ enter ! (𝓣 .C) (𝓣 .Λ) code.function (s ∷ s′ (length vs) ∷ []) _ $ framed 𝓣 known-answer known-turns known room room′
 
 module _ {M : Type 1} (𝓤 : URA M) (H : Heap 𝓤) (A : Atoms 𝓤) (W : Given 𝓤 H A) (at-mem : Memory → SProp 𝓤) (run : Routine → Fun 𝓤) where
-  spill-rows-walks : (𝓣 : Tables 𝓤 H) → Triple 𝓤 (𝓣 .C #rows·answer) (Answers 𝓤 H A at-mem run) → Triple 𝓤 (𝓣 .C #rows·turns-of) (TurnsOf 𝓤 H A at-mem run) → Triple 𝓤 (𝓣 .C #rows·put-words) (PutWords 𝓤 H A at-mem run) → Walks 𝓤 H A f.ended stayed (WpFn 𝓤 H (𝓣 .C) (𝓣 .Λ) code.function) (f.clauses 𝓤 H A at-mem run)
+  spill-rows-walks : (𝓣 : Tables 𝓤 H) → Triple 𝓤 (𝓣 .C #rows·answer) (Answers 𝓤 H A at-mem run) → Triple 𝓤 (𝓣 .C #rows·turns-of) (TurnsOf 𝓤 H A at-mem run) → Triple 𝓤 (𝓣 .C #rows·put-row-words) (PutWords 𝓤 H A at-mem run) → Walks 𝓤 H A f.ended stayed (WpFn 𝓤 H (𝓣 .C) (𝓣 .Λ) code.function) (f.clauses 𝓤 H A at-mem run)
   spill-rows-walks 𝓣 known-answer known-turns known = walked 𝓤 H A f.ended stayed (f.clauses 𝓤 H A at-mem run) (WpFn 𝓤 H (𝓣 .C) (𝓣 .Λ) code.function)
       (λ κs. (slice-vals, (slice-vals, tt))) (λ κs. (shr-slice-tells (named 0) (κs .0) T.the-row, (mut-slice-tells (named 1) (κs .1 .0) u32, tt)))
       (λ κs qs bounds a g are. via 𝓤 _ (fst∗ 𝓤 _ (emp 𝓤))
@@ -374,7 +374,7 @@ module _ {M : Type 1} (𝓤 : URA M) (H : Heap 𝓤) (A : Atoms 𝓤) (W : Given
   goes : AllGo 𝓤 H A W 2 (f.signature .params) (f.ended .kept) stayed
   goes = (goes-none-slice 𝓤 H A W 2 (0 ∷ []) tt (plain (λ _. T.the-row)) yes, (goes-slice 𝓤 H A W 2 1 tt (plain (λ _. u32)), tt))
 
-spill-rows-meets : {M : Type 1} (𝓤 : URA M) (H : Heap 𝓤) (A : Atoms 𝓤) → Given 𝓤 H A → (at-mem : Memory → SProp 𝓤) (run : Routine → Fun 𝓤) (𝓣 : Tables 𝓤 H) → Triple 𝓤 (𝓣 .C #rows·answer) (Answers 𝓤 H A at-mem run) → Triple 𝓤 (𝓣 .C #rows·turns-of) (TurnsOf 𝓤 H A at-mem run) → Triple 𝓤 (𝓣 .C #rows·put-words) (PutWords 𝓤 H A at-mem run)
+spill-rows-meets : {M : Type 1} (𝓤 : URA M) (H : Heap 𝓤) (A : Atoms 𝓤) → Given 𝓤 H A → (at-mem : Memory → SProp 𝓤) (run : Routine → Fun 𝓤) (𝓣 : Tables 𝓤 H) → Triple 𝓤 (𝓣 .C #rows·answer) (Answers 𝓤 H A at-mem run) → Triple 𝓤 (𝓣 .C #rows·turns-of) (TurnsOf 𝓤 H A at-mem run) → Triple 𝓤 (𝓣 .C #rows·put-row-words) (PutWords 𝓤 H A at-mem run)
     → Meets 𝓤 H A f.signature (WpFn 𝓤 H (𝓣 .C) (𝓣 .Λ) code.function) (f.spec 𝓤 H A at-mem run)
 spill-rows-meets 𝓤 H A W at-mem run 𝓣 known-answer known-turns known = walk-meets 𝓤 H A f.ended stayed W (goes 𝓤 H A W at-mem run) (f.clauses 𝓤 H A at-mem run) (WpFn 𝓤 H (𝓣 .C) (𝓣 .Λ) code.function) (WpFn-mono 𝓤 H (W .laws) 𝓣 code.function) (spill-rows-walks 𝓤 H A W at-mem run 𝓣 known-answer known-turns known)
 
@@ -386,4 +386,4 @@ spill-rows-spec 𝓤 H 𝓜 𝓖 𝓡 =
     (spill-rows-meets 𝓤 H (𝓖 .A) (givenOf 𝓤 H 𝓜 𝓖) (𝓜 .mem) (𝓡 .run) (tablesOf 𝓤 H 𝓜 (tables 𝓤 H 𝓜 𝓡 code.env))
     (cited 𝓤 H (Answers 𝓤 H (𝓖 .A) (𝓜 .mem) (𝓡 .run)) 𝓜 𝓡 code.env #rows·answer answer-def.routine code.calls-rows·answers·spill-answer (answer-thm.met 𝓤 H 𝓜 𝓖 𝓡))
     (cited 𝓤 H (TurnsOf 𝓤 H (𝓖 .A) (𝓜 .mem) (𝓡 .run)) 𝓜 𝓡 code.env #rows·turns-of turns-of-def.routine code.calls-rows·answers·turns-of (turns-of-thm.met 𝓤 H 𝓜 𝓖 𝓡))
-    (cited 𝓤 H (PutWords 𝓤 H (𝓖 .A) (𝓜 .mem) (𝓡 .run)) 𝓜 𝓡 code.env #rows·put-words put-words-def.routine code.calls-rows·words·put-words (put-words-thm.met 𝓤 H 𝓜 𝓖 𝓡)))
+    (cited 𝓤 H (PutWords 𝓤 H (𝓖 .A) (𝓜 .mem) (𝓡 .run)) 𝓜 𝓡 code.env #rows·put-row-words put-words-def.routine code.calls-rows·words·put-row-words (put-words-thm.met 𝓤 H 𝓜 𝓖 𝓡)))

@@ -51,25 +51,25 @@ use denote.Triple.Walked.{says, needs, Stays, stay-slice, stay-none, stay-none-s
 use denote.Exit.{yes}
 use Rattle.lin_spec.specs.declared.Span.{Span}
 use Rattle.lin_spec.specs.Board.{CallOf}
-use Rattle.board_steps.specs.Head.{boardAt}
+use Rattle.board_loop.specs.Head.{boardAt}
 use Rattle.rows.specs.declared.CallRow.{CallRow}
-use Rattle.row_steps.specs.declared.steps.RowStep.{RowStep}
+use Rattle.rows_steps.specs.declared.steps.RowStep.{RowStep}
 use Rattle.rows.specs.Rows.{emptyRow, rowIn, laid}
-use Rattle.row_steps.specs.Steps.{Steps}
+use Rattle.rows_steps.specs.Steps.{Steps}
 use Rattle.rows_reader.proofs.ReaderLaws.{Storing, store-start, store-more, store-end}
 use Rattle.rows.proofs.Walking.{vals, mach, sole, fits-place, fits-next, before, step-on}
 use Rattle.rows.proofs.CallRow as T
 use Rattle.rows.proofs.CallRow.Laws as T′
-use Rattle.row_steps.proofs.steps.RowStep as S
-use Rattle.row_steps.proofs.steps.RowStep.Laws as S′
-use Rattle.row_steps.proofs.next_row as next-row
-use Rattle.row_steps.proofs.next_row.Symbol as next-row-def
-use Rattle.row_steps.proofs.next_row.Met as next-row-thm
+use Rattle.rows_steps.proofs.steps.RowStep as S
+use Rattle.rows_steps.proofs.steps.RowStep.Laws as S′
+use Rattle.rows_steps.proofs.next_row as next-row
+use Rattle.rows_steps.proofs.next_row.Symbol as next-row-def
+use Rattle.rows_steps.proofs.next_row.Met as next-row-thm
 use Rattle.rows_reader.proofs.reader.store_rows as f
 use Rattle.rows_reader.proofs.reader.store_rows.Statement as stated
 use Rattle.rows_reader.proofs.reader.store_rows.Code as code
 use Rattle.rows_reader.proofs.reader.store_rows.Code.Mir as mir
-use Rattle.row_steps.proofs.next_row.Symbol.{name as #rows·next-row}
+use Rattle.rows_steps.proofs.next_row.Symbol.{name as #rows·next-row}
 use Rattle.rows_reader.proofs.reader.store_rows.Key.{name as #rows·store-rows}
 
 abbrev Arg : Type 0
@@ -306,4 +306,4 @@ store-rows-spec 𝓤 H 𝓜 𝓖 𝓡 =
     entered 𝓤 H (tripleOf 𝓤 H (𝓖 .A) f.signature (f.spec 𝓤 H (𝓖 .A) (𝓜 .mem) (𝓡 .run)))
     (tables 𝓤 H 𝓜 𝓡 code.env .C) (tables 𝓤 H 𝓜 𝓡 code.env .Λ) #rows·store-rows code.function (code.unfolded 𝓤 H 𝓜 𝓡)
     (store-rows-meets 𝓤 H (𝓖 .A) (givenOf 𝓤 H 𝓜 𝓖) (𝓜 .mem) (𝓡 .run) (tablesOf 𝓤 H 𝓜 (tables 𝓤 H 𝓜 𝓡 code.env))
-    (cited 𝓤 H (NextRow 𝓤 H (𝓖 .A) (𝓜 .mem) (𝓡 .run)) 𝓜 𝓡 code.env #rows·next-row next-row-def.routine code.calls-row-steps·next-row (next-row-thm.met 𝓤 H 𝓜 𝓖 𝓡)))
+    (cited 𝓤 H (NextRow 𝓤 H (𝓖 .A) (𝓜 .mem) (𝓡 .run)) 𝓜 𝓡 code.env #rows·next-row next-row-def.routine code.calls-rows-steps·next-row (next-row-thm.met 𝓤 H 𝓜 𝓖 𝓡)))

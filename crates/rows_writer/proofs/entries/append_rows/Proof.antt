@@ -49,20 +49,20 @@ use Rattle.lin_spec.proofs.Board.Laws as BD′
 use Rattle.lin_spec.proofs.Written as R
 use Rattle.lin_spec.proofs.Written.Laws as R′
 use Rattle.output.specs.Put.{Room as Fits, Put}
-use Rattle.cleaning.proofs.texts.Marks as MK
-use Rattle.cleaning.proofs.texts.Marks.Laws as MK′
+use Rattle.writer_texts.proofs.texts.Marks as MK
+use Rattle.writer_texts.proofs.texts.Marks.Laws as MK′
 use Rattle.rows.specs.declared.CallRow.{CallRow}
 use Rattle.rows.specs.Rows.{lentRows}
 use Rattle.rows.proofs.Again.{LentAgain, lends-again, comes-back}
 use Rattle.rows.proofs.Walking.{sole}
 use Rattle.rows.proofs.CallRow as T
-use Rattle.row_walks.specs.declared.Scan.{Scan}
-use Rattle.row_walks.proofs.Scan as G
-use Rattle.row_walks.proofs.Scan.Laws as G′
+use Rattle.rows_walks.specs.declared.Scan.{Scan}
+use Rattle.rows_walks.proofs.Scan as G
+use Rattle.rows_walks.proofs.Scan.Laws as G′
 use Rattle.rows_writer.specs.declared.begins.Begun.{Begun}
 use Rattle.rows_writer.proofs.begins.Begun as N
 use Rattle.rows_writer.proofs.begins.Begun.Laws as N′
-use Rattle.row_walks.specs.Walks.{rowsBytes}
+use Rattle.rows_walks.specs.Walks.{rowsBytes}
 use Rattle.rows_writer.specs.Seen.{Seen}
 use Rattle.rows_writer.specs.Begun.{lastText, closing, Playable, Begins}
 use Rattle.rows_writer.proofs.BeginLaws.{first-room, last-room, entry-done}
@@ -72,9 +72,9 @@ use Rattle.rows_writer.proofs.scans.seen_rows.Met as seen-rows-thm
 use Rattle.rows_writer.proofs.begins.begin as begin
 use Rattle.rows_writer.proofs.begins.begin.Symbol as begin-def
 use Rattle.rows_writer.proofs.begins.begin.Met as begin-thm
-use Rattle.row_walks.proofs.put_rows as put-rows
-use Rattle.row_walks.proofs.put_rows.Symbol as put-rows-def
-use Rattle.row_walks.proofs.put_rows.Met as put-rows-thm
+use Rattle.rows_walks.proofs.put_rows as put-rows
+use Rattle.rows_walks.proofs.put_rows.Symbol as put-rows-def
+use Rattle.rows_walks.proofs.put_rows.Met as put-rows-thm
 use Rattle.rows_writer.proofs.begins.finish as finish
 use Rattle.rows_writer.proofs.begins.finish.Symbol as finish-def
 use Rattle.rows_writer.proofs.begins.finish.Met as finish-thm
@@ -83,7 +83,7 @@ use Rattle.rows_writer.proofs.entries.append_rows.Statement as stated
 use Rattle.rows_writer.proofs.entries.append_rows.Code as code
 use Rattle.rows_writer.proofs.scans.seen_rows.Symbol.{name as #rows·seen-rows}
 use Rattle.rows_writer.proofs.begins.begin.Symbol.{name as #rows·begin}
-use Rattle.row_walks.proofs.put_rows.Symbol.{name as #rows·put-rows}
+use Rattle.rows_walks.proofs.put_rows.Symbol.{name as #rows·put-rows}
 use Rattle.rows_writer.proofs.begins.finish.Symbol.{name as #rows·finish}
 use Rattle.rows_writer.proofs.entries.append_rows.Key.{name as #rows·append-rows}
 
@@ -368,5 +368,5 @@ append-rows-spec 𝓤 H 𝓜 𝓖 𝓡 =
     (append-rows-meets 𝓤 H (𝓖 .A) (givenOf 𝓤 H 𝓜 𝓖) (𝓜 .mem) (𝓡 .run) (tablesOf 𝓤 H 𝓜 (tables 𝓤 H 𝓜 𝓡 code.env))
     (cited 𝓤 H (SeenRows 𝓤 H (𝓖 .A) (𝓜 .mem) (𝓡 .run)) 𝓜 𝓡 code.env #rows·seen-rows seen-rows-def.routine code.calls-rows-writer·scans·seen-rows (seen-rows-thm.met 𝓤 H 𝓜 𝓖 𝓡))
     (cited 𝓤 H (Begin 𝓤 H (𝓖 .A) (𝓜 .mem) (𝓡 .run)) 𝓜 𝓡 code.env #rows·begin begin-def.routine code.calls-rows-writer·begins·begin (begin-thm.met 𝓤 H 𝓜 𝓖 𝓡))
-    (cited 𝓤 H (PutRows 𝓤 H (𝓖 .A) (𝓜 .mem) (𝓡 .run)) 𝓜 𝓡 code.env #rows·put-rows put-rows-def.routine code.calls-row-walks·put-rows (put-rows-thm.met 𝓤 H 𝓜 𝓖 𝓡))
+    (cited 𝓤 H (PutRows 𝓤 H (𝓖 .A) (𝓜 .mem) (𝓡 .run)) 𝓜 𝓡 code.env #rows·put-rows put-rows-def.routine code.calls-rows-walks·put-rows (put-rows-thm.met 𝓤 H 𝓜 𝓖 𝓡))
     (cited 𝓤 H (Finish 𝓤 H (𝓖 .A) (𝓜 .mem) (𝓡 .run)) 𝓜 𝓡 code.env #rows·finish finish-def.routine code.calls-rows-writer·begins·finish (finish-thm.met 𝓤 H 𝓜 𝓖 𝓡)))

@@ -44,20 +44,20 @@ use denote.Exit.{yes}
 use Rattle.rows.specs.declared.CallRow.{CallRow}
 use Rattle.rows.proofs.Walking.{sole}
 use Rattle.rows.proofs.CallRow as T
-use Rattle.row_walks.specs.declared.Scan.{Scan}
-use Rattle.row_walks.proofs.Scan as G
-use Rattle.row_walks.proofs.Scan.Laws as G′
+use Rattle.rows_walks.specs.declared.Scan.{Scan}
+use Rattle.rows_walks.proofs.Scan as G
+use Rattle.rows_walks.proofs.Scan.Laws as G′
 use Rattle.text.specs.Index.{Indexed}
-use Rattle.row_walks.specs.Walks.{scanned}
+use Rattle.rows_walks.specs.Walks.{scanned}
 use Rattle.rows_writer.specs.Seen.{measuringScan, Looks, Seen}
 use Rattle.rows_writer.proofs.Lending.{big-lit, zeros, zeros-typed, Words, words-in, words-out, lends-words, lends-mut, words-back}
 use Rattle.rows_writer.proofs.ScanLaws.{first-index, seen-found}
 use Rattle.rows_writer.proofs.scans.measuring as measuring
 use Rattle.rows_writer.proofs.scans.measuring.Symbol as measuring-def
 use Rattle.rows_writer.proofs.scans.measuring.Met as measuring-thm
-use Rattle.row_walks.proofs.scan_rows as scan
-use Rattle.row_walks.proofs.scan_rows.Symbol as scan-def
-use Rattle.row_walks.proofs.scan_rows.Met as scan-thm
+use Rattle.rows_walks.proofs.scan_rows as scan
+use Rattle.rows_walks.proofs.scan_rows.Symbol as scan-def
+use Rattle.rows_walks.proofs.scan_rows.Met as scan-thm
 use Rattle.rows_writer.proofs.scans.looking as looking
 use Rattle.rows_writer.proofs.scans.looking.Symbol as looking-def
 use Rattle.rows_writer.proofs.scans.looking.Met as looking-thm
@@ -65,7 +65,7 @@ use Rattle.rows_writer.proofs.scans.seen_rows as f
 use Rattle.rows_writer.proofs.scans.seen_rows.Statement as stated
 use Rattle.rows_writer.proofs.scans.seen_rows.Code as code
 use Rattle.rows_writer.proofs.scans.measuring.Symbol.{name as #rows·measuring}
-use Rattle.row_walks.proofs.scan_rows.Symbol.{name as #rows·scan-rows}
+use Rattle.rows_walks.proofs.scan_rows.Symbol.{name as #rows·scan-rows}
 use Rattle.rows_writer.proofs.scans.looking.Symbol.{name as #rows·looking}
 use Rattle.rows_writer.proofs.scans.seen_rows.Key.{name as #rows·seen-rows}
 
@@ -290,5 +290,5 @@ seen-rows-spec 𝓤 H 𝓜 𝓖 𝓡 =
     (tables 𝓤 H 𝓜 𝓡 code.env .C) (tables 𝓤 H 𝓜 𝓡 code.env .Λ) #rows·seen-rows code.function (code.unfolded 𝓤 H 𝓜 𝓡)
     (seen-rows-meets 𝓤 H (𝓖 .A) (givenOf 𝓤 H 𝓜 𝓖) (𝓜 .mem) (𝓡 .run) (tablesOf 𝓤 H 𝓜 (tables 𝓤 H 𝓜 𝓡 code.env))
     (cited 𝓤 H (Measuring 𝓤 H (𝓖 .A) (𝓜 .mem) (𝓡 .run)) 𝓜 𝓡 code.env #rows·measuring measuring-def.routine code.calls-rows-writer·scans·measuring (measuring-thm.met 𝓤 H 𝓜 𝓖 𝓡))
-    (cited 𝓤 H (ScanRows 𝓤 H (𝓖 .A) (𝓜 .mem) (𝓡 .run)) 𝓜 𝓡 code.env #rows·scan-rows scan-def.routine code.calls-row-walks·scan-rows (scan-thm.met 𝓤 H 𝓜 𝓖 𝓡))
+    (cited 𝓤 H (ScanRows 𝓤 H (𝓖 .A) (𝓜 .mem) (𝓡 .run)) 𝓜 𝓡 code.env #rows·scan-rows scan-def.routine code.calls-rows-walks·scan-rows (scan-thm.met 𝓤 H 𝓜 𝓖 𝓡))
     (cited 𝓤 H (Looking 𝓤 H (𝓖 .A) (𝓜 .mem) (𝓡 .run)) 𝓜 𝓡 code.env #rows·looking looking-def.routine code.calls-rows-writer·scans·looking (looking-thm.met 𝓤 H 𝓜 𝓖 𝓡)))

@@ -39,20 +39,20 @@ mul-end c = search needs
 loop-holds : tie.Need-loop-holds Inv-loop μ-loop
 loop-holds c = past-here _ _
 
-step-requires : tie.Need-step-requires Inv-loop μ-loop
-step-requires c κs = search needs
+pass-chars-requires : tie.Need-pass-chars-requires Inv-loop μ-loop
+pass-chars-requires c κs = search needs
 
 returns-2 : tie.Need-returns-2 Inv-loop μ-loop
 returns-2 c =
     let l = c .before .before .before in
     let b = l .before .before .before .before .before in
-    word-none (now (b .args .text)) (now (b .args .next)) (b .pre .0) (b .args .a) (b .pre .2) (b .pre .3) (b .pre .1) (l .loop .i) (l .loop .inv) _ (c .before .step .ensures) (c .if2 .taken)
+    word-none (now (b .args .text)) (now (b .args .next)) (b .pre .0) (b .args .a) (b .pre .2) (b .pre .3) (b .pre .1) (l .loop .i) (l .loop .inv) _ (c .before .pass-chars .ensures) (c .if2 .taken)
 
 loop-less : tie.Need-loop-less Inv-loop μ-loop
 loop-less c = search needs
 
 loop-again : tie.Need-loop-again Inv-loop μ-loop
-loop-again c = past-then _ _ _ _ (c .before .before .before .loop .inv) (c .before .step .ensures .past)
+loop-again c = past-then _ _ _ _ (c .before .before .before .loop .inv) (c .before .pass-chars .ensures .past)
 
 add-result : tie.Need-add-result Inv-loop μ-loop
 add-result c = search needs
@@ -85,7 +85,7 @@ next-ill-spec =
     add-end
     mul-end
     loop-holds
-    step-requires
+    pass-chars-requires
     returns-2
     loop-less
     loop-again

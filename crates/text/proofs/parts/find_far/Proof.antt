@@ -16,11 +16,11 @@ Inv-loop s c from i₀ i = findFrom c s i ≡ findFrom c s from
 abbrev μ-loop : tie.MeasureT-loop
 μ-loop s c from i₀ i = length s - i
 
-sixteens-end-requires : tie.Need-sixteens-end-requires Inv-loop μ-loop
-sixteens-end-requires c κs = search needs
+sixteens-without-requires : tie.Need-sixteens-without-requires Inv-loop μ-loop
+sixteens-without-requires c κs = search needs
 
 loop-holds : tie.Need-loop-holds Inv-loop μ-loop
-loop-holds c = c .sixteens-end .ensures
+loop-holds c = c .sixteens-without .ensures
 
 shared-slice-read-if1 : tie.Need-shared-slice-read-if1 Inv-loop μ-loop
 shared-slice-read-if1 c = omega arith
@@ -46,7 +46,7 @@ find-far-spec =
     (tie.spec
     Inv-loop
     μ-loop
-    sixteens-end-requires
+    sixteens-without-requires
     loop-holds
     shared-slice-read-if1
     returns

@@ -14,11 +14,11 @@ Inv-loop s from i₀ i = Past s from i
 abbrev μ-loop : tie.MeasureT-loop
 μ-loop s from i₀ i = length s - i
 
-sixteens-end-requires : tie.Need-sixteens-end-requires Inv-loop μ-loop
-sixteens-end-requires c κs = search needs
+sixteens-ascii-requires : tie.Need-sixteens-ascii-requires Inv-loop μ-loop
+sixteens-ascii-requires c κs = search needs
 
 loop-holds : tie.Need-loop-holds Inv-loop μ-loop
-loop-holds c = c .sixteens-end .ensures
+loop-holds c = c .sixteens-ascii .ensures
 
 shared-slice-read-if1 : tie.Need-shared-slice-read-if1 Inv-loop μ-loop
 shared-slice-read-if1 c = search needs
@@ -44,7 +44,7 @@ ascii-end-spec =
     (tie.spec
     Inv-loop
     μ-loop
-    sixteens-end-requires
+    sixteens-ascii-requires
     loop-holds
     shared-slice-read-if1
     returns

@@ -1,0 +1,32 @@
+//! The exports of the crate `lin_host`, reached through `lin_host_rust`, compared
+//! with the upstream Rust and with document 01 in plain Rust.
+//!
+//! | module | what it holds |
+//! |---|---|
+//! | [`upstream`] | boards and records between upstream's form and the host's |
+//! | [`model`] | document 01 in plain Rust, for what upstream can't take |
+//! | [`log`] | document 01's plain book of appends |
+//! | [`compare`] | the comparisons, each of which gives what differs |
+//! | [`samples`] | random records, files, boards and PBN records, and hostile ones |
+//! | [`differential`] | random cases of every kind, compared for a time that is given |
+//! | [`clock`] | processor time |
+//!
+//! ```
+//! use lin_bench::{compare, samples};
+//! use oracle::random::Rng;
+//!
+//! let text = samples::file(&mut Rng::new(1), 12);
+//! assert_eq!(compare::file(text.as_bytes()), Ok(()));
+//! ```
+
+#![deny(missing_docs)]
+#![deny(rustdoc::broken_intra_doc_links)]
+
+#[path = "../../host/tests/common/clock.rs"]
+pub mod clock;
+pub mod compare;
+pub mod differential;
+pub mod log;
+pub mod model;
+pub mod samples;
+pub mod upstream;

@@ -1,4 +1,0 @@
-pub mod PutLaws
-pub mod TrickLaws
-pub mod PlayLaws
-pub mod Answers

@@ -1,4 +1,0 @@
-pub mod DealLaws
-pub mod EastLaws
-pub mod HandLaws
-pub mod SizeLaws

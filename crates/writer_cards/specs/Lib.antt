@@ -1,0 +1,3 @@
+pub mod Tricks
+pub mod Hands
+pub mod Sizes
