@@ -17,7 +17,7 @@ use Rattle.lin_spec.specs.Records.{part}
 use Rattle.lin_spec.specs.White.{lower, whiteAt, skipWhite, trimStart, trimEnd, blank, trim, sameWord, isCommand}
 use Rattle.lin_spec.proofs.Base.{picked, split, and-left, and-right, allBelow, below, eq-list}
 use Rattle.lin_spec.proofs.White.{Visible, skip-at, trim-most, trim-visible, white-most, trim-lf}
-use Rattle.document_commands.specs.Commands.{words, firstWord, firstSmall, codeOf, commandOf, SameFrom}
+use Rattle.document_commands.specs.Commands.{words, firstWord, firstSmall, codeOf, commandOf, SameFrom, Unmarked}
 
 -- the word at the front, or another
 pub word-here : (n : ℕ) (w : List ℕ) (ws : List (List ℕ)) (s : List ℕ) (t : Bool) → t ≡ sameWord s w → t ≡ true → n ≡ firstWord n (w ∷ ws) s
@@ -198,3 +198,26 @@ two-bytes s at p h e =
     let d = drop-cons s at 0 (omega arith) in
     let f = drop-cons s (suc at) 0 (omega arith) in
     rw (e, add-one at, d, f)
+
+-- By the second letter alone
+
+unmarked-other : (x y : ℕ) → (y ≡ 100 → ⊥) → (y ≡ 110 → ⊥) → (y ≡ 120 → ⊥) → Unmarked (codeOf x y)
+unmarked-other x y d n v =
+    let f = ne-eqb y 100 d in
+    let g = ne-eqb y 110 n in
+    let h = ne-eqb y 120 v in
+    let e : codeOf x y ≡ pick (eqb x 112 && eqb y 99) 0 (pick (eqb x 109 && eqb y 98) 1 (pick (eqb x 115 && eqb y 118) 7 (pick (eqb x 97 && eqb y 104) 8 (pick (eqb x 109 && eqb y 99) 9 10)))) = code-form x y ∙ simp (f, g, h, and-false) in
+    rw e
+    (picked Unmarked (eqb x 112 && eqb y 99) (λ _. record { md = refl; pn = refl; qx = refl; mn = refl })
+    (λ _. picked Unmarked (eqb x 109 && eqb y 98) (λ _. record { md = refl; pn = refl; qx = refl; mn = refl })
+    (λ _. picked Unmarked (eqb x 115 && eqb y 118) (λ _. record { md = refl; pn = refl; qx = refl; mn = refl })
+    (λ _. picked Unmarked (eqb x 97 && eqb y 104) (λ _. record { md = refl; pn = refl; qx = refl; mn = refl })
+    (λ _. picked Unmarked (eqb x 109 && eqb y 99) (λ _. record { md = refl; pn = refl; qx = refl; mn = refl }) (λ _. record { md = refl; pn = refl; qx = refl; mn = refl }))))))
+
+pub unmarked-pair : (s : List ℕ) (a : ℕ) → a + 2 ≤ length s → (lower (getD s (a + 1) 0) ≡ 100 → ⊥) → (lower (getD s (a + 1) 0) ≡ 110 → ⊥) → (lower (getD s (a + 1) 0) ≡ 120 → ⊥)
+    → Unmarked (commandOf (part s a 2))
+unmarked-pair s a h d n v =
+    let c : a + 2 - a ≡ 2 = omega arith in
+    let e : part s a 2 ≡ getD s a 0 ∷ getD s (a + 1) 0 ∷ [] = ap (part s a) (sym c) ∙ two-bytes s a (a + 2) h c in
+    let k : codeOf (lower (getD s a 0)) (lower (getD s (a + 1) 0)) ≡ commandOf (part s a 2) = pair-code (getD s a 0) (getD s (a + 1) 0) _ _ refl refl ∙ sym (ap commandOf e) in
+    rw (← k) (unmarked-other (lower (getD s a 0)) (lower (getD s (a + 1) 0)) d n v)

@@ -4,12 +4,12 @@ use Prim.Native.Nat.{ℕ, suc, _+_, _-_, _≤_, _<_}
 use native.Mathlib.Numerals.{add-one}
 use native.Mathlib.Omega.{arith}
 use mathlib.Core.Path.{_≡_, refl, ap, sym, subst, _∙_}
-use mathlib.Core.Bool.{true, _&&_, not}
+use mathlib.Core.Bool.{Bool, true, false, _&&_, _||_, not, false≢true}
 use mathlib.Core.List.{List, [], _∷_}
 use mathlib.Core.Option.{some}
 use lib.ListN.{length, getD}
 use lib.Seq.{drop-cons}
-use lib.Dec.{eqb}
+use lib.Dec.{eqb, leb}
 use borrow.Author.Tests.{eqb-true, eqb-false, not-true}
 use Rattle.lin_spec.specs.Base.{eqAll}
 use Rattle.lin_spec.specs.Records.{span, part, bytesAt}
@@ -18,13 +18,13 @@ use Rattle.lin_spec.specs.Tokens.{pipe}
 use Rattle.lin_spec.specs.Cursor.{findFrom}
 use Rattle.lin_spec.specs.Cards.{readCard}
 use Rattle.lin_spec.specs.Reading.{stream}
-use Rattle.lin_spec.proofs.Base.{and-left, and-right}
+use Rattle.lin_spec.proofs.Base.{and-left, and-right, picked}
 use Rattle.lin_spec.proofs.Cursor.{find-here, find-next, find-after}
 use Rattle.cards.specs.Letters.{CardIs}
 use Rattle.document_commands.specs.Commands.{firstSmall, codeOf, commandOf}
-use Rattle.document_commands.specs.Plain.{Skips, PairAt, ShortAt, CardAt, PageAt}
-use Rattle.document_commands.specs.Steps.{TokenAt}
-use Rattle.document_commands.proofs.CommandLaws.{pair-code, same-lf}
+use Rattle.document_commands.specs.Plain.{Skips, PairAt, ShortAt, CardAt, PageAt, OtherLetter, UnmarkedAt}
+use Rattle.document_commands.specs.Steps.{TokenAt, PassedToken}
+use Rattle.document_commands.proofs.CommandLaws.{pair-code, same-lf, unmarked-pair}
 use Rattle.document_commands.proofs.StepLaws.{pipes-none, pipes-token}
 
 -- An LF before a command
@@ -181,3 +181,31 @@ pub page-token : (s : List ℕ) (at a : ℕ) → Skips s at a → PageAt s a →
 page-token s at a k t =
     let g : a + 3 + 1 ≡ a + 4 = omega arith in
     subst (λ (n : ℕ). TokenAt s at 10 (span (a + 3) (a + 3 - (a + 3))) n) g (short-token s at a (a + 3) k (t .short) 10 (t .command))
+
+-- A token that is none of qx, md, mn and pn
+
+-- neither a letter nor its capital
+pub not-lower : (b k : ℕ) → (b ≡ k → ⊥) → (b + 32 ≡ k → ⊥) → lower b ≡ k → ⊥
+unfolding lower
+not-lower b k h g = picked (λ (x : ℕ). x ≡ k → ⊥) (leb 0x41 b && leb b 0x5A) (λ _. g) (λ _. h)
+
+pub unmarked-at : (s : List ℕ) (a : ℕ) → a + 3 ≤ length s → (eqb (getD s a 0) pipe || not (eqb (getD s (a + 2) 0) pipe)) ≡ false → OtherLetter (getD s (a + 1) 0) → UnmarkedAt s a
+unmarked-at s a h t o = go (eqb (getD s a 0) pipe) refl (eqb (getD s (a + 2) 0) pipe) refl t
+  where
+    go : (x : Bool) → eqb (getD s a 0) pipe ≡ x → (y : Bool) → eqb (getD s (a + 2) 0) pipe ≡ y → (x || not y) ≡ false → UnmarkedAt s a
+    go true ex y ey k = absurd (false≢true (sym k))
+    go false ex false ey k = absurd (false≢true (sym k))
+    go false ex true ey k =
+        record {
+          pair = record { within = h; first = find-two s a (a + 1) (a + 2) refl refl (omega arith) (eqb-false _ _ ex) (o .bar) (eqb-true _ _ ey) };
+          unmarked = unmarked-pair s a (omega arith) (o .d) (o .n) (o .x);
+        }
+
+pub passed-token : (s : List ℕ) (at a q : ℕ) → Skips s at a → UnmarkedAt s a → q ≡ findFrom pipe s (a + 3) → q < length s → PassedToken s at (q + 1)
+passed-token s at a q k t e h =
+    record {
+      number = commandOf (part s a 2);
+      value = span (a + 3) (q - (a + 3));
+      token = short-token s at a q k (record { first = t .pair .first; second = sym e; within = h }) _ refl;
+      unmarked = t .unmarked;
+    }

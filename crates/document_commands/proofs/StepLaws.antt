@@ -18,9 +18,10 @@ use Rattle.lin_spec.proofs.Cursor.{means, find-end, find-after, step-none, step
 use Rattle.lin_spec.proofs.Reading.{streams}
 use Rattle.document.specs.declared.tokens.Part.{Part}
 use Rattle.document_commands.specs.Commands.{words, commandOf}
-use Rattle.document_commands.specs.Steps.{TokenAt, Commands, BoardTokens}
+use Rattle.document_commands.specs.Steps.{TokenAt, Commands, BoardTokens, PartTokens}
 use Rattle.document_commands.specs.declared.steps.Commanded.{Commanded}
 use Rattle.document_commands.specs.declared.steps.BoardToken.{BoardToken}
+use Rattle.document_commands.specs.declared.steps.PartToken.{PartToken}
 use Rattle.document_commands.proofs.CommandLaws.{code-is}
 
 -- the cursor's step gives it
@@ -62,6 +63,9 @@ commanded s at r v h e = subst (Commands s at) e h
 
 pub tokened : (s : List ℕ) (at : ℕ) (r v : BoardToken) → BoardTokens s at r → r ≡ v → BoardTokens s at v
 tokened s at r v h e = subst (BoardTokens s at) e h
+
+pub parted : (s : List ℕ) (at : ℕ) (r v : PartToken) → PartTokens s at r → r ≡ v → PartTokens s at v
+parted s at r v h e = subst (PartTokens s at) e h
 
 -- its value as a span
 pub spanned : (s : List ℕ) (at k : ℕ) (p : Part) (n : ℕ) (v : Span) → v ≡ span (p .start) (p .len) → TokenAt s at k (span (p .start) (p .len)) n → TokenAt s at k v n

@@ -2,6 +2,8 @@
 use Prim.Native.Nat.{ℕ, suc, _-_, _≤_}
 use mathlib.Core.Path.{_≡_}
 use mathlib.Core.List.{List, [], _∷_}
+use mathlib.Core.Bool.{false}
+use lib.Dec.{eqb}
 use Rattle.lin_spec.specs.Base.{pick, ascii, eqList}
 use Rattle.lin_spec.specs.Records.{part}
 use Rattle.lin_spec.specs.White.{trim, sameWord}
@@ -67,3 +69,10 @@ pub record SameFrom (s : List ℕ) (at p r : ℕ) : Type 0 where
   pub from : at ≤ r
   pub to : r ≤ p
   pub same : commandOf (part s r (p - r)) ≡ commandOf (part s at (p - at))
+
+-- the number of a command that is none of md, pn, qx and mn, which alone tell a file's parts
+pub record Unmarked (k : ℕ) : Type 0 where
+  pub md : eqb k mdNo ≡ false
+  pub pn : eqb k pnNo ≡ false
+  pub qx : eqb k qxNo ≡ false
+  pub mn : eqb k mnNo ≡ false

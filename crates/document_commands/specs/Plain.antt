@@ -5,11 +5,11 @@ use mathlib.Core.Option.{some}
 use lib.ListN.{length}
 use mathlib.Core.List.{List}
 use Rattle.lin_spec.specs.Records.{part}
-use Rattle.lin_spec.specs.White.{trim}
+use Rattle.lin_spec.specs.White.{trim, lower}
 use Rattle.lin_spec.specs.Tokens.{pipe}
 use Rattle.lin_spec.specs.Cursor.{findFrom}
 use Rattle.lin_spec.specs.Cards.{readCard}
-use Rattle.document_commands.specs.Commands.{commandOf, pcNo, otherNo}
+use Rattle.document_commands.specs.Commands.{commandOf, pcNo, otherNo, Unmarked}
 
 -- a token at r is one at `at` too, with the same command
 pub record Skips (s : List ℕ) (at r : ℕ) : Type 0 where
@@ -37,3 +37,15 @@ pub record CardAt (s : List ℕ) (a r : ℕ) : Type 0 where
 pub record PageAt (s : List ℕ) (a : ℕ) : Type 0 where
   pub short : ShortAt s a (a + 3)
   pub command : otherNo ≡ commandOf (part s a 2)
+
+-- a byte that is neither a pipe nor the second letter of qx, md, mn or pn
+pub record OtherLetter (b : ℕ) : Type 0 where
+  pub bar : b ≡ pipe → ⊥
+  pub d : lower b ≡ 100 → ⊥
+  pub n : lower b ≡ 110 → ⊥
+  pub x : lower b ≡ 120 → ⊥
+
+-- a command of two bytes that is none of them
+pub record UnmarkedAt (s : List ℕ) (a : ℕ) : Type 0 where
+  pub pair : PairAt s a
+  pub unmarked : Unmarked (commandOf (part s a 2))

@@ -10,11 +10,13 @@ use Rattle.lin_spec.specs.Reading.{stream}
 use Rattle.lin_spec.specs.declared.Span.{Span}
 use Rattle.lin_spec.specs.White.{trim}
 use Rattle.lin_spec.specs.Cards.{readCard}
-use Rattle.document_commands.specs.Commands.{commandOf, pcNo, mcNo}
+use Rattle.document_commands.specs.Commands.{commandOf, pcNo, mcNo, Unmarked}
 use Rattle.document_commands.specs.declared.steps.Commanded.{Commanded}
 use Rattle.document_commands.specs.declared.steps.Commanded.the-variants.{Token, Ended}
 use Rattle.document_commands.specs.declared.steps.BoardToken.{BoardToken}
 use Rattle.document_commands.specs.declared.steps.BoardToken.the-variants.{Card, Known, Other, Ended as None}
+use Rattle.document_commands.specs.declared.steps.PartToken.{PartToken}
+use Rattle.document_commands.specs.declared.steps.PartToken.the-variants.{Passed, Command, Ended as NoPart}
 
 -- at the place `at` stands a token with a command of the number k and the value v, and the next at n
 pub record TokenAt (s : List ℕ) (at k : ℕ) (v : Span) (n : ℕ) : Type 0 where
@@ -48,3 +50,19 @@ BoardTokens s at (Card c n) = CardToken s at c n
 BoardTokens s at (Known k v n) = TokenAt s at k v n
 BoardTokens s at (Other n) = OtherToken s at n
 BoardTokens s at None = stream s at ≡ []
+
+-- the same for a file's parts: a token that is none of md, pn, qx and mn, and any token by its number
+pub record PassedToken (s : List ℕ) (at n : ℕ) : Type 0 where
+  pub number : ℕ
+  pub value : Span
+  pub token : TokenAt s at number value n
+  pub unmarked : Unmarked number
+
+pub record CommandToken (s : List ℕ) (at k n : ℕ) : Type 0 where
+  pub value : Span
+  pub token : TokenAt s at k value n
+
+abbrev pub PartTokens : (s : List ℕ) (at : ℕ) → PartToken → Type 0
+PartTokens s at (Passed n) = PassedToken s at n
+PartTokens s at (Command k n) = CommandToken s at k n
+PartTokens s at NoPart = stream s at ≡ []

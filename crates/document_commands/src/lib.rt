@@ -15,6 +15,8 @@ pub use commands::QX;
 pub use commands::SV;
 pub use steps::BoardToken;
 pub use steps::Commanded;
+pub use steps::PartToken;
 pub use steps::board_token;
 pub use steps::next_command;
+pub use steps::part_token;
 pub use steps::span_of;

@@ -4,7 +4,7 @@ ghost use mathlib.Core.Path.{_≡_};
 ghost use mathlib.Core.Bool.{true};
 ghost use Prim.Native.Nat.{_<_};
 ghost use Rattle.cards.specs.Letters.{table};
-ghost use Rattle.document_commands.specs.Plain.{Skips, PairAt, CardAt, PageAt};
+ghost use Rattle.document_commands.specs.Plain.{Skips, PairAt, CardAt, PageAt, OtherLetter, UnmarkedAt};
 
 // The place after an LF, if one is there: the same token stands from it on.
 pub(crate) fn after_line(text: &[u8], at: usize) -> usize
@@ -64,4 +64,33 @@ pub(crate) fn is_page(text: &[u8], at: usize) -> bool
     }
     (text[at] == b'p')
         & ((text[at + 1] == b'g') & ((text[at + 2] == b'|') & (text[at + 3] == b'|')))
+}
+
+// Tests that a byte is neither a pipe nor the second letter of qx, md, mn or pn: where it says true, it is none.
+fn other_letter(b: u8) -> bool
+    ensures { λ r. ⌜ (r ≡ true → OtherLetter b) ⌝ }
+{
+    match b {
+        b'x' | b'X' => false,
+        b'd' | b'D' => false,
+        b'n' | b'N' => false,
+        b'|' => false,
+        _ => true,
+    }
+}
+
+// Tests for a command of two bytes that is none of qx, md, mn and pn, as `is_pair` does for any.
+pub(crate) fn is_unmarked(text: &[u8], at: usize) -> bool
+    ensures { λ r. ⌜ (r ≡ true → UnmarkedAt (now (text .entry)) at) ⌝ }
+{
+    if text.len() < 3 {
+        return false;
+    }
+    if text.len() - 3 < at {
+        return false;
+    }
+    if (text[at] == b'|') | (text[at + 2] != b'|') {
+        return false;
+    }
+    other_letter(text[at + 1])
 }

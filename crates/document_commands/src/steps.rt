@@ -5,6 +5,7 @@ use crate::commands::pair_of;
 use crate::plain::after_line;
 use crate::plain::is_page;
 use crate::plain::is_pair;
+use crate::plain::is_unmarked;
 use crate::plain::plain_card;
 use document::Cursor;
 use document::Part;
@@ -15,7 +16,7 @@ ghost use Prim.Native.Nat.{_+_, _<_, _^_};
 ghost use Rattle.lin_spec.specs.Records.{span};
 ghost use lib.ListN.{length};
 ghost use Rattle.cards.specs.Letters.{table};
-ghost use Rattle.document_commands.specs.Steps.{Commands, BoardTokens};
+ghost use Rattle.document_commands.specs.Steps.{Commands, BoardTokens, PartTokens};
 
 // A token's command by number and its value, with the cursor after it; or no token.
 pub enum Commanded {
@@ -107,5 +108,30 @@ pub fn board_token(letters: &[u8; 128], text: &[u8], at: usize) -> BoardToken
             BoardToken::Known(k, span_of(value), next.at)
         }
         Commanded::Ended => BoardToken::Ended,
+    }
+}
+
+// A token as a file's parts take it, with the place after it: one that is none of md, pn, qx and mn, or any by its command's number; or no token.
+pub enum PartToken {
+    Passed(usize),
+    Command(u8, usize),
+    Ended,
+}
+
+// The token at a place, for a file's parts. Most are passed by two bytes of their commands.
+pub fn part_token(text: &[u8], at: usize) -> PartToken
+    ensures { λ r. ⌜ PartTokens (now (text .entry)) at r ⌝ }
+{
+    let a = after_line(text, at);
+    if is_unmarked(text, a) {
+        let q = next_pipe(text, a + 3);
+        if text.len() <= q {
+            return PartToken::Ended;
+        }
+        return PartToken::Passed(q + 1);
+    }
+    match next_command(text, Cursor { at }) {
+        Commanded::Token(k, _, next) => PartToken::Command(k, next.at),
+        Commanded::Ended => PartToken::Ended,
     }
 }

@@ -2,7 +2,7 @@
 -- Assumes nothing.
 use Prim.Native.Nat.{ℕ, _+_, _-_, _≤_, _<_, _^_}
 use native.Mathlib.Omega.{arith}
-use mathlib.Core.Path.{_≡_, refl, ap, sym, _∙_}
+use mathlib.Core.Path.{_≡_, refl, ap, sym, subst, _∙_}
 use mathlib.Core.Bool.{Bool, true, false, _&&_, _||_, not, false≢true, or-false, or-assoc}
 use mathlib.Core.List.{List, [], _∷_}
 use lib.ListN.{length, take, drop, length-take}
@@ -37,6 +37,7 @@ use Rattle.file_sections.specs.Sections.{sectionOf, standingOf, visitOf,
 use Rattle.file_sections.specs.declared.sections.BoardStep.{BoardStep}
 use Rattle.file_sections.specs.declared.sections.Section.{Section}
 use Rattle.file_sections.specs.declared.sections.BoardCursor.{BoardCursor}
+use Rattle.document_commands.specs.Commands.{Unmarked}
 use Rattle.document_commands.specs.Steps.{TokenAt}
 use Rattle.document_commands.proofs.StepLaws.{command-is}
 use Rattle.document.specs.Steps.{openedOf as openedAt}
@@ -137,6 +138,12 @@ module _ (s : List ℕ) (begin back at : ℕ) (board : Bool) (w : Walks s begin 
         here = on-here (eqb k 6 || eqb k 4) refl;
         ahead = λ i l. or-assoc board (eqb k 3) (mdUpTo s n i) ∙ ap (λ (x : Bool). board || x) (sym (md-more i l)) ∙ w .ahead i (let z = t .later in omega arith);
       })
+
+  -- it is none that tells a part
+  pub passes-on : Unmarked k → Walks s begin n n board
+  passes-on u =
+      subst (Walks s begin n n) (rw (u .md) (or-false board))
+      (walks-on (rw (u .qx) refl) n (rw (u .mn, u .pn) refl))
 
 -- A line
 

@@ -6,8 +6,10 @@ use document_commands::Commanded;
 use document_commands::MD;
 use document_commands::MN;
 use document_commands::PN;
+use document_commands::PartToken;
 use document_commands::QX;
 use document_commands::next_command;
+use document_commands::part_token;
 use lin_spec::Refusal;
 use text::find_byte;
 use white::is_blank;
@@ -87,8 +89,12 @@ fn part_from(text: &[u8], at: usize) -> Section
     let mut board = false;
     let mut c = at;
     loop {
-        match next_command(text, Cursor { at: c }) {
-            Commanded::Token(k, _, next) => {
+        match part_token(text, c) {
+            PartToken::Passed(next) => {
+                c = next;
+                back = next;
+            }
+            PartToken::Command(k, next) => {
                 if (k == QX) & (at < back) {
                     return Section {
                         start: at,
@@ -96,11 +102,11 @@ fn part_from(text: &[u8], at: usize) -> Section
                         board,
                     };
                 }
-                c = next.at;
+                c = next;
                 back = moved_back(k, back, c);
                 board = board | (k == MD);
             }
-            Commanded::Ended => {
+            PartToken::Ended => {
                 return Section {
                     start: at,
                     stop: c,

@@ -1,7 +1,7 @@
 -- Laws of decimal: a digit more at the end, and adequacy: a number's digits are digits, give it back, and begin with no needless zero.
 -- (01: Program linlist; Board, mc)
 -- Assumes nothing.
-use Prim.Native.Nat.{ℕ, zero, suc, _+_, _/_, _%_, _≤_, _<_}
+use Prim.Native.Nat.{ℕ, zero, suc, _+_, _*_, _/_, _%_, _≤_, _<_}
 use native.Mathlib.Omega.{arith}
 use mathlib.Core.Path.{_≡_, refl, ap, sym, _∙_}
 use mathlib.Core.Bool.{Bool, true, false, _&&_}
@@ -50,6 +50,11 @@ length-short n h = ap length (decimal-short n h)
 
 pub length-long : (n : ℕ) → 10 ≤ n → length (decimal n) ≡ length (decimal (n / 10)) + 1
 length-long n h = ap length (decimal-long n h) ∙ length-append (decimal (n / 10)) _
+
+-- ten times the number has at most one digit more
+pub more-digits : (m k : ℕ) → ((n : ℕ) → n < m → length (decimal n) ≤ k) → (n : ℕ) → n < 10 * m → length (decimal n) ≤ k + 1
+more-digits m k f n h =
+    split n 10 (λ l. let e = length-short n l in omega arith) (λ l. let e = length-long n l in let g = f (n / 10) (omega arith) in omega arith)
 
 -- what holds of one digit, and of a digit more if it holds without it, holds of a number and its digits
 module _ (P : ℕ → List ℕ → Type 0) (one : (n : ℕ) → n < 10 → P n (digit n ∷ []))

@@ -1,7 +1,7 @@
 -- The listing of any input fits the largest room of an output: a line has at most 15 bytes for each byte that its board takes. (01: Program
 -- linlist; Writer, "Every output's room ..")
 -- Assumes nothing.
-use Prim.Native.Nat.{ℕ, zero, suc, _+_, _-_, _*_, _/_, _≤_, _<_}
+use Prim.Native.Nat.{ℕ, zero, suc, _+_, _-_, _*_, _≤_, _<_}
 use native.Mathlib.Omega.{arith}
 use mathlib.Core.Path.{_≡_, refl, ap, sym, subst, _∙_}
 use mathlib.Core.Bool.{Bool, true, false, _&&_, not, false≢true}
@@ -38,7 +38,7 @@ use Rattle.lin_spec.proofs.Base.{picked, split}
 use Rattle.lin_spec.proofs.Tokens.{joined, joined-cut}
 use Rattle.lin_spec.proofs.White.{trim-most}
 use Rattle.lin_spec.proofs.Cards.{Under, hand-length, hand-sum, field-length}
-use Rattle.lin_spec.proofs.Decimal.{length-short, length-long}
+use Rattle.lin_spec.proofs.Decimal.{length-short, more-digits}
 use Rattle.lin_spec.proofs.Rules.{number-only}
 use Rattle.lin_spec.proofs.Reading.{part-most}
 use Rattle.lin_spec.proofs.File.{visit-is, visits}
@@ -54,27 +54,23 @@ use Rattle.board_loop.proofs.CallLaws.{annotated-length}
 
 -- Digits
 
-one-more : (m k : ℕ) → ((n : ℕ) → n < m → length (decimal n) ≤ k) → (n : ℕ) → n < 10 * m → length (decimal n) ≤ k + 1
-one-more m k f n h =
-    split n 10 (λ l. let e = length-short n l in omega arith) (λ l. let e = length-long n l in let g = f (n / 10) (omega arith) in omega arith)
-
 digits-1 : (n : ℕ) → n < 10 → length (decimal n) ≤ 1
 digits-1 n h = let e = length-short n h in omega arith
 
 digits-2 : (n : ℕ) → n < 100 → length (decimal n) ≤ 2
-digits-2 n h = one-more 10 1 digits-1 n (omega arith)
+digits-2 n h = more-digits 10 1 digits-1 n (omega arith)
 
 digits-3 : (n : ℕ) → n < 1000 → length (decimal n) ≤ 3
-digits-3 n h = one-more 100 2 digits-2 n (omega arith)
+digits-3 n h = more-digits 100 2 digits-2 n (omega arith)
 
 digits-4 : (n : ℕ) → n < 10000 → length (decimal n) ≤ 4
-digits-4 n h = one-more 1000 3 digits-3 n (omega arith)
+digits-4 n h = more-digits 1000 3 digits-3 n (omega arith)
 
 digits-5 : (n : ℕ) → n < 100000 → length (decimal n) ≤ 5
-digits-5 n h = one-more 10000 4 digits-4 n (omega arith)
+digits-5 n h = more-digits 10000 4 digits-4 n (omega arith)
 
 digits-6 : (n : ℕ) → n < 1000000 → length (decimal n) ≤ 6
-digits-6 n h = one-more 100000 5 digits-5 n (omega arith)
+digits-6 n h = more-digits 100000 5 digits-5 n (omega arith)
 
 -- Sums
 

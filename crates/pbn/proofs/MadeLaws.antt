@@ -35,10 +35,10 @@ use Rattle.pbn_texts.specs.declared.sources.Label.the-variants.{Absent, Id, Num
 use Rattle.pbn_texts.specs.declared.sources.Sources.{Sources}
 use Rattle.pbn_texts.specs.declared.layout.Layout.{Layout}
 use Rattle.pbn_texts.specs.Sources.{labelBy, SourcesOf}
-use Rattle.pbn_texts.specs.Texts.{titleText, labelsText, labelledText, roomText, headerText}
-use Rattle.pbn_texts.specs.Calls.{isKept, keptMany, bidBytes, noteBytes, callBytes, callsBytes}
-use Rattle.pbn_texts.specs.Rows.{threeText, notedText, rowText, placedRow, placedRows}
-use Rattle.pbn_texts.specs.Names.{namesText}
+use Rattle.pbn_texts.specs.Texts.{titleText, labelsText, labelledText, roomText, labelHeader}
+use Rattle.pbn_texts.specs.Calls.{isKept, keptMany, bidBytes, noteBytes, pbnCallBytes, pbnCallsBytes}
+use Rattle.pbn_texts.specs.Rows.{threeText, notedText, keptRowText, placedRow, placedRows}
+use Rattle.pbn_texts.specs.Names.{pbnNamesText}
 use Rattle.pbn_texts.specs.Layout.{layoutOf}
 use Rattle.pbn_texts.specs.Raw.{rawText, textsOf}
 use Rattle.pbn.specs.Made.{textBetween, madeHeading}
@@ -143,8 +143,8 @@ module _ (p q : ℕ) (s ns : List ℕ) where
   note-length c = ap length (note-bytes c) ∙ clean-length p q (noteBytes s ns c)
 
   -- the texts of a call before others
-  kept-text : (c : PbnCall) → badCall c ≡ false → (ks : List (CallOf (List ℕ))) → callTexts (keptBy p q s ns (bidOf c) c ks) ≡ clean p q (callBytes s ns c) ++ callTexts ks
-  unfolding callBytes callTexts clean
+  kept-text : (c : PbnCall) → badCall c ≡ false → (ks : List (CallOf (List ℕ))) → callTexts (keptBy p q s ns (bidOf c) c ks) ≡ clean p q (pbnCallBytes s ns c) ++ callTexts ks
+  unfolding pbnCallBytes callTexts clean
   kept-text c h ks = go (isKept c) refl
     where
       go : (t : Bool) → isKept c ≡ t → callTexts (keptBy p q s ns (bidOf c) c ks) ≡ clean p q (pick t (bidBytes c ++ noteBytes s ns c) []) ++ callTexts ks
@@ -154,13 +154,13 @@ module _ (p q : ℕ) (s ns : List ℕ) where
           ∙ ap (λ (t : List ℕ). t ++ callTexts ks) ((λ i. sym (bid-clean c p q h) i ++ note-bytes c i) ∙ sym (clean-append p q (bidBytes c) (noteBytes s ns c)))
       go false e = ap (λ (o : Option (List ℕ)). callTexts (keptBy p q s ns o c ks)) (kept-none c e)
 
-  calls-clean : (cs : List PbnCall) → All (λ (c : PbnCall). badCall c ≡ false) cs → callTexts (keptCalls p q s ns cs) ≡ clean p q (callsBytes s ns cs)
-  unfolding keptCalls callsBytes clean callTexts
+  calls-clean : (cs : List PbnCall) → All (λ (c : PbnCall). badCall c ≡ false) cs → callTexts (keptCalls p q s ns cs) ≡ clean p q (pbnCallsBytes s ns cs)
+  unfolding keptCalls pbnCallsBytes clean callTexts
   calls-clean [] h = refl
   calls-clean (c ∷ cs) h =
       kept-text c (h .0) (keptCalls p q s ns cs)
-      ∙ ap (λ (t : List ℕ). clean p q (callBytes s ns c) ++ t) (calls-clean cs (h .1))
-      ∙ sym (clean-append p q (callBytes s ns c) (callsBytes s ns cs))
+      ∙ ap (λ (t : List ℕ). clean p q (pbnCallBytes s ns c) ++ t) (calls-clean cs (h .1))
+      ∙ sym (clean-append p q (pbnCallBytes s ns c) (pbnCallsBytes s ns cs))
 
   -- how many there are
   pub kept-many : (cs : List PbnCall) → length (keptCalls p q s ns cs) ≡ keptMany cs
@@ -174,12 +174,12 @@ module _ (p q : ℕ) (s ns : List ℕ) where
 
   -- their rows
   row-words : (c : PbnCall) (at : ℕ) (ks : List (CallOf (List ℕ)))
-      → placedRow s ns at c ++ callWords (laidCalls (at + length (callBytes s ns c)) ks) ≡ callWords (laidCalls at (keptBy p q s ns (bidOf c) c ks))
-  unfolding placedRow callBytes laidCalls callWords rowText threeText
+      → placedRow s ns at c ++ callWords (laidCalls (at + length (pbnCallBytes s ns c)) ks) ≡ callWords (laidCalls at (keptBy p q s ns (bidOf c) c ks))
+  unfolding placedRow pbnCallBytes laidCalls callWords keptRowText threeText
   row-words c at ks = go (isKept c) refl
     where
       go : (t : Bool) → isKept c ≡ t
-          → pick t (rowText at (length (bidBytes c)) (at + length (bidBytes c)) (length (noteBytes s ns c))) [] ++ callWords (laidCalls (at + length (pick t (bidBytes c ++ noteBytes s ns c) [])) ks)
+          → pick t (keptRowText at (length (bidBytes c)) (at + length (bidBytes c)) (length (noteBytes s ns c))) [] ++ callWords (laidCalls (at + length (pick t (bidBytes c ++ noteBytes s ns c) [])) ks)
           ≡ callWords (laidCalls at (keptBy p q s ns (bidOf c) c ks))
       go true e =
           let a = at + length (bidBytes c) in
@@ -198,7 +198,7 @@ module _ (p q : ℕ) (s ns : List ℕ) where
   unfolding placedRows keptCalls laidCalls callWords
   rows-are at [] = refl
   rows-are at (c ∷ cs) =
-      ap (λ (t : List ℕ). placedRow s ns at c ++ t) (rows-are (at + length (callBytes s ns c)) cs)
+      ap (λ (t : List ℕ). placedRow s ns at c ++ t) (rows-are (at + length (pbnCallBytes s ns c)) cs)
       ∙ row-words c at (keptCalls p q s ns cs)
 
 -- The texts
@@ -212,7 +212,7 @@ both-labels t =
     (append-assoc t (ascii ",BOARD " ++ t) (ascii "Board " ++ t)
     ∙ ap (λ (x : List ℕ). t ++ (ascii ",BOARD " ++ (t ++ (ascii "Board " ++ x)))) (sym (append-nil t))))
 
-room-and-header : (s : List ℕ) (l : Label) → labelledText s l ≡ roomText s l ++ headerText s l
+room-and-header : (s : List ℕ) (l : Label) → labelledText s l ≡ roomText s l ++ labelHeader s l
 unfolding labelsText
 room-and-header s Absent = refl
 room-and-header s (Id x) = both-labels (bytesAt s x)
@@ -254,7 +254,7 @@ module _ (p q : ℕ) (s : List ℕ) (b : PbnBoard) (ws ps ns : List ℕ) where
     room-by (Id y) = refl
     room-by (Number n) = refl
 
-    header-by : (l : Label) → orEmpty (mapOption (λ t. clean p q (ascii "Board " ++ t)) (labelBy s l)) ≡ clean p q (headerText s l)
+    header-by : (l : Label) → orEmpty (mapOption (λ t. clean p q (ascii "Board " ++ t)) (labelBy s l)) ≡ clean p q (labelHeader s l)
     unfolding clean
     header-by Absent = refl
     header-by (Id y) = refl
@@ -264,24 +264,24 @@ module _ (p q : ℕ) (s : List ℕ) (b : PbnBoard) (ws ps ns : List ℕ) where
     unfolding fromBoard
     room-is = ap (λ (o : Option (List ℕ)). orEmpty (mapOption (λ t. clean p q (ascii "o" ++ (t ++ (ascii ",BOARD " ++ t)))) o)) (sym (so .label-is)) ∙ room-by (x .label)
 
-    header-is : orEmpty (made .header) ≡ clean p q (headerText s (x .label))
+    header-is : orEmpty (made .header) ≡ clean p q (labelHeader s (x .label))
     unfolding fromBoard
     header-is = ap (λ (o : Option (List ℕ)). orEmpty (mapOption (λ t. clean p q (ascii "Board " ++ t)) o)) (sym (so .label-is)) ∙ header-by (x .label)
 
     -- the names, and the texts after them, cleaned
     pub texts-are : any badCall (pbnRows ws) ≡ false → boardTexts made ≡ textsOf p q s (pbnNames b) x ns ws
-    unfolding boardTexts fromBoard namesText rawText textsOf
+    unfolding boardTexts fromBoard pbnNamesText rawText textsOf
     texts-are h =
         let t = titleText s (x .event) (x .date) in
         let l = x .label in
-        let k = callsBytes s ns (pbnRows ws) in
-        let cleaned : clean p q (t ++ (labelledText s l ++ (k ++ []))) ≡ clean p q t ++ (clean p q (roomText s l) ++ (clean p q (headerText s l) ++ clean p q k)) =
+        let k = pbnCallsBytes s ns (pbnRows ws) in
+        let cleaned : clean p q (t ++ (labelledText s l ++ (k ++ []))) ≡ clean p q t ++ (clean p q (roomText s l) ++ (clean p q (labelHeader s l) ++ clean p q k)) =
         clean-append p q t (labelledText s l ++ (k ++ []))
         ∙ ap (λ (y : List ℕ). clean p q t ++ y)
         (ap (λ (y : List ℕ). clean p q (y ++ (k ++ []))) (room-and-header s l)
-        ∙ ap (clean p q) (append-assoc (roomText s l) (headerText s l) (k ++ []))
-        ∙ clean-append p q (roomText s l) (headerText s l ++ (k ++ []))
-        ∙ ap (λ (y : List ℕ). clean p q (roomText s l) ++ y) (clean-append p q (headerText s l) (k ++ []) ∙ ap (λ (y : List ℕ). clean p q (headerText s l) ++ clean p q y) (append-nil k))) in
+        ∙ ap (clean p q) (append-assoc (roomText s l) (labelHeader s l) (k ++ []))
+        ∙ clean-append p q (roomText s l) (labelHeader s l ++ (k ++ []))
+        ∙ ap (λ (y : List ℕ). clean p q (roomText s l) ++ y) (clean-append p q (labelHeader s l) (k ++ []) ∙ ap (λ (y : List ℕ). clean p q (labelHeader s l) ++ clean p q y) (append-nil k))) in
         let calls = calls-clean p q s ns (pbnRows ws) (none-any badCall (pbnRows ws) h) in
         (λ i. concat (map (nameBy p q s) (pbnNames b)) ++ (title-is i ++ (room-is i ++ (header-is i ++ calls i))))
         ∙ ap (λ (y : List ℕ). concat (map (nameBy p q s) (pbnNames b)) ++ y) (sym cleaned)
@@ -289,13 +289,13 @@ module _ (p q : ℕ) (s : List ℕ) (b : PbnBoard) (ws ps ns : List ℕ) where
     -- by the layout
     module _ (at : Layout) (ea : at ≡ layoutOf p q s (pbnNames b) x) where
       -- where the texts of the calls end
-      pub layout-end : at .calls + length (callsBytes s ns (pbnRows ws)) ≡ length (textsOf p q s (pbnNames b) x ns ws)
+      pub layout-end : at .calls + length (pbnCallsBytes s ns (pbnRows ws)) ≡ length (textsOf p q s (pbnNames b) x ns ws)
       unfolding layoutOf textsOf rawText
       layout-end =
           let t = titleText s (x .event) (x .date) in
           let l = labelledText s (x .label) in
-          let k = callsBytes s ns (pbnRows ws) in
-          let n = namesText p q s (pbnNames b) in
+          let k = pbnCallsBytes s ns (pbnRows ws) in
+          let n = pbnNamesText p q s (pbnNames b) in
           omega (
             arith,
             ap (λ (y : Layout). y .calls) ea,
@@ -305,24 +305,24 @@ module _ (p q : ℕ) (s : List ℕ) (b : PbnBoard) (ws ps ns : List ℕ) where
             length-append l (k ++ []),
             length-append k [],
             ap length (room-and-header s (x .label)),
-            length-append (roomText s (x .label)) (headerText s (x .label)),
+            length-append (roomText s (x .label)) (labelHeader s (x .label)),
           )
 
       title-at : at .title ≡ length (concat (made .names))
-      unfolding layoutOf fromBoard namesText
+      unfolding layoutOf fromBoard pbnNamesText
       title-at = ap (λ (y : Layout). y .title) ea
 
       room-at : at .«room_board» ≡ length (concat (made .names)) + length (orEmpty (made .title))
-      unfolding layoutOf fromBoard namesText
+      unfolding layoutOf fromBoard pbnNamesText
       room-at = omega (arith, ap (λ (y : Layout). y .«room_board») ea, ap length title-is, clean-length p q (titleText s (x .event) (x .date)))
 
       header-at : at .header ≡ length (concat (made .names)) + length (orEmpty (made .title)) + length (orEmpty (made .room))
-      unfolding layoutOf fromBoard namesText
+      unfolding layoutOf fromBoard pbnNamesText
       header-at = omega (arith, ap (λ (y : Layout). y .header) ea, room-at, ap (λ (y : Layout). y .«room_board») ea, ap length room-is, clean-length p q (roomText s (x .label)))
 
       pub calls-at : at .calls ≡ length (concat (made .names)) + length (orEmpty (made .title)) + length (orEmpty (made .room)) + length (orEmpty (made .header))
-      unfolding layoutOf fromBoard namesText
-      calls-at = omega (arith, ap (λ (y : Layout). y .calls) ea, header-at, ap (λ (y : Layout). y .header) ea, ap length header-is, clean-length p q (headerText s (x .label)))
+      unfolding layoutOf fromBoard pbnNamesText
+      calls-at = omega (arith, ap (λ (y : Layout). y .calls) ea, header-at, ap (λ (y : Layout). y .header) ea, ap length header-is, clean-length p q (labelHeader s (x .label)))
 
       pub heading-is : (n : ℕ) → n ≡ length (laid made .calls) → (k : ℕ) → k ≡ length (laid made .play) → madeHeading b at n k ≡ headingOf (laid made)
       unfolding madeHeading laid fromBoard layoutOf

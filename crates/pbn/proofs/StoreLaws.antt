@@ -38,8 +38,8 @@ use Rattle.pbn_texts.specs.declared.layout.Layout.{Layout}
 use Rattle.pbn_texts.specs.Sources.{SourcesOf}
 use Rattle.pbn_texts.specs.Layout.{layoutOf}
 use Rattle.pbn_texts.specs.Raw.{textsOf}
-use Rattle.pbn_texts.specs.Calls.{isKept, keptOne, keptMany, bidBytes, noteBytes, callBytes, callsBytes}
-use Rattle.pbn_texts.specs.Rows.{threeText, notedText, rowText, placedRow, placedRows}
+use Rattle.pbn_texts.specs.Calls.{isKept, keptOne, keptMany, bidBytes, noteBytes, pbnCallBytes, pbnCallsBytes}
+use Rattle.pbn_texts.specs.Rows.{threeText, notedText, keptRowText, placedRow, placedRows}
 use Rattle.pbn_checks.specs.Checks.{pbnChecks, checked}
 use Rattle.pbn.specs.Made.{madeHeading, Counted, refusedBoard, fitted}
 use Rattle.pbn.proofs.MadeLaws.{kept-many, rows-are, texts-are, layout-end, calls-at, heading-is}
@@ -52,7 +52,7 @@ laid-many at [] = refl
 laid-many at (c ∷ cs) = ap suc (laid-many (at + length (c .bid) + length (orEmpty (c .annotation))) cs)
 
 row-long : (s ns : List ℕ) (at : ℕ) (c : PbnCall) → length (placedRow s ns at c) ≡ keptOne c * 6
-unfolding placedRow rowText threeText
+unfolding placedRow keptRowText threeText
 row-long s ns at c = go (isKept c)
   where
     words : (a n : ℕ) → length (notedText a n) ≡ 3
@@ -62,7 +62,7 @@ row-long s ns at c = go (isKept c)
         go-words true = refl
         go-words false = refl
 
-    go : (t : Bool) → length (pick t (rowText at (length (bidBytes c)) (at + length (bidBytes c)) (length (noteBytes s ns c))) []) ≡ pick t 1 0 * 6
+    go : (t : Bool) → length (pick t (keptRowText at (length (bidBytes c)) (at + length (bidBytes c)) (length (noteBytes s ns c))) []) ≡ pick t 1 0 * 6
     go true = (omega (arith, length-append (notedText (at + length (bidBytes c)) (length (noteBytes s ns c))) [], words (at + length (bidBytes c)) (length (noteBytes s ns c))))
     go false = refl
 
@@ -70,9 +70,9 @@ rows-long : (s ns : List ℕ) (at : ℕ) (cs : List PbnCall) → length (placedR
 unfolding placedRows keptMany
 rows-long s ns at [] = refl
 rows-long s ns at (c ∷ cs) =
-    let z = rows-long s ns (at + length (callBytes s ns c)) cs in
+    let z = rows-long s ns (at + length (pbnCallBytes s ns c)) cs in
     let y = row-long s ns at c in
-    omega (arith, length-append (placedRow s ns at c) (placedRows s ns (at + length (callBytes s ns c)) cs))
+    omega (arith, length-append (placedRow s ns at c) (placedRows s ns (at + length (pbnCallBytes s ns c)) cs))
 
 -- The answer, by the tests before it
 
@@ -171,7 +171,7 @@ pub record Known (p q : ℕ) (s : List ℕ) (b : PbnBoard) (ws ps ns rows cards 
   pub names-are : ms ≡ pbnNames b
   pub sources-are : SourcesOf s b x
   pub layout-is : at ≡ layoutOf p q s ms x
-  pub need-is : need ≡ sat (at .calls + length (callsBytes s ns (pbnRows ws)))
+  pub need-is : need ≡ sat (at .calls + length (pbnCallsBytes s ns (pbnRows ws)))
 
 module _ {p q : ℕ} {s : List ℕ} {b : PbnBoard} {ws ps ns rows cards : List ℕ} {n k : ℕ} {ms : List MaybeSpan} {x : Sources} {at : Layout} {need : ℕ}
     (r : Known p q s b ws ps ns rows cards n k ms x at need) (o : List ℕ) where
@@ -181,7 +181,7 @@ module _ {p q : ℕ} {s : List ℕ} {b : PbnBoard} {ws ps ns rows cards : List �
   texts-made : textsOf p q s ms x ns ws ≡ boardTexts (fromBoard p q (pbn s b ws ps ns))
   texts-made = ap (λ (xs : List MaybeSpan). textsOf p q s xs x ns ws) (r .names-are) ∙ sym (texts-are p q s b ws ps ns x (r .sources-are) (r .counts .sound))
 
-  ends : at .calls + length (callsBytes s ns (pbnRows ws)) ≡ length (boardTexts (fromBoard p q (pbn s b ws ps ns)))
+  ends : at .calls + length (pbnCallsBytes s ns (pbnRows ws)) ≡ length (boardTexts (fromBoard p q (pbn s b ws ps ns)))
   ends = layout-end p q s b ws ps ns x (r .sources-are) at layout-made ∙ sym (ap length (texts-are p q s b ws ps ns x (r .sources-are) (r .counts .sound)))
 
   need-made : need ≡ sat (length (boardTexts (fromBoard p q (pbn s b ws ps ns))))
@@ -200,7 +200,7 @@ module _ {p q : ℕ} {s : List ℕ} {b : PbnBoard} {ws ps ns rows cards : List �
     pub texts-room : Room o 0 (textsOf p q s ms x ns ws)
     texts-room = record { room = omega (arith, f, need-made, ap length texts-made) }
 
-    pub rows-room : Room rows 0 (placedRows s ns (at .calls) (pbnRows ws)) × (at .calls + length (callsBytes s ns (pbnRows ws)) ≤ limit)
+    pub rows-room : Room rows 0 (placedRows s ns (at .calls) (pbnRows ws)) × (at .calls + length (pbnCallsBytes s ns (pbnRows ws)) ≤ limit)
     rows-room = (
       record { room = omega (arith, rows-long s ns (at .calls) (pbnRows ws), r .counts .many, r .counts .rows-fit) },
       omega (arith, f, r .need-is),

@@ -23,7 +23,7 @@ use Rattle.output.specs.Put.{Room}
 use Rattle.output.proofs.Laws.{Left, start}
 use Rattle.board_lent.specs.Calls.{rowAt}
 use Rattle.board_lent.proofs.LentLaws.{rows-front, rows-rest}
-use Rattle.pbn_texts.specs.Calls.{keptLetter, isKept, keptOne, keptMany, levelText, bidBytes, noteBytes, callBytes, callsBytes}
+use Rattle.pbn_texts.specs.Calls.{keptLetter, isKept, keptOne, keptMany, levelText, bidBytes, noteBytes, pbnCallBytes, pbnCallsBytes}
 
 -- Cards
 
@@ -122,45 +122,45 @@ not-fails true e = refl
 not-fails false e = sym e
 
 module _ (s ns : List ℕ) (c : PbnCall) (t : Bool) (e : t ≡ isKept c) where
-  pub call-dropped : not t ≡ true → callBytes s ns c ≡ []
-  unfolding callBytes
+  pub call-dropped : not t ≡ true → pbnCallBytes s ns c ≡ []
+  unfolding pbnCallBytes
   call-dropped f = simp (← e, not-holds t f)
 
-  call-kept : not t ≡ false → callBytes s ns c ≡ bidBytes c ++ noteBytes s ns c
-  unfolding callBytes
+  call-kept : not t ≡ false → pbnCallBytes s ns c ≡ bidBytes c ++ noteBytes s ns c
+  unfolding pbnCallBytes
   call-kept f = simp (← e, not-fails t f)
 
-  pub call-start : not t ≡ false → {d : List ℕ} {at : ℕ} → Room d at (callBytes s ns c) → Left d at (bidBytes c ++ (noteBytes s ns c ++ [])) d at (callBytes s ns c)
+  pub call-start : not t ≡ false → {d : List ℕ} {at : ℕ} → Room d at (pbnCallBytes s ns c) → Left d at (bidBytes c ++ (noteBytes s ns c ++ [])) d at (pbnCallBytes s ns c)
   call-start f {d} {at} r =
-      subst (λ (x : List ℕ). Left d at x d at (callBytes s ns c)) (call-kept f ∙ ap (λ (x : List ℕ). bidBytes c ++ x) (sym (append-nil (noteBytes s ns c)))) (start r)
+      subst (λ (x : List ℕ). Left d at x d at (pbnCallBytes s ns c)) (call-kept f ∙ ap (λ (x : List ℕ). bidBytes c ++ x) (sym (append-nil (noteBytes s ns c)))) (start r)
 
-  pub call-long : not t ≡ false → length (callBytes s ns c) ≡ length (bidBytes c) + length (noteBytes s ns c)
+  pub call-long : not t ≡ false → length (pbnCallBytes s ns c) ≡ length (bidBytes c) + length (noteBytes s ns c)
   call-long f = ap length (call-kept f) ∙ length-append (bidBytes c) (noteBytes s ns c)
 
 -- The calls from word i on: its call, and the others; past the last row, none
 
 module _ (s ns ws : List ℕ) (i : ℕ) where
-  pub calls-next : 6 ≤ length ws - i → (c : PbnCall) → c ≡ rowAt pbnRow ws i → callsBytes s ns (pbnRows (drop i ws)) ≡ callBytes s ns c ++ callsBytes s ns (pbnRows (drop (i + 6) ws))
-  unfolding callsBytes
+  pub calls-next : 6 ≤ length ws - i → (c : PbnCall) → c ≡ rowAt pbnRow ws i → pbnCallsBytes s ns (pbnRows (drop i ws)) ≡ pbnCallBytes s ns c ++ pbnCallsBytes s ns (pbnRows (drop (i + 6) ws))
+  unfolding pbnCallsBytes
   calls-next h c e = rw (rows-front pbnRow ws i h, e) refl
 
-  calls-none : length ws - i < 6 → callsBytes s ns (pbnRows (drop i ws)) ≡ []
-  unfolding callsBytes
+  calls-none : length ws - i < 6 → pbnCallsBytes s ns (pbnRows (drop i ws)) ≡ []
+  unfolding pbnCallsBytes
   calls-none h = rw (rows-rest pbnRow ws i h) refl
 
   -- what is left to write
-  module _ {d : List ℕ} {pos : ℕ} {d₀ : List ℕ} {at : ℕ} {whole : List ℕ} (l : Left d pos (callsBytes s ns (pbnRows (drop i ws))) d₀ at whole) where
-    pub call-left : 6 ≤ length ws - i → (c : PbnCall) → c ≡ rowAt pbnRow ws i → Left d pos (callBytes s ns c ++ callsBytes s ns (pbnRows (drop (i + 6) ws))) d₀ at whole
+  module _ {d : List ℕ} {pos : ℕ} {d₀ : List ℕ} {at : ℕ} {whole : List ℕ} (l : Left d pos (pbnCallsBytes s ns (pbnRows (drop i ws))) d₀ at whole) where
+    pub call-left : 6 ≤ length ws - i → (c : PbnCall) → c ≡ rowAt pbnRow ws i → Left d pos (pbnCallBytes s ns c ++ pbnCallsBytes s ns (pbnRows (drop (i + 6) ws))) d₀ at whole
     call-left h c e = rw (calls-next h c e) at l
 
     pub none-left : length ws - i < 6 → Left d pos [] d₀ at whole
     none-left h = rw (calls-none h) at l
 
   -- what is left to count
-  module _ (n whole : ℕ) (l : sat (n + length (callsBytes s ns (pbnRows (drop i ws)))) ≡ sat whole) where
-    pub count-call : 6 ≤ length ws - i → (c : PbnCall) → c ≡ rowAt pbnRow ws i → (x n′ : ℕ) → x ≡ sat (length (callBytes s ns c)) → n′ ≡ sat (n + x)
-        → sat (n′ + length (callsBytes s ns (pbnRows (drop (i + 6) ws)))) ≡ sat whole
-    count-call h c e x n′ f g = omega (arith, ap length (calls-next h c e) ∙ length-append (callBytes s ns c) (callsBytes s ns (pbnRows (drop (i + 6) ws))))
+  module _ (n whole : ℕ) (l : sat (n + length (pbnCallsBytes s ns (pbnRows (drop i ws)))) ≡ sat whole) where
+    pub count-call : 6 ≤ length ws - i → (c : PbnCall) → c ≡ rowAt pbnRow ws i → (x n′ : ℕ) → x ≡ sat (length (pbnCallBytes s ns c)) → n′ ≡ sat (n + x)
+        → sat (n′ + length (pbnCallsBytes s ns (pbnRows (drop (i + 6) ws)))) ≡ sat whole
+    count-call h c e x n′ f g = omega (arith, ap length (calls-next h c e) ∙ length-append (pbnCallBytes s ns c) (pbnCallsBytes s ns (pbnRows (drop (i + 6) ws))))
 
     pub count-none : n ≡ sat n → length ws - i < 6 → n ≡ sat whole
     count-none k h = omega (arith, ap length (calls-none h))

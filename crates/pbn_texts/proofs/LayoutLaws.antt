@@ -12,22 +12,22 @@ use Rattle.lin_spec.specs.declared.MaybeSpan.{MaybeSpan}
 use Rattle.pbn_texts.specs.declared.sources.Sources.{Sources}
 use Rattle.pbn_texts.specs.declared.layout.Layout.{Layout}
 use Rattle.pbn_texts.specs.Sources.{labelled}
-use Rattle.pbn_texts.specs.Texts.{labelBytes, titleText, roomText, headerText}
-use Rattle.pbn_texts.specs.Names.{namesText}
+use Rattle.pbn_texts.specs.Texts.{labelBytes, titleText, roomText, labelHeader}
+use Rattle.pbn_texts.specs.Names.{pbnNamesText}
 use Rattle.pbn_texts.specs.Layout.{layoutOf}
 use Rattle.pbn_texts.proofs.TextLaws.{labels-long, labels-none}
 
 -- the layout, by its names, where they end, and where the title ends
 module _ (p q : ℕ) (s : List ℕ) (ms : List MaybeSpan) (x : Sources) (xs : List Span) (ex : xs ≡ laidNames 0 (map (nameBy p q s) ms))
-    (t : ℕ) (et : t ≡ length (namesText p q s ms)) (r : ℕ) (er : r ≡ t + length (titleText s (x .event) (x .date)))
+    (t : ℕ) (et : t ≡ length (pbnNamesText p q s ms)) (r : ℕ) (er : r ≡ t + length (titleText s (x .event) (x .date)))
     (f : Bool) (ef : f ≡ labelled (x .label)) where
-  layout-is : (h : ℕ) → h ≡ r + length (roomText s (x .label)) → (k : ℕ) → k ≡ h + length (headerText s (x .label))
+  layout-is : (h : ℕ) → h ≡ r + length (roomText s (x .label)) → (k : ℕ) → k ≡ h + length (labelHeader s (x .label))
       → _≡_ {A = Layout} (record { names = xs; title = t; «room_board» = r; header = h; calls = k }) (layoutOf p q s ms x)
   unfolding layoutOf
   layout-is h eh k ek =
-      let x₁ : r ≡ length (namesText p q s ms) + length (titleText s (x .event) (x .date)) = omega arith in
-      let x₂ : h ≡ length (namesText p q s ms) + length (titleText s (x .event) (x .date)) + length (roomText s (x .label)) = omega arith in
-      let x₃ : k ≡ length (namesText p q s ms) + length (titleText s (x .event) (x .date)) + length (roomText s (x .label)) + length (headerText s (x .label)) = omega arith in
+      let x₁ : r ≡ length (pbnNamesText p q s ms) + length (titleText s (x .event) (x .date)) = omega arith in
+      let x₂ : h ≡ length (pbnNamesText p q s ms) + length (titleText s (x .event) (x .date)) + length (roomText s (x .label)) = omega arith in
+      let x₃ : k ≡ length (pbnNamesText p q s ms) + length (titleText s (x .event) (x .date)) + length (roomText s (x .label)) + length (labelHeader s (x .label)) = omega arith in
       λ i. record { names = ex i; title = et i; «room_board» = x₁ i; header = x₂ i; calls = x₃ i }
 
   pub layout-plain : not f ≡ true → _≡_ {A = Layout} (record { names = xs; title = t; «room_board» = r; header = r; calls = r }) (layoutOf p q s ms x)

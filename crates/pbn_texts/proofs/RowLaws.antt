@@ -15,8 +15,8 @@ use Rattle.output.specs.Put.{Room, Put}
 use Rattle.output.proofs.Laws.{Left, start, step, finish}
 use Rattle.board_lent.specs.Calls.{rowAt}
 use Rattle.board_lent.proofs.LentLaws.{rows-front, rows-rest}
-use Rattle.pbn_texts.specs.Calls.{isKept, bidBytes, noteBytes, callBytes, callsBytes}
-use Rattle.pbn_texts.specs.Rows.{threeText, notedText, rowText, placedRow, placedRows}
+use Rattle.pbn_texts.specs.Calls.{isKept, bidBytes, noteBytes, pbnCallBytes, pbnCallsBytes}
+use Rattle.pbn_texts.specs.Rows.{threeText, notedText, keptRowText, placedRow, placedRows}
 use Rattle.pbn_texts.proofs.CallLaws.{not-holds, not-fails, call-dropped, call-long, calls-next}
 
 -- the words of an annotation, by its length
@@ -35,20 +35,20 @@ module _ (s ns : List ℕ) (c : PbnCall) (at : ℕ) (t : Bool) (e : t ≡ isKept
 
   -- nothing is stored for a call that is dropped
   pub row-dropped : not t ≡ true → {rows : List ℕ} {r : ℕ} → Room rows r (placedRow s ns at c)
-      → Put rows r (placedRow s ns at c) rows r × (at ≡ at + length (callBytes s ns c))
+      → Put rows r (placedRow s ns at c) rows r × (at ≡ at + length (pbnCallBytes s ns c))
   row-dropped f {rows} {r} h =
       let z = ap length (call-dropped s ns c t e f) in
       (subst (λ (x : List ℕ). Put rows r x rows r) (sym (row-none f)) (finish (start (subst (λ (x : List ℕ). Room rows r x) (row-none f) h))), omega arith)
 
-  module _ (f : not t ≡ false) (fits : at + length (callBytes s ns c) ≤ limit) (b : ℕ) (eb : b ≡ length (bidBytes c)) (n : ℕ) (en : n ≡ sat (length (noteBytes s ns c))) where
+  module _ (f : not t ≡ false) (fits : at + length (pbnCallBytes s ns c) ≤ limit) (b : ℕ) (eb : b ≡ length (bidBytes c)) (n : ℕ) (en : n ≡ sat (length (noteBytes s ns c))) where
     note-is : n ≡ length (noteBytes s ns c)
     note-is = omega (arith, call-long s ns c t e f)
 
     -- the place after the texts
-    pub row-after : at + b + n ≡ at + length (callBytes s ns c)
+    pub row-after : at + b + n ≡ at + length (pbnCallBytes s ns c)
     row-after = omega (arith, call-long s ns c t e f, note-is)
 
-    pub row-kept : rowText at b (at + b) n ≡ placedRow s ns at c
+    pub row-kept : keptRowText at b (at + b) n ≡ placedRow s ns at c
     unfolding placedRow
     row-kept = rw (eb, note-is) (sym (simp (← e, not-fails t f)))
 
@@ -56,7 +56,7 @@ module _ (s ns : List ℕ) (c : PbnCall) (at : ℕ) (t : Bool) (e : t ≡ isKept
 
 module _ (s ns ws : List ℕ) (i at : ℕ) where
   rows-next : 6 ≤ length ws - i → (c : PbnCall) → c ≡ rowAt pbnRow ws i
-      → placedRows s ns at (pbnRows (drop i ws)) ≡ placedRow s ns at c ++ placedRows s ns (at + length (callBytes s ns c)) (pbnRows (drop (i + 6) ws))
+      → placedRows s ns at (pbnRows (drop i ws)) ≡ placedRow s ns at c ++ placedRows s ns (at + length (pbnCallBytes s ns c)) (pbnRows (drop (i + 6) ws))
   unfolding placedRows
   rows-next h c e = rw (rows-front pbnRow ws i h, e) refl
 
@@ -66,10 +66,10 @@ module _ (s ns ws : List ℕ) (i at : ℕ) where
 
   module _ {d : List ℕ} {pos : ℕ} {d₀ : List ℕ} {at₀ : ℕ} {whole : List ℕ} (l : Left d pos (placedRows s ns at (pbnRows (drop i ws))) d₀ at₀ whole) where
     pub row-left : 6 ≤ length ws - i → (c : PbnCall) → c ≡ rowAt pbnRow ws i
-        → Left d pos (placedRow s ns at c ++ placedRows s ns (at + length (callBytes s ns c)) (pbnRows (drop (i + 6) ws))) d₀ at₀ whole
+        → Left d pos (placedRow s ns at c ++ placedRows s ns (at + length (pbnCallBytes s ns c)) (pbnRows (drop (i + 6) ws))) d₀ at₀ whole
     row-left h c e = rw (rows-next h c e) at l
 
-    pub row-step : 6 ≤ length ws - i → (c : PbnCall) → c ≡ rowAt pbnRow ws i → {d′ : List ℕ} {pos′ : ℕ} (at′ : ℕ) → Put d pos (placedRow s ns at c) d′ pos′ → at′ ≡ at + length (callBytes s ns c)
+    pub row-step : 6 ≤ length ws - i → (c : PbnCall) → c ≡ rowAt pbnRow ws i → {d′ : List ℕ} {pos′ : ℕ} (at′ : ℕ) → Put d pos (placedRow s ns at c) d′ pos′ → at′ ≡ at + length (pbnCallBytes s ns c)
         → Left d′ pos′ (placedRows s ns at′ (pbnRows (drop (i + 6) ws))) d₀ at₀ whole
     row-step h c e {d′} {pos′} at′ p k =
         subst (λ (a : ℕ). Left d′ pos′ (placedRows s ns a (pbnRows (drop (i + 6) ws))) d₀ at₀ whole) (sym k) (step (row-left h c e) p)
@@ -78,9 +78,9 @@ module _ (s ns ws : List ℕ) (i at : ℕ) where
     no-row-left h = rw (rows-none h) at l
 
   -- the texts of the call at word i, and of those after it, end within the limit
-  module _ (fits : at + length (callsBytes s ns (pbnRows (drop i ws))) ≤ limit) (h : 6 ≤ length ws - i) (c : PbnCall) (e : c ≡ rowAt pbnRow ws i) where
-    pub fits-here : at + length (callBytes s ns c) ≤ limit
-    fits-here = omega (arith, ap length (calls-next s ns ws i h c e), length-append (callBytes s ns c) (callsBytes s ns (pbnRows (drop (i + 6) ws))))
+  module _ (fits : at + length (pbnCallsBytes s ns (pbnRows (drop i ws))) ≤ limit) (h : 6 ≤ length ws - i) (c : PbnCall) (e : c ≡ rowAt pbnRow ws i) where
+    pub fits-here : at + length (pbnCallBytes s ns c) ≤ limit
+    fits-here = omega (arith, ap length (calls-next s ns ws i h c e), length-append (pbnCallBytes s ns c) (pbnCallsBytes s ns (pbnRows (drop (i + 6) ws))))
 
-    pub fits-next : (at′ : ℕ) → at′ ≡ at + length (callBytes s ns c) → at′ + length (callsBytes s ns (pbnRows (drop (i + 6) ws))) ≤ limit
-    fits-next at′ k = omega (arith, ap length (calls-next s ns ws i h c e), length-append (callBytes s ns c) (callsBytes s ns (pbnRows (drop (i + 6) ws))))
+    pub fits-next : (at′ : ℕ) → at′ ≡ at + length (pbnCallBytes s ns c) → at′ + length (pbnCallsBytes s ns (pbnRows (drop (i + 6) ws))) ≤ limit
+    fits-next at′ k = omega (arith, ap length (calls-next s ns ws i h c e), length-append (pbnCallBytes s ns c) (pbnCallsBytes s ns (pbnRows (drop (i + 6) ws))))

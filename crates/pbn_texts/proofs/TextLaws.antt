@@ -1,6 +1,6 @@
 -- Laws of title, room-and-board and header before cleaning: by the date and by the label, and how long they are. (01: From PBN)
 -- Assumes nothing.
-use Prim.Native.Nat.{ℕ, _+_, _*_, _/_, _^_, _≤_, _<_}
+use Prim.Native.Nat.{ℕ, _+_, _^_, _≤_, _<_}
 use native.Mathlib.Omega.{arith}
 use mathlib.Core.Path.{_≡_, ap, sym, _∙_}
 use mathlib.Core.List.{List, [], _++_, append-nil}
@@ -15,12 +15,11 @@ use Rattle.lin_spec.specs.Pbn.{titleOf, textBy}
 use Rattle.lin_spec.specs.declared.Span.{Span}
 use Rattle.lin_spec.specs.declared.MaybeSpan.{MaybeSpan}
 use Rattle.lin_spec.specs.declared.MaybeSpan.the-variants.{Absent, Present}
-use Rattle.lin_spec.proofs.Base.{split}
-use Rattle.lin_spec.proofs.Decimal.{length-short, length-long}
+use Rattle.lin_spec.proofs.Decimal.{length-short, more-digits}
 use Rattle.writer_texts.specs.Texts.{emptyOr}
 use Rattle.pbn_texts.specs.declared.sources.Label.{Label}
 use Rattle.pbn_texts.specs.Sources.{labelled}
-use Rattle.pbn_texts.specs.Texts.{labelBytes, datedText, titleText, labelsText, labelledText, roomText, headerText}
+use Rattle.pbn_texts.specs.Texts.{labelBytes, datedText, titleText, labelsText, labelledText, roomText, labelHeader}
 
 -- no text is longer than that which it is part of
 pub bytes-most : (s : List ℕ) (y : Span) → length (bytesAt s y) ≤ length s
@@ -28,10 +27,6 @@ unfolding part
 bytes-most s y = omega (arith, length-take (y .len) (drop (y .start) s), length-drop (y .start) s)
 
 -- a number of 32 bits has at most ten digits
-more-digits : (m k : ℕ) → ((n : ℕ) → n < m → length (decimal n) ≤ k) → (n : ℕ) → n < 10 * m → length (decimal n) ≤ k + 1
-more-digits m k f n h =
-    split n 10 (λ l. let e = length-short n l in omega arith) (λ l. let e = length-long n l in let g = f (n / 10) (omega arith) in omega arith)
-
 two-digits : (n : ℕ) → n < 100 → length (decimal n) ≤ 2
 two-digits n h = more-digits 10 1 (λ m l. let e = length-short m l in omega arith) n (omega arith)
 
@@ -67,11 +62,11 @@ module _ (s : List ℕ) (l : Label) where
 
   -- room-and-board, and the header
   pub labels-long : (t : Bool) → t ≡ labelled l → not t ≡ false
-      → (length (roomText s l) ≡ 8 + length (labelBytes s l) + length (labelBytes s l)) × (length (headerText s l) ≡ 6 + length (labelBytes s l))
+      → (length (roomText s l) ≡ 8 + length (labelBytes s l) + length (labelBytes s l)) × (length (labelHeader s l) ≡ 6 + length (labelBytes s l))
   labels-long true e f = (simp (← e, length-append) (omega arith), simp (← e, length-append))
   labels-long false e f = absurd (true≢false f)
 
-  pub labels-none : (t : Bool) → t ≡ labelled l → not t ≡ true → (length (roomText s l) ≡ 0) × (length (headerText s l) ≡ 0)
+  pub labels-none : (t : Bool) → t ≡ labelled l → not t ≡ true → (length (roomText s l) ≡ 0) × (length (labelHeader s l) ≡ 0)
   labels-none true e f = absurd (false≢true f)
   labels-none false e f = (simp (← e), simp (← e))
 

@@ -40,10 +40,10 @@ abbrev pub noteBytes : (s notes : List ℕ) → PbnCall → List ℕ
 noteBytes s ns c = orEmpty (annotationBy s ns (rawOf c))
 
 -- both, for a call that is kept
-unfoldable pub callBytes : (s notes : List ℕ) → PbnCall → List ℕ
-callBytes s ns c = pick (isKept c) (bidBytes c ++ noteBytes s ns c) []
+unfoldable pub pbnCallBytes : (s notes : List ℕ) → PbnCall → List ℕ
+pbnCallBytes s ns c = pick (isKept c) (bidBytes c ++ noteBytes s ns c) []
 
 -- those of the calls, one after the other
-unfoldable pub callsBytes : (s notes : List ℕ) → List PbnCall → List ℕ
-callsBytes s ns [] = []
-callsBytes s ns (c ∷ cs) = callBytes s ns c ++ callsBytes s ns cs
+unfoldable pub pbnCallsBytes : (s notes : List ℕ) → List PbnCall → List ℕ
+pbnCallsBytes s ns [] = []
+pbnCallsBytes s ns (c ∷ cs) = pbnCallBytes s ns c ++ pbnCallsBytes s ns cs

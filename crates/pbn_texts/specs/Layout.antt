@@ -6,13 +6,13 @@ use Rattle.lin_spec.specs.Pbn.{nameBy, laidNames}
 use Rattle.lin_spec.specs.declared.MaybeSpan.{MaybeSpan}
 use Rattle.pbn_texts.specs.declared.sources.Sources.{Sources}
 use Rattle.pbn_texts.specs.declared.layout.Layout.{Layout}
-use Rattle.pbn_texts.specs.Texts.{titleText, roomText, headerText}
-use Rattle.pbn_texts.specs.Names.{namesText}
+use Rattle.pbn_texts.specs.Texts.{titleText, roomText, labelHeader}
+use Rattle.pbn_texts.specs.Names.{pbnNamesText}
 
 -- each text begins where the one before it ends
 unfoldable pub layoutOf : (p q : ℕ) (s : List ℕ) (names : List MaybeSpan) → Sources → Layout
 layoutOf p q s ms x =
-    let title = length (namesText p q s ms) in
+    let title = length (pbnNamesText p q s ms) in
     let room = title + length (titleText s (x .event) (x .date)) in
     let header = room + length (roomText s (x .label)) in
     record {
@@ -20,5 +20,5 @@ layoutOf p q s ms x =
       title = title;
       «room_board» = room;
       header = header;
-      calls = header + length (headerText s (x .label));
+      calls = header + length (labelHeader s (x .label));
     }

@@ -8,11 +8,11 @@ use Rattle.lin_spec.specs.declared.MaybeSpan.{MaybeSpan}
 use Rattle.lin_spec.specs.declared.MaybeSpan.the-variants.{Absent}
 
 -- the name of a seat
-abbrev pub nameAt : (p q : ℕ) (s : List ℕ) → List MaybeSpan → (seat : ℕ) → List ℕ
-nameAt p q s ms i = nameBy p q s (getD ms i Absent)
+abbrev pub pbnNameAt : (p q : ℕ) (s : List ℕ) → List MaybeSpan → (seat : ℕ) → List ℕ
+pbnNameAt p q s ms i = nameBy p q s (getD ms i Absent)
 
-abbrev pub namesPieces : (p q : ℕ) (s : List ℕ) → List MaybeSpan → List (List ℕ)
-namesPieces p q s ms = nameAt p q s ms 0 ∷ nameAt p q s ms 1 ∷ nameAt p q s ms 2 ∷ nameAt p q s ms 3 ∷ []
+abbrev pub pbnNamesPieces : (p q : ℕ) (s : List ℕ) → List MaybeSpan → List (List ℕ)
+pbnNamesPieces p q s ms = pbnNameAt p q s ms 0 ∷ pbnNameAt p q s ms 1 ∷ pbnNameAt p q s ms 2 ∷ pbnNameAt p q s ms 3 ∷ []
 
-unfoldable pub namesText : (p q : ℕ) (s : List ℕ) → List MaybeSpan → List ℕ
-namesText p q s ms = concat (map (nameBy p q s) ms)
+unfoldable pub pbnNamesText : (p q : ℕ) (s : List ℕ) → List MaybeSpan → List ℕ
+pbnNamesText p q s ms = concat (map (nameBy p q s) ms)

@@ -7,16 +7,16 @@ use Rattle.lin_spec.specs.declared.MaybeSpan.{MaybeSpan}
 use Rattle.output.specs.Put.{joined}
 use Rattle.pbn_texts.specs.declared.sources.Sources.{Sources}
 use Rattle.pbn_texts.specs.Texts.{titleText, labelledText}
-use Rattle.pbn_texts.specs.Names.{namesText}
-use Rattle.pbn_texts.specs.Calls.{callsBytes}
+use Rattle.pbn_texts.specs.Names.{pbnNamesText}
+use Rattle.pbn_texts.specs.Calls.{pbnCallsBytes}
 
 -- those after the names, before cleaning
 abbrev pub rawPieces : (s : List ℕ) → Sources → (notes calls : List ℕ) → List (List ℕ)
-rawPieces s x ns ws = titleText s (x .event) (x .date) ∷ labelledText s (x .label) ∷ callsBytes s ns (pbnRows ws) ∷ []
+rawPieces s x ns ws = titleText s (x .event) (x .date) ∷ labelledText s (x .label) ∷ pbnCallsBytes s ns (pbnRows ws) ∷ []
 
 unfoldable pub rawText : (s : List ℕ) → Sources → (notes calls : List ℕ) → List ℕ
 rawText s x ns ws = joined (rawPieces s x ns ws)
 
 -- the names, and those after them cleaned
 unfoldable pub textsOf : (p q : ℕ) (s : List ℕ) (names : List MaybeSpan) → Sources → (notes calls : List ℕ) → List ℕ
-textsOf p q s ms x ns ws = namesText p q s ms ++ clean p q (rawText s x ns ws)
+textsOf p q s ms x ns ws = pbnNamesText p q s ms ++ clean p q (rawText s x ns ws)

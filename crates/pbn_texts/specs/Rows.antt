@@ -6,7 +6,7 @@ use lib.Dec.{eqb}
 use Rattle.lin_spec.specs.Base.{pick}
 use Rattle.lin_spec.specs.declared.PbnCall.{PbnCall}
 use Rattle.output.specs.Put.{joined}
-use Rattle.pbn_texts.specs.Calls.{isKept, bidBytes, noteBytes, callBytes}
+use Rattle.pbn_texts.specs.Calls.{isKept, bidBytes, noteBytes, pbnCallBytes}
 
 abbrev pub threePieces : (x y z : ℕ) → List (List ℕ)
 threePieces x y z = (x ∷ []) ∷ (y ∷ []) ∷ (z ∷ []) ∷ []
@@ -18,17 +18,17 @@ threeText x y z = joined (threePieces x y z)
 abbrev pub notedText : (start len : ℕ) → List ℕ
 notedText a n = pick (eqb n 0) (threeText 0 0 0) (threeText 1 a n)
 
-abbrev pub rowPieces : (bid len start note : ℕ) → List (List ℕ)
-rowPieces b l a n = threeText b l 0 ∷ notedText a n ∷ []
+abbrev pub keptRowPieces : (bid len start note : ℕ) → List (List ℕ)
+keptRowPieces b l a n = threeText b l 0 ∷ notedText a n ∷ []
 
-unfoldable pub rowText : (bid len start note : ℕ) → List ℕ
-rowText b l a n = joined (rowPieces b l a n)
+unfoldable pub keptRowText : (bid len start note : ℕ) → List ℕ
+keptRowText b l a n = joined (keptRowPieces b l a n)
 
 -- the row of a call whose texts stand from `at` on, none where the call is dropped
 unfoldable pub placedRow : (s notes : List ℕ) (at : ℕ) → PbnCall → List ℕ
-placedRow s ns at c = pick (isKept c) (rowText at (length (bidBytes c)) (at + length (bidBytes c)) (length (noteBytes s ns c))) []
+placedRow s ns at c = pick (isKept c) (keptRowText at (length (bidBytes c)) (at + length (bidBytes c)) (length (noteBytes s ns c))) []
 
 -- the rows of calls whose texts stand back to back from there on
 unfoldable pub placedRows : (s notes : List ℕ) (at : ℕ) → List PbnCall → List ℕ
 placedRows s ns at [] = []
-placedRows s ns at (c ∷ cs) = placedRow s ns at c ++ placedRows s ns (at + length (callBytes s ns c)) cs
+placedRows s ns at (c ∷ cs) = placedRow s ns at c ++ placedRows s ns (at + length (pbnCallBytes s ns c)) cs

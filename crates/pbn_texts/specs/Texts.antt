@@ -40,5 +40,5 @@ labelledText s l = pick (labelled l) (labelsText s l) []
 abbrev pub roomText : (s : List ℕ) → Label → List ℕ
 roomText s l = pick (labelled l) (ascii "o" ++ (labelBytes s l ++ (ascii ",BOARD " ++ labelBytes s l))) []
 
-abbrev pub headerText : (s : List ℕ) → Label → List ℕ
-headerText s l = pick (labelled l) (ascii "Board " ++ labelBytes s l) []
+abbrev pub labelHeader : (s : List ℕ) → Label → List ℕ
+labelHeader s l = pick (labelled l) (ascii "Board " ++ labelBytes s l) []

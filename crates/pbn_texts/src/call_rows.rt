@@ -11,8 +11,8 @@ ghost use lib.ListN.{length};
 ghost use Rattle.lin_spec.specs.Records.{limit};
 ghost use Rattle.lin_spec.specs.Pbn.{pbnRows};
 ghost use Rattle.output.specs.Put.{Room, Put};
-ghost use Rattle.pbn_texts.specs.Rows.{threeText, notedText, rowText, placedRow, placedRows};
-ghost use Rattle.pbn_texts.specs.Calls.{callBytes, callsBytes};
+ghost use Rattle.pbn_texts.specs.Rows.{threeText, notedText, keptRowText, placedRow, placedRows};
+ghost use Rattle.pbn_texts.specs.Calls.{pbnCallBytes, pbnCallsBytes};
 
 // Stores three words.
 fn put_three(out: &mut [u32], at: usize, x: u32, y: u32, z: u32) -> usize
@@ -37,8 +37,8 @@ fn put_noted(out: &mut [u32], at: usize, start: u32, len: u32) -> usize
 
 // Stores the row of a call: its bid, no alert, its annotation.
 fn put_kept_row(out: &mut [u32], at: usize, bid: u32, len: u32, start: u32, note: u32) -> usize
-    requires { ⌜ Room (now out) at (rowText bid len start note) ⌝ }
-    ensures { λ r. ⌜ Put (now (out .entry)) at (rowText bid len start note) (now (out .exit)) r ⌝ }
+    requires { ⌜ Room (now out) at (keptRowText bid len start note) ⌝ }
+    ensures { λ r. ⌜ Put (now (out .entry)) at (keptRowText bid len start note) (now (out .exit)) r ⌝ }
 {
     let a = put_three(out, at, bid, len, 0);
     put_noted(out, a, start, note)
@@ -52,8 +52,8 @@ struct Places {
 
 // Stores the row of a call whose texts stand at their place, nothing for a call that is dropped.
 fn put_placed(rows: &mut [u32], p: Places, text: &[u8], c: PbnCall, notes: &[u32; 768]) -> Places
-    requires { ⌜ Room (now rows) (p .row) (placedRow (now text) (now notes) (p .text) c) × (p .text + length (callBytes (now text) (now notes) c) ≤ limit) ⌝ }
-    ensures { λ r. ⌜ Put (now (rows .entry)) (p .row) (placedRow (now (text .entry)) (now (notes .entry)) (p .text) c) (now (rows .exit)) (r .row) × (r .text ≡ p .text + length (callBytes (now (text .entry)) (now (notes .entry)) c)) ⌝ }
+    requires { ⌜ Room (now rows) (p .row) (placedRow (now text) (now notes) (p .text) c) × (p .text + length (pbnCallBytes (now text) (now notes) c) ≤ limit) ⌝ }
+    ensures { λ r. ⌜ Put (now (rows .entry)) (p .row) (placedRow (now (text .entry)) (now (notes .entry)) (p .text) c) (now (rows .exit)) (r .row) × (r .text ≡ p .text + length (pbnCallBytes (now (text .entry)) (now (notes .entry)) c)) ⌝ }
 {
     if !is_kept(c) {
         return p;
@@ -76,7 +76,7 @@ pub fn put_kept_rows(
     calls: &[u32],
     notes: &[u32; 768],
 ) -> usize
-    requires { ⌜ Room (now rows) 0 (placedRows (now text) (now notes) at (pbnRows (now calls))) × (at + length (callsBytes (now text) (now notes) (pbnRows (now calls))) ≤ limit) ⌝ }
+    requires { ⌜ Room (now rows) 0 (placedRows (now text) (now notes) at (pbnRows (now calls))) × (at + length (pbnCallsBytes (now text) (now notes) (pbnRows (now calls))) ≤ limit) ⌝ }
     ensures { λ r. ⌜ Put (now (rows .entry)) 0 (placedRows (now (text .entry)) (now (notes .entry)) at (pbnRows (now (calls .entry)))) (now (rows .exit)) r ⌝ }
 {
     let mut i = 0;

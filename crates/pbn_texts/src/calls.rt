@@ -14,7 +14,7 @@ ghost use Rattle.lin_spec.specs.Base.{any};
 ghost use Rattle.lin_spec.specs.Refusals.{sat};
 ghost use Rattle.lin_spec.specs.Pbn.{pbnRows, keptCards, badCall};
 ghost use Rattle.output.specs.Put.{Room, Put};
-ghost use Rattle.pbn_texts.specs.Calls.{keptLetter, bidBytes, noteBytes, callBytes, callsBytes, keptOne, keptMany, isKept, levelText};
+ghost use Rattle.pbn_texts.specs.Calls.{keptLetter, bidBytes, noteBytes, pbnCallBytes, pbnCallsBytes, keptOne, keptMany, isKept, levelText};
 
 const STRAINS: [u8; 5] = *b"CDHSN";
 
@@ -164,8 +164,8 @@ pub(crate) fn pbn_note_len(text: &[u8], c: PbnCall, notes: &[u32; 768]) -> u64
 
 // Puts the texts of a call, nothing for a call that is dropped.
 fn put_pbn_call(out: &mut [u8], at: usize, text: &[u8], c: PbnCall, notes: &[u32; 768]) -> usize
-    requires { ⌜ Room (now out) at (callBytes (now text) (now notes) c) × (badCall c ≡ false) ⌝ }
-    ensures { λ r. ⌜ Put (now (out .entry)) at (callBytes (now (text .entry)) (now (notes .entry)) c) (now (out .exit)) r ⌝ }
+    requires { ⌜ Room (now out) at (pbnCallBytes (now text) (now notes) c) × (badCall c ≡ false) ⌝ }
+    ensures { λ r. ⌜ Put (now (out .entry)) at (pbnCallBytes (now (text .entry)) (now (notes .entry)) c) (now (out .exit)) r ⌝ }
 {
     if !is_kept(c) {
         return at;
@@ -176,7 +176,7 @@ fn put_pbn_call(out: &mut [u8], at: usize, text: &[u8], c: PbnCall, notes: &[u32
 
 // 0 for a call that is dropped.
 fn pbn_call_len(text: &[u8], c: PbnCall, notes: &[u32; 768]) -> u64
-    ensures { λ r. ⌜ r ≡ sat (length (callBytes (now (text .entry)) (now (notes .entry)) c)) ⌝ }
+    ensures { λ r. ⌜ r ≡ sat (length (pbnCallBytes (now (text .entry)) (now (notes .entry)) c)) ⌝ }
 {
     if !is_kept(c) {
         return 0;
@@ -192,8 +192,8 @@ pub(crate) fn put_pbn_calls(
     calls: &[u32],
     notes: &[u32; 768],
 ) -> usize
-    requires { ⌜ Room (now out) at (callsBytes (now text) (now notes) (pbnRows (now calls))) × (any badCall (pbnRows (now calls)) ≡ false) ⌝ }
-    ensures { λ r. ⌜ Put (now (out .entry)) at (callsBytes (now (text .entry)) (now (notes .entry)) (pbnRows (now (calls .entry)))) (now (out .exit)) r ⌝ }
+    requires { ⌜ Room (now out) at (pbnCallsBytes (now text) (now notes) (pbnRows (now calls))) × (any badCall (pbnRows (now calls)) ≡ false) ⌝ }
+    ensures { λ r. ⌜ Put (now (out .entry)) at (pbnCallsBytes (now (text .entry)) (now (notes .entry)) (pbnRows (now (calls .entry)))) (now (out .exit)) r ⌝ }
 {
     let mut i = 0;
     let mut o = at;
@@ -206,7 +206,7 @@ pub(crate) fn put_pbn_calls(
 
 // No more than 2^64 less 1 is counted.
 pub fn pbn_calls_len(text: &[u8], calls: &[u32], notes: &[u32; 768]) -> u64
-    ensures { λ r. ⌜ r ≡ sat (length (callsBytes (now (text .entry)) (now (notes .entry)) (pbnRows (now (calls .entry))))) ⌝ }
+    ensures { λ r. ⌜ r ≡ sat (length (pbnCallsBytes (now (text .entry)) (now (notes .entry)) (pbnRows (now (calls .entry))))) ⌝ }
 {
     let mut i = 0;
     let mut n = 0;

@@ -11,7 +11,7 @@ ghost use lib.ListN.{length};
 ghost use Rattle.lin_spec.specs.Records.{limit};
 ghost use Rattle.lin_spec.specs.Pbn.{nameBy, laidNames};
 ghost use Rattle.output.specs.Put.{Room, Put};
-ghost use Rattle.pbn_texts.specs.Names.{namesText};
+ghost use Rattle.pbn_texts.specs.Names.{pbnNamesText};
 
 // Puts a name, nothing where it is absent.
 fn put_one(out: &mut [u8], at: usize, text: &[u8], x: MaybeSpan, marks: Marks) -> usize
@@ -42,8 +42,8 @@ pub(crate) fn put_pbn_names(
     names: [MaybeSpan; 4],
     marks: Marks,
 ) -> usize
-    requires { ⌜ Room (now out) at (namesText (marks .pipe) (marks .line) (now text) names) ⌝ }
-    ensures { λ r. ⌜ Put (now (out .entry)) at (namesText (marks .pipe) (marks .line) (now (text .entry)) names) (now (out .exit)) r ⌝ }
+    requires { ⌜ Room (now out) at (pbnNamesText (marks .pipe) (marks .line) (now text) names) ⌝ }
+    ensures { λ r. ⌜ Put (now (out .entry)) at (pbnNamesText (marks .pipe) (marks .line) (now (text .entry)) names) (now (out .exit)) r ⌝ }
 {
     let s = names[0];
     let w = names[1];

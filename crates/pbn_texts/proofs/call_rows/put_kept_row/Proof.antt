@@ -6,16 +6,16 @@ use lib.ListN.{drop}
 use denote.Ref.{now}
 use Rattle.output.specs.Put.{joined}
 use Rattle.output.proofs.Laws.{Left, start, roomy, step, finish}
-use Rattle.pbn_texts.specs.Rows.{rowPieces, rowText}
+use Rattle.pbn_texts.specs.Rows.{keptRowPieces, keptRowText}
 use Rattle.pbn_texts.proofs.call_rows.put_kept_row.Statement.{statement}
 use Rattle.pbn_texts.proofs.call_rows.put_kept_row.Tie as tie
 
 -- what is left to write after k of the puts
 abbrev After : ℕ → tie.Start → List ℕ → ℕ → Type 0
-After k s d pos = Left d pos (joined (drop k (rowPieces (s .args .bid) (s .args .len) (s .args .start) (s .args .note)))) (now (s .args .out)) (s .args .at) (rowText (s .args .bid) (s .args .len) (s .args .start) (s .args .note))
+After k s d pos = Left d pos (joined (drop k (keptRowPieces (s .args .bid) (s .args .len) (s .args .start) (s .args .note)))) (now (s .args .out)) (s .args .at) (keptRowText (s .args .bid) (s .args .len) (s .args .start) (s .args .note))
 
 after-0 : (s : tie.Start) → After 0 s (now (s .args .out)) (s .args .at)
-unfolding rowText
+unfolding keptRowText
 after-0 s = start (s .pre)
 
 after-1 : (c : tie.After-put-three) → After 1 (c .before .before .before) (c .put-three .last .0) (c .put-three .result)

@@ -7,14 +7,14 @@ use denote.Ref.{now}
 use Rattle.lin_spec.specs.Records.{limit}
 use Rattle.lin_spec.specs.Pbn.{pbnRows}
 use Rattle.output.proofs.Laws.{Left, start, roomy, finish}
-use Rattle.pbn_texts.specs.Calls.{callsBytes}
+use Rattle.pbn_texts.specs.Calls.{pbnCallsBytes}
 use Rattle.pbn_texts.specs.Rows.{placedRows}
 use Rattle.pbn_texts.proofs.RowLaws.{row-left, row-step, no-row-left, fits-here, fits-next}
 use Rattle.pbn_texts.proofs.call_rows.put_kept_rows.Statement.{statement}
 use Rattle.pbn_texts.proofs.call_rows.put_kept_rows.Tie as tie
 
 abbrev Inv-loop : tie.InvT-loop
-Inv-loop rows₀ at text calls notes i₀ p₀ rows i p = (i ≤ length calls) × Left rows (p .row) (placedRows text notes (p .text) (pbnRows (drop i calls))) rows₀ 0 (placedRows text notes at (pbnRows calls)) × (p .text + length (callsBytes text notes (pbnRows (drop i calls))) ≤ limit)
+Inv-loop rows₀ at text calls notes i₀ p₀ rows i p = (i ≤ length calls) × Left rows (p .row) (placedRows text notes (p .text) (pbnRows (drop i calls))) rows₀ 0 (placedRows text notes at (pbnRows calls)) × (p .text + length (pbnCallsBytes text notes (pbnRows (drop i calls))) ≤ limit)
 
 abbrev μ-loop : tie.MeasureT-loop
 μ-loop rows₀ at text calls notes i₀ p₀ rows i p = length calls - i

@@ -7,13 +7,13 @@ use lib.ListN.{length, drop}
 use denote.Ref.{now}
 use Rattle.lin_spec.specs.Refusals.{sat}
 use Rattle.lin_spec.specs.Pbn.{pbnRows}
-use Rattle.pbn_texts.specs.Calls.{callsBytes}
+use Rattle.pbn_texts.specs.Calls.{pbnCallsBytes}
 use Rattle.pbn_texts.proofs.CallLaws.{count-call, count-none}
 use Rattle.pbn_texts.proofs.calls.pbn_calls_len.Statement.{statement}
 use Rattle.pbn_texts.proofs.calls.pbn_calls_len.Tie as tie
 
 abbrev Inv-loop : tie.InvT-loop
-Inv-loop text calls notes i₀ n₀ i n = (i ≤ length calls) × (sat (n + length (callsBytes text notes (pbnRows (drop i calls)))) ≡ sat (length (callsBytes text notes (pbnRows calls)))) × (n < 2 ^ 64)
+Inv-loop text calls notes i₀ n₀ i n = (i ≤ length calls) × (sat (n + length (pbnCallsBytes text notes (pbnRows (drop i calls)))) ≡ sat (length (pbnCallsBytes text notes (pbnRows calls)))) × (n < 2 ^ 64)
 
 abbrev μ-loop : tie.MeasureT-loop
 μ-loop text calls notes i₀ n₀ i n = length calls - i

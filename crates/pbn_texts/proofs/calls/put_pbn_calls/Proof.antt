@@ -9,13 +9,13 @@ use denote.Ref.{now}
 use Rattle.lin_spec.specs.Base.{any}
 use Rattle.lin_spec.specs.Pbn.{pbnRows, badCall}
 use Rattle.output.proofs.Laws.{Left, start, roomy, step, finish}
-use Rattle.pbn_texts.specs.Calls.{callsBytes}
+use Rattle.pbn_texts.specs.Calls.{pbnCallsBytes}
 use Rattle.pbn_texts.proofs.CallLaws.{call-left, none-left, sound-next}
 use Rattle.pbn_texts.proofs.calls.put_pbn_calls.Statement.{statement}
 use Rattle.pbn_texts.proofs.calls.put_pbn_calls.Tie as tie
 
 abbrev Inv-loop : tie.InvT-loop
-Inv-loop out₀ at text calls notes i₀ o₀ out i o = (i ≤ length calls) × Left out o (callsBytes text notes (pbnRows (drop i calls))) out₀ at (callsBytes text notes (pbnRows calls)) × (any badCall (pbnRows (drop i calls)) ≡ false)
+Inv-loop out₀ at text calls notes i₀ o₀ out i o = (i ≤ length calls) × Left out o (pbnCallsBytes text notes (pbnRows (drop i calls))) out₀ at (pbnCallsBytes text notes (pbnRows calls)) × (any badCall (pbnRows (drop i calls)) ≡ false)
 
 abbrev μ-loop : tie.MeasureT-loop
 μ-loop out₀ at text calls notes i₀ o₀ out i o = length calls - i

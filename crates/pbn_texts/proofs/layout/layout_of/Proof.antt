@@ -8,7 +8,7 @@ use denote.Ref.{now}
 use Rattle.lin_spec.specs.Records.{span}
 use Rattle.lin_spec.specs.declared.Span.{Span}
 use Rattle.pbn_texts.specs.Texts.{titleText}
-use Rattle.pbn_texts.specs.Names.{namesText}
+use Rattle.pbn_texts.specs.Names.{pbnNamesText}
 use Rattle.pbn_texts.proofs.TextLaws.{title-most}
 use Rattle.pbn_texts.proofs.NameLaws.{names-end, names-most}
 use Rattle.pbn_texts.proofs.LayoutLaws.{layout-plain, layout-labelled}
@@ -18,7 +18,7 @@ use Rattle.pbn_texts.proofs.layout.layout_of.Tie as tie
 
 -- the names and the title, by how many bytes they have
 abbrev names : tie.Start → ℕ
-names s = length (namesText (s .args .marks .pipe) (s .args .marks .line) (now (s .args .text)) (s .args .names))
+names s = length (pbnNamesText (s .args .marks .pipe) (s .args .marks .line) (now (s .args .text)) (s .args .names))
 
 abbrev title : tie.Start → ℕ
 title s = length (titleText (now (s .args .text)) (s .args .sources .event) (s .args .sources .date))

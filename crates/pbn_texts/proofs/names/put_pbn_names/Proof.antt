@@ -7,14 +7,14 @@ use denote.Ref.{now}
 use borrow.Author.Needs.{needs}
 use Rattle.output.specs.Put.{joined}
 use Rattle.output.proofs.Laws.{Left, start, roomy, step, finish}
-use Rattle.pbn_texts.specs.Names.{namesPieces, namesText}
+use Rattle.pbn_texts.specs.Names.{pbnNamesPieces, pbnNamesText}
 use Rattle.pbn_texts.proofs.NameLaws.{names-are}
 use Rattle.pbn_texts.proofs.names.put_pbn_names.Statement.{statement}
 use Rattle.pbn_texts.proofs.names.put_pbn_names.Tie as tie
 
 -- what is left to write after k of the puts
 abbrev After : ℕ → tie.Start → List ℕ → ℕ → Type 0
-After k s d pos = Left d pos (joined (drop k (namesPieces (s .args .marks .pipe) (s .args .marks .line) (now (s .args .text)) (s .args .t4)))) (now (s .args .out)) (s .args .at) (namesText (s .args .marks .pipe) (s .args .marks .line) (now (s .args .text)) (s .args .t4))
+After k s d pos = Left d pos (joined (drop k (pbnNamesPieces (s .args .marks .pipe) (s .args .marks .line) (now (s .args .text)) (s .args .t4)))) (now (s .args .out)) (s .args .at) (pbnNamesText (s .args .marks .pipe) (s .args .marks .line) (now (s .args .text)) (s .args .t4))
 
 after-0 : (s : tie.Start) → After 0 s (now (s .args .out)) (s .args .at)
 after-0 s = rw (← names-are (s .args .marks .pipe) (s .args .marks .line) (now (s .args .text)) (s .args .t4) (search needs)) (start (s .pre))

@@ -5,7 +5,7 @@ use mathlib.Core.List.{List, _++_}
 use denote.Ref.{now}
 use Rattle.lin_spec.specs.Writer.{clean}
 use Rattle.output.specs.Put.{Room}
-use Rattle.pbn_texts.specs.Names.{namesText}
+use Rattle.pbn_texts.specs.Names.{pbnNamesText}
 use Rattle.pbn_texts.specs.Raw.{rawText, textsOf}
 use Rattle.pbn_texts.proofs.RawLaws.{first-fits, second-fits, second-ends, cleaned-put}
 use borrow.Author.Needs.{needs}
@@ -14,7 +14,7 @@ use Rattle.pbn_texts.proofs.raw.put_texts.Tie as tie
 
 -- the names, and the texts after them
 abbrev names : tie.Start → List ℕ
-names s = namesText (s .args .marks .pipe) (s .args .marks .line) (now (s .args .text)) (s .args .names)
+names s = pbnNamesText (s .args .marks .pipe) (s .args .marks .line) (now (s .args .text)) (s .args .names)
 
 abbrev others : tie.Start → List ℕ
 others s = rawText (now (s .args .text)) (s .args .sources) (now (s .args .notes)) (now (s .args .calls))
