@@ -404,7 +404,8 @@ LinAnswer lin_same_board(const uint8_t *text, size_t text_len, LinBoard board,
 /* ---- From PBN ----
  *
  * The notes are LIN_NOTES words, three for each number of 0 to 255: 0 if the note
- * is absent and any other number if it is there, then its span. */
+ * is absent and any other number if it is there, then its span. A code, a flag or
+ * a number of the record that is outside its range is refused by 8. */
 
 /* Writes the text of the raw annotation at a span from the first byte of the
  * output on. Refusals 1, 5, 6 and 7. */

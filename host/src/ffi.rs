@@ -25,11 +25,11 @@ pub struct LinStep {
     pub found: u32,
     /// Where the command begins.
     pub command_start: u64,
-    /// How many bytes it has.
+    /// Its length in bytes.
     pub command_len: u64,
     /// Where the value begins.
     pub value_start: u64,
-    /// How many bytes it has.
+    /// Its length in bytes.
     pub value_len: u64,
     /// The place after the token.
     pub next: u64,
@@ -41,7 +41,7 @@ pub struct LinStep {
 pub struct LinPart {
     /// The place of its first byte.
     pub start: u64,
-    /// How many bytes it has.
+    /// Its length in bytes.
     pub len: u64,
 }
 
@@ -53,7 +53,7 @@ pub struct LinText {
     pub present: u32,
     /// The place of its first byte.
     pub start: u32,
-    /// How many bytes it has.
+    /// Its length in bytes.
     pub len: u32,
 }
 

@@ -45,7 +45,7 @@ impl Part {
 pub struct Span {
     /// The place of its first byte.
     pub start: u32,
-    /// How many bytes it has.
+    /// Its length in bytes.
     pub len: u32,
 }
 

@@ -30,7 +30,7 @@ use Rattle.lin_spec.specs.declared.Refusal.{Refusal}
 use Rattle.lin_spec.specs.declared.Refusal.the-variants.{TextTooLong, OutOfRange, SpanPastEnd, SpanNotUtf8}
 use Rattle.lin_spec.proofs.Base.{split, eq-list, and-left, and-right}
 use Rattle.lin_spec.proofs.Checks.{unmet, unless-refused, unless-passed}
-use Rattle.board_lent.specs.Calls.{callAt, spansOf}
+use Rattle.board_lent.specs.Calls.{callAt, spansOfCall}
 use Rattle.board_lent.specs.declared.heads.Head.{Head}
 use Rattle.board_lent.specs.declared.checks.Bounds.{Bounds}
 use Rattle.board_lent.specs.Heads.{boardOf}
@@ -39,7 +39,7 @@ use Rattle.board_lent.proofs.LentLaws.{rows-cons, rows-count, no-rows, rows-end
 use Rattle.text.specs.Apart.{common}
 use Rattle.text.proofs.ApartLaws.{common-left, near-same, whole-same}
 use Rattle.board_equality.proofs.EqualityMeaning.{all-self, call-self, deal-self}
-use Rattle.board_equality.specs.Parts.{callTexts, callsTexts, sameDealt, sameText, sameTexts, samePlay, mostChecks, mostChecked, unlikeBut}
+use Rattle.board_equality.specs.Parts.{callInBytes, callsInBytes, sameDealt, sameText, sameTexts, samePlay, mostChecks, mostChecked, unlikeBut}
 
 -- One part, and those after it: a part that differs decides, one that is the same leaves it to the others
 
@@ -195,7 +195,7 @@ module _ (a b : ℕ) where
       go false e false = refl
 
 module _ (s : List ℕ) (c : Call) (t : List ℕ) (d : Call) where
-  pub bare-left : c .annotated ≡ 0 → eqb (d .annotated) 0 ≡ eqOption eqList (callTexts s c .annotation) (callTexts t d .annotation)
+  pub bare-left : c .annotated ≡ 0 → eqb (d .annotated) 0 ≡ eqOption eqList (callInBytes s c .annotation) (callInBytes t d .annotation)
   bare-left h = simp (eq-eqb _ _ h) (go (eqb (d .annotated) 0))
     where
       go : (u : Bool) → u ≡ eqOption eqList none (mapOption (bytesAt t) (pick u none (some (d .annotation))))
@@ -203,36 +203,36 @@ module _ (s : List ℕ) (c : Call) (t : List ℕ) (d : Call) where
       go false = refl
 
   module _ (h : c .annotated ≡ 0 → ⊥) where
-    pub bare-right : d .annotated ≡ 0 → false ≡ eqOption eqList (callTexts s c .annotation) (callTexts t d .annotation)
+    pub bare-right : d .annotated ≡ 0 → false ≡ eqOption eqList (callInBytes s c .annotation) (callInBytes t d .annotation)
     bare-right k = simp (ne-eqb _ _ h, eq-eqb _ _ k)
 
     pub both-annotated : (d .annotated ≡ 0 → ⊥) → (r : Bool) → r ≡ eqList (bytesAt s (c .annotation)) (bytesAt t (d .annotation))
-        → r ≡ eqOption eqList (callTexts s c .annotation) (callTexts t d .annotation)
+        → r ≡ eqOption eqList (callInBytes s c .annotation) (callInBytes t d .annotation)
     both-annotated k r e = simp (ne-eqb _ _ h, ne-eqb _ _ k, e)
 
 -- Calls, row by row
 
-calls-length : (s ws : List ℕ) → length (callsTexts s ws) ≡ length (callRows ws)
+calls-length : (s ws : List ℕ) → length (callsInBytes s ws) ≡ length (callRows ws)
 calls-length s ws = length-map (map callIn (callRows ws)) (mapCall (bytesAt s)) ∙ length-map (callRows ws) callIn
 
 abbrev callsFrom : (s ws t us : List ℕ) (i : ℕ) → Bool
-callsFrom s ws t us i = eqAll eqCall (callsTexts s (drop i ws)) (callsTexts t (drop i us))
+callsFrom s ws t us i = eqAll eqCall (callsInBytes s (drop i ws)) (callsInBytes t (drop i us))
 
 -- as many calls remain, and they decide as all do
 pub record Rows (s ws t us : List ℕ) (i : ℕ) : Type 0 where
   pub within : i ≤ length ws
   pub many : length (callRows (drop i ws)) ≡ length (callRows (drop i us))
-  pub same : callsFrom s ws t us i ≡ eqAll eqCall (callsTexts s ws) (callsTexts t us)
+  pub same : callsFrom s ws t us i ≡ eqAll eqCall (callsInBytes s ws) (callsInBytes t us)
 
 module _ (s ws t us : List ℕ) where
-  pub rows-differ : (length ws / 6 ≡ length us / 6 → ⊥) → false ≡ eqAll eqCall (callsTexts s ws) (callsTexts t us)
-  rows-differ h = all-length eqCall (callsTexts s ws) (callsTexts t us) (λ e. h (sym (calls-length s ws ∙ rows-count ws) ∙ e ∙ (calls-length t us ∙ rows-count us)))
+  pub rows-differ : (length ws / 6 ≡ length us / 6 → ⊥) → false ≡ eqAll eqCall (callsInBytes s ws) (callsInBytes t us)
+  rows-differ h = all-length eqCall (callsInBytes s ws) (callsInBytes t us) (λ e. h (sym (calls-length s ws ∙ rows-count ws) ∙ e ∙ (calls-length t us ∙ rows-count us)))
 
   pub rows-begin : length ws / 6 ≡ length us / 6 → Rows s ws t us 0
   rows-begin h = record { within = omega arith; many = rows-count ws ∙ h ∙ sym (rows-count us); same = refl }
 
   module _ (i : ℕ) (v : Rows s ws t us i) where
-    pub rows-over : length ws - i < 6 → true ≡ eqAll eqCall (callsTexts s ws) (callsTexts t us)
+    pub rows-over : length ws - i < 6 → true ≡ eqAll eqCall (callsInBytes s ws) (callsInBytes t us)
     unfolding eqAll
     rows-over h =
         let a = rows-end ws i h in
@@ -246,15 +246,15 @@ module _ (s ws t us : List ℕ) where
           (λ k. absurd (let z : ⊥ = omega (arith, v .many, ap length (rows-cons ws i h), ap length (rows-end us i k)) in z))
           (λ k. k)
 
-      module _ (c : Call) (ec : c ≡ callAt ws i) (d : Call) (ed : d ≡ callAt us i) (r : Bool) (e : r ≡ eqCall (callTexts s c) (callTexts t d)) where
-        both-is : r ≡ eqCall (callTexts s (callAt ws i)) (callTexts t (callAt us i))
-        both-is = e ∙ ap (λ (x : Call). eqCall (callTexts s x) (callTexts t d)) ec ∙ ap (λ (x : Call). eqCall (callTexts s (callAt ws i)) (callTexts t x)) ed
+      module _ (c : Call) (ec : c ≡ callAt ws i) (d : Call) (ed : d ≡ callAt us i) (r : Bool) (e : r ≡ eqCall (callInBytes s c) (callInBytes t d)) where
+        both-is : r ≡ eqCall (callInBytes s (callAt ws i)) (callInBytes t (callAt us i))
+        both-is = e ∙ ap (λ (x : Call). eqCall (callInBytes s x) (callInBytes t d)) ec ∙ ap (λ (x : Call). eqCall (callInBytes s (callAt ws i)) (callInBytes t x)) ed
 
         rows-both : callsFrom s ws t us i ≡ (r && callsFrom s ws t us (i + 6))
         unfolding eqAll
         rows-both = rw (rows-cons ws i h, rows-cons us i other-row, both-is) refl
 
-        pub row-differs : not r ≡ true → false ≡ eqAll eqCall (callsTexts s ws) (callsTexts t us)
+        pub row-differs : not r ≡ true → false ≡ eqAll eqCall (callsInBytes s ws) (callsInBytes t us)
         row-differs q = turn-stop _ _ r (callsFrom s ws t us (i + 6)) (v .same) rows-both q
 
         pub row-next : not r ≡ false → Rows s ws t us (i + 6)
@@ -266,18 +266,18 @@ module _ (s ws t us : List ℕ) where
             }
 
 -- those of the same rows over the same text are the same
-pub calls-copied : (s ws t us : List ℕ) → s ≡ t → (u : Bool) → u ≡ eqList ws us → u ≡ true → true ≡ eqAll eqCall (callsTexts s ws) (callsTexts t us)
+pub calls-copied : (s ws t us : List ℕ) → s ≡ t → (u : Bool) → u ≡ eqList ws us → u ≡ true → true ≡ eqAll eqCall (callsInBytes s ws) (callsInBytes t us)
 calls-copied s ws t us h u e k =
-    sym (ap (λ (x : List ℕ). eqAll eqCall (callsTexts s ws) (callsTexts x us)) (sym h)
-    ∙ ap (λ (x : List ℕ). eqAll eqCall (callsTexts s ws) (callsTexts s x)) (sym (eq-list ws us (sym e ∙ k)))
-    ∙ all-self eqCall call-self (callsTexts s ws))
+    sym (ap (λ (x : List ℕ). eqAll eqCall (callsInBytes s ws) (callsInBytes x us)) (sym h)
+    ∙ ap (λ (x : List ℕ). eqAll eqCall (callsInBytes s ws) (callsInBytes s x)) (sym (eq-list ws us (sym e ∙ k)))
+    ∙ all-self eqCall call-self (callsInBytes s ws))
 
 -- The whole: its parts in order
 
 module _ (s : List ℕ) (b : Board) (ws cs t : List ℕ) (c : Board) (us ds : List ℕ) where
   equal-is : equal (meaning (lent s b ws cs)) (meaning (lent t c us ds))
       ≡ (eqAll eqList (map (bytesAt s) (b .names)) (map (bytesAt t) (c .names))
-      && (sameDealt b c && (sameTexts s b t c && (eqAll eqCall (callsTexts s ws) (callsTexts t us) && samePlay cs b ds c))))
+      && (sameDealt b c && (sameTexts s b t c && (eqAll eqCall (callsInBytes s ws) (callsInBytes t us) && samePlay cs b ds c))))
   unfolding equal meaning mapBoard lentBoard
   equal-is = simp and-assoc
 
@@ -293,7 +293,7 @@ module _ (s : List ℕ) (b : Board) (ws cs t : List ℕ) (c : Board) (us ds : Li
         pub unlike-texts : not k ≡ true → false ≡ equal (meaning (lent s b ws cs)) (meaning (lent t c us ds))
         unlike-texts h = and-pass _ _ _ i ei hi (and-pass _ _ _ j ej hj (and-stop _ _ k ek h)) ∙ sym equal-is
 
-        module _ (hk : not k ≡ false) (l : Bool) (el : l ≡ eqAll eqCall (callsTexts s ws) (callsTexts t us)) where
+        module _ (hk : not k ≡ false) (l : Bool) (el : l ≡ eqAll eqCall (callsInBytes s ws) (callsInBytes t us)) where
           pub unlike-calls : not l ≡ true → false ≡ equal (meaning (lent s b ws cs)) (meaning (lent t c us ds))
           unlike-calls h = and-pass _ _ _ i ei hi (and-pass _ _ _ j ej hj (and-pass _ _ _ k ek hk (and-stop _ _ l el h))) ∙ sym equal-is
 
@@ -416,7 +416,7 @@ module _ (s t : List ℕ) where
       let q = and-right (eqList (bytesAt s a) (bytesAt t b)) (eqAll eqList (map (bytesAt s) x) (map (bytesAt t) y)) h in
       rw (span-ill a b p, names-ill x y q) refl
 
-  call-ill : (c d : Call) → eqCall (callTexts s c) (callTexts t d) ≡ true → any (illSpan s) (spansOf c) ≡ any (illSpan t) (spansOf d)
+  call-ill : (c d : Call) → eqCall (callInBytes s c) (callInBytes t d) ≡ true → any (illSpan s) (spansOfCall c) ≡ any (illSpan t) (spansOfCall d)
   unfolding any eqCall
   call-ill c d h =
       let p = and-left (eqList (bytesAt s (c .bid)) (bytesAt t (d .bid))) _ h in
@@ -424,14 +424,14 @@ module _ (s t : List ℕ) where
       rw (span-ill (c .bid) (d .bid) p, option-ill (callIn c .annotation) (callIn d .annotation) q) refl
 
   calls-ill : (x y : List Call) → eqAll eqCall (map (mapCall (bytesAt s)) (map callIn x)) (map (mapCall (bytesAt t)) (map callIn y)) ≡ true
-      → any (λ c. any (illSpan s) (spansOf c)) x ≡ any (λ c. any (illSpan t) (spansOf c)) y
+      → any (λ c. any (illSpan s) (spansOfCall c)) x ≡ any (λ c. any (illSpan t) (spansOfCall c)) y
   unfolding any eqAll
   calls-ill [] [] h = refl
   calls-ill [] (b ∷ y) h = absurd (false≢true h)
   calls-ill (a ∷ x) [] h = absurd (false≢true h)
   calls-ill (a ∷ x) (b ∷ y) h =
-      let p = and-left (eqCall (callTexts s a) (callTexts t b)) _ h in
-      let q = and-right (eqCall (callTexts s a) (callTexts t b)) _ h in
+      let p = and-left (eqCall (callInBytes s a) (callInBytes t b)) _ h in
+      let q = and-right (eqCall (callInBytes s a) (callInBytes t b)) _ h in
       rw (call-ill a b p, calls-ill x y q) refl
 
 module _ (s : List ℕ) (h : Head) (ds ws cs t : List ℕ) (k : Head) (es us fs : List ℕ) where
@@ -443,7 +443,7 @@ module _ (s : List ℕ) (h : Head) (ds ws cs t : List ℕ) (k : Head) (es us fs 
       let texts = sameTexts s (boardOf h ds) t (boardOf k es) in
       let title = sameText s (h .title) t (k .title) in
       let room = sameText s (h .«room_board») t (k .«room_board») in
-      let calls = eqAll eqCall (callsTexts s ws) (callsTexts t us) in
+      let calls = eqAll eqCall (callsInBytes s ws) (callsInBytes t us) in
       let a = sym (equal-is s (boardOf h ds) ws cs t (boardOf k es) us fs) ∙ e in
       let b = and-right dealt _ (and-right names _ a) in
       let c = and-left texts _ b in

@@ -20,11 +20,11 @@ use Rattle.lin_spec.specs.declared.Refusal.the-variants.{OutOfRange, SpanNotUtf
 use Rattle.board_lent.specs.Checks.{amiss}
 
 -- a call with its texts as bytes, and the calls of the rows
-abbrev pub callTexts : (s : List ℕ) → Call → CallOf (List ℕ)
-callTexts s c = mapCall (bytesAt s) (callIn c)
+abbrev pub callInBytes : (s : List ℕ) → Call → CallOf (List ℕ)
+callInBytes s c = mapCall (bytesAt s) (callIn c)
 
-abbrev pub callsTexts : (s ws : List ℕ) → List (CallOf (List ℕ))
-callsTexts s ws = map (mapCall (bytesAt s)) (map callIn (callRows ws))
+abbrev pub callsInBytes : (s ws : List ℕ) → List (CallOf (List ℕ))
+callsInBytes s ws = map (mapCall (bytesAt s)) (map callIn (callRows ws))
 
 -- the parts of `equal`, in its order, after the names and around the calls
 abbrev pub sameDealt : (b c : Board) → Bool

@@ -22,7 +22,7 @@ ghost use Rattle.lin_spec.specs.Records.{limit, endOf, bytesAt, optionOf};
 ghost use Rattle.lin_spec.specs.Board.{mapOption};
 ghost use Rattle.lin_spec.specs.Equality.{eqOption, eqFlag, eqCall};
 ghost use Rattle.text.specs.Apart.{common, Apart};
-ghost use Rattle.board_equality.specs.Parts.{callTexts, callsTexts};
+ghost use Rattle.board_equality.specs.Parts.{callInBytes, callsInBytes};
 
 // Two texts have at least so many bytes in common from the first on. It is 0 where the texts of the rows are looked at one by one, and else all they have.
 pub(crate) fn front_of(text: &[u8], rows: &[u32], text2: &[u8]) -> usize
@@ -116,7 +116,7 @@ fn same_flag(a: u32, b: u32) -> bool
 // Whether two calls have the same annotation, or none.
 fn same_annotation(next: &[u32], text: &[u8], c: Call, text2: &[u8], d: Call) -> bool
     requires { ⌜ Apart (now text) (now text2) (now next) ⌝ }
-    ensures { λ r. ⌜ r ≡ eqOption eqList (callTexts (now (text .entry)) c .annotation) (callTexts (now (text2 .entry)) d .annotation) ⌝ }
+    ensures { λ r. ⌜ r ≡ eqOption eqList (callInBytes (now (text .entry)) c .annotation) (callInBytes (now (text2 .entry)) d .annotation) ⌝ }
 {
     if c.annotated == 0 {
         return d.annotated == 0;
@@ -130,7 +130,7 @@ fn same_annotation(next: &[u32], text: &[u8], c: Call, text2: &[u8], d: Call) ->
 // Whether two calls have the same bid, are both alerted or neither, and have the same annotation or none.
 fn same_call(next: &[u32], text: &[u8], c: Call, text2: &[u8], d: Call) -> bool
     requires { ⌜ Apart (now text) (now text2) (now next) ⌝ }
-    ensures { λ r. ⌜ r ≡ eqCall (callTexts (now (text .entry)) c) (callTexts (now (text2 .entry)) d) ⌝ }
+    ensures { λ r. ⌜ r ≡ eqCall (callInBytes (now (text .entry)) c) (callInBytes (now (text2 .entry)) d) ⌝ }
 {
     if !same_indexed(next, text, c.bid, text2, d.bid) {
         return false;
@@ -160,7 +160,7 @@ pub(crate) fn same_words(a: &[u32], b: &[u32]) -> bool
 // Whether there are as many calls, and each is the same.
 fn each_same(next: &[u32], text: &[u8], rows: &[u32], text2: &[u8], rows2: &[u32]) -> bool
     requires { ⌜ Apart (now text) (now text2) (now next) ⌝ }
-    ensures { λ r. ⌜ r ≡ eqAll eqCall (callsTexts (now (text .entry)) (now (rows .entry))) (callsTexts (now (text2 .entry)) (now (rows2 .entry))) ⌝ }
+    ensures { λ r. ⌜ r ≡ eqAll eqCall (callsInBytes (now (text .entry)) (now (rows .entry))) (callsInBytes (now (text2 .entry)) (now (rows2 .entry))) ⌝ }
 {
     if rows.len() / 6 != rows2.len() / 6 {
         return false;
@@ -178,7 +178,7 @@ fn each_same(next: &[u32], text: &[u8], rows: &[u32], text2: &[u8], rows2: &[u32
 // Whether the calls are the same, with a word for each block of the texts: no two texts at one place are compared for longer than a block.
 fn calls_by_blocks(text: &[u8], rows: &[u32], text2: &[u8], rows2: &[u32]) -> bool
     requires { ⌜ length (now text) ≤ limit ⌝ }
-    ensures { λ r. ⌜ r ≡ eqAll eqCall (callsTexts (now (text .entry)) (now (rows .entry))) (callsTexts (now (text2 .entry)) (now (rows2 .entry))) ⌝ }
+    ensures { λ r. ⌜ r ≡ eqAll eqCall (callsInBytes (now (text .entry)) (now (rows .entry))) (callsInBytes (now (text2 .entry)) (now (rows2 .entry))) ⌝ }
 {
     let mut next = [0u32; 1025];
     index_apart(text, text2, &mut next);
@@ -188,7 +188,7 @@ fn calls_by_blocks(text: &[u8], rows: &[u32], text2: &[u8], rows2: &[u32]) -> bo
 // The same, of texts that may differ anywhere. The index is made only where the text is longer than a block and the rows have more bytes than it; else there is
 // none. (A text that is too long was refused before.)
 fn calls_apart(text: &[u8], rows: &[u32], text2: &[u8], rows2: &[u32]) -> bool
-    ensures { λ r. ⌜ r ≡ eqAll eqCall (callsTexts (now (text .entry)) (now (rows .entry))) (callsTexts (now (text2 .entry)) (now (rows2 .entry))) ⌝ }
+    ensures { λ r. ⌜ r ≡ eqAll eqCall (callsInBytes (now (text .entry)) (now (rows .entry))) (callsInBytes (now (text2 .entry)) (now (rows2 .entry))) ⌝ }
 {
     if (1024 < text.len()) & (text.len() <= LIMIT) {
         if spans_pass(text.len(), rows) {
@@ -207,7 +207,7 @@ pub(crate) fn same_calls(
     rows2: &[u32],
 ) -> bool
     requires { ⌜ first ≤ common (now text) (now text2) ⌝ }
-    ensures { λ r. ⌜ r ≡ eqAll eqCall (callsTexts (now (text .entry)) (now (rows .entry))) (callsTexts (now (text2 .entry)) (now (rows2 .entry))) ⌝ }
+    ensures { λ r. ⌜ r ≡ eqAll eqCall (callsInBytes (now (text .entry)) (now (rows .entry))) (callsInBytes (now (text2 .entry)) (now (rows2 .entry))) ⌝ }
 {
     let alike = (first == text.len()) & (first == text2.len());
     if alike & same_words(rows, rows2) {

@@ -24,7 +24,7 @@ ghost use Rattle.lin_spec.specs.Board.{named, readSv, numberIn};
 ghost use Rattle.lin_spec.specs.Reading.{spanText};
 ghost use Rattle.lin_spec.specs.Cards.{readCard};
 ghost use Rattle.lin_spec.specs.Lent.{claimOf};
-ghost use Rattle.cards.specs.Letters.{maybeOf};
+ghost use Rattle.cards.specs.Letters.{maybeCard};
 ghost use Rattle.board_fields.specs.Fields.{isDealer, lastMd, namesFrom, more};
 
 // mn, qx: the value; empty makes it absent.
@@ -100,6 +100,7 @@ fn read_sv(s: &[u8]) -> Vulnerability
     Vulnerability::None
 }
 
+// sv: what it says, which is none vulnerable where it is no such word.
 pub fn on_sv(text: &[u8], on: bool, v: Span, old: Vulnerability) -> Vulnerability
     ensures { λ r. ⌜ r ≡ pick on (readSv (trimmed (bytesAt (now (text .entry)) v))) old ⌝ }
 {
@@ -145,31 +146,17 @@ pub fn on_claim(text: &[u8], on: bool, v: Span, old: MaybeClaim) -> MaybeClaim
     }
 }
 
-// mb: one call more.
-pub fn on_count(on: bool, n: usize) -> usize
-    requires { ⌜ n < 2 ^ 32 ⌝ }
-    ensures { λ r. ⌜ r ≡ pick on (n + 1) n ⌝ }
-{
-    if !on {
-        return n;
-    }
-    n + 1
-}
-
 // pc: one card more, where the value is a card.
-pub fn on_card(text: &[u8], on: bool, v: Span, n: usize) -> usize
+pub fn on_card(text: &[u8], v: Span, n: usize) -> usize
     requires { ⌜ n < 2 ^ 32 ⌝ }
-    ensures { λ r. ⌜ r ≡ pick on (more (readCard (trimmed (bytesAt (now (text .entry)) v))) n) n ⌝ }
+    ensures { λ r. ⌜ r ≡ more (readCard (trimmed (bytesAt (now (text .entry)) v))) n ⌝ }
 {
-    if !on {
-        return n;
-    }
     one_more(read_card(trim(shown(text, v))), n)
 }
 
 fn one_more(card: MaybeCard, n: usize) -> usize
     requires { ⌜ n < 2 ^ 32 ⌝ }
-    ensures { λ r. ⌜ r ≡ more (maybeOf card) n ⌝ }
+    ensures { λ r. ⌜ r ≡ more (maybeCard card) n ⌝ }
 {
     match card {
         MaybeCard::Card(_) => n + 1,

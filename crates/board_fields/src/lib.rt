@@ -3,7 +3,6 @@ mod fields;
 
 pub use fields::on_card;
 pub use fields::on_claim;
-pub use fields::on_count;
 pub use fields::on_md;
 pub use fields::on_names;
 pub use fields::on_present;

@@ -30,7 +30,7 @@ use Rattle.lin_spec.proofs.Base.{or-none}
 use Rattle.lin_spec.proofs.Checks.{unmet, unless-refused, unless-passed}
 use Rattle.text.proofs.IndexLaws.{indexed-first}
 use Rattle.text.proofs.ListLaws.{next-word}
-use Rattle.board_lent.specs.Calls.{rowAt, callAt, spansOf}
+use Rattle.board_lent.specs.Calls.{rowAt, callAt, spansOfCall}
 use Rattle.board_lent.specs.declared.heads.Head.{Head}
 use Rattle.board_lent.specs.declared.checks.Bounds.{Bounds}
 use Rattle.board_lent.specs.Heads.{boardOf, headSpans}
@@ -153,21 +153,21 @@ started s n e h = record { few = omega arith; index = indexed-first s n e; short
 -- One call: the span of its bid, and that of its annotation where there is one
 
 module _ (f : Span → Bool) (c : Call) where
-  pub call-bid : f (c .bid) ≡ true → true ≡ any f (spansOf c)
+  pub call-bid : f (c .bid) ≡ true → true ≡ any f (spansOfCall c)
   unfolding any
   call-bid h = simp h
 
   module _ (h : f (c .bid) ≡ false) where
-    pub call-bare : c .annotated ≡ 0 → false ≡ any f (spansOf c)
+    pub call-bare : c .annotated ≡ 0 → false ≡ any f (spansOfCall c)
     unfolding any
     call-bare e = simp (h, eq-eqb _ _ e)
 
-    pub call-annotated : (c .annotated ≡ 0 → ⊥) → f (c .annotation) ≡ any f (spansOf c)
+    pub call-annotated : (c .annotated ≡ 0 → ⊥) → f (c .annotation) ≡ any f (spansOfCall c)
     unfolding any
     call-annotated e = simp (h, ne-eqb _ _ e, or-false)
 
   -- both by one test
-  pub call-either : (t u : Bool) → t ≡ f (c .bid) → u ≡ f (c .annotation) → (t || (not (eqb (c .annotated) 0) && u)) ≡ any f (spansOf c)
+  pub call-either : (t u : Bool) → t ≡ f (c .bid) → u ≡ f (c .annotation) → (t || (not (eqb (c .annotated) 0) && u)) ≡ any f (spansOfCall c)
   unfolding any
   call-either t u et eu = rw (et, eu) (ap (λ (w : Bool). f (c .bid) || w) (go (eqb (c .annotated) 0)))
     where
@@ -190,14 +190,14 @@ unfolding any
 any-append f [] y = refl
 any-append f (a ∷ x) y = ap (λ (t : Bool). f a || t) (any-append f x y) ∙ sym (or-assoc (f a) (any f x) (any f y))
 
-calls-any : (f : Span → Bool) (cs : List Call) → any f (callSpans (map callIn cs)) ≡ any (λ c. any f (spansOf c)) cs
+calls-any : (f : Span → Bool) (cs : List Call) → any f (callSpans (map callIn cs)) ≡ any (λ c. any f (spansOfCall c)) cs
 unfolding any callSpans
 calls-any f [] = refl
-calls-any f (c ∷ cs) = any-append f (spansOf c) (callSpans (map callIn cs)) ∙ ap (λ (t : Bool). any f (spansOf c) || t) (calls-any f cs)
+calls-any f (c ∷ cs) = any-append f (spansOfCall c) (callSpans (map callIn cs)) ∙ ap (λ (t : Bool). any f (spansOfCall c) || t) (calls-any f cs)
 
 -- whatever the deal, and whatever the calls are lent as
 pub spans-any : (f : Span → Bool) (s : List ℕ) (h : Head) (ds : List ℕ) (calls : List Call) (cs : List ℕ)
-    → any f (lentSpans (record { text = s; board = boardOf h ds; calls = calls; cards = cs })) ≡ (any f (headSpans h) || any (λ c. any f (spansOf c)) calls)
+    → any f (lentSpans (record { text = s; board = boardOf h ds; calls = calls; cards = cs })) ≡ (any f (headSpans h) || any (λ c. any f (spansOfCall c)) calls)
 unfolding lentSpans lentBoard
 spans-any f s h ds calls cs = simp (any-append, calls-any, or-assoc)
 
@@ -222,7 +222,7 @@ module _ (s : List ℕ) (h : Head) (ds ws cs : List ℕ) where
   unfolding badNumber
   bounds-all r f t et u eu = record { numbers = rw (et, f .flags) refl; ends = rw (eu, f .ends) (sym (spans-any (passesEnd s) s h ds (callRows ws) cs)) }
 
-  pub texts-all : (t u : Bool) → t ≡ any (amiss s) (headSpans h) → u ≡ any (λ c. any (amiss s) (spansOf c)) (callRows ws)
+  pub texts-all : (t u : Bool) → t ≡ any (amiss s) (headSpans h) → u ≡ any (λ c. any (amiss s) (spansOfCall c)) (callRows ws)
       → (t || u) ≡ any (amiss s) (lentSpans (lent s (boardOf h ds) ws cs))
   texts-all t u et eu = rw (et, eu) (sym (spans-any (amiss s) s h ds (callRows ws) cs))
 

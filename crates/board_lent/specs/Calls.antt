@@ -16,8 +16,8 @@ abbrev pub callAt : (ws : List ℕ) (i : ℕ) → Call
 callAt ws i = rowAt callRow ws i
 
 -- the spans that a call names
-abbrev pub spansOf : Call → List Span
-spansOf c = c .bid ∷ spanIn (callIn c .annotation)
+abbrev pub spansOfCall : Call → List Span
+spansOfCall c = c .bid ∷ spanIn (callIn c .annotation)
 
 -- how many bytes its texts have together
 abbrev pub textBytes : Call → ℕ

@@ -15,7 +15,7 @@ use Rattle.lin_spec.specs.declared.Verdict.the-variants.{Accepted, Refused}
 use Rattle.text.specs.Index.{Indexed}
 use Rattle.board_lent.specs.declared.checks.Bounds.{Bounds}
 use Rattle.board_lent.specs.declared.checks.Start.{Start}
-use Rattle.board_lent.specs.Calls.{spansOf}
+use Rattle.board_lent.specs.Calls.{spansOfCall}
 
 -- a verdict as an answer that has no result
 abbrev pub verdictOf : Verdict → Answer Unit
@@ -39,7 +39,7 @@ pub record Started (s : List ℕ) (r : Start) : Type 0 where
 -- what is wrong with the numbers of the rows ws over the text s
 pub record RowsBounded (s ws : List ℕ) (r : Bounds) : Type 0 where
   pub flags : r .number ≡ any badFlag (callRows ws)
-  pub ends : r .past ≡ any (λ c. any (passesEnd s) (spansOf c)) (callRows ws)
+  pub ends : r .past ≡ any (λ c. any (passesEnd s) (spansOfCall c)) (callRows ws)
 
 -- and of all that is lent
 pub record Bounded (x : Lent) (r : Bounds) : Type 0 where

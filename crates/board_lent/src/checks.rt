@@ -20,7 +20,7 @@ ghost use Rattle.lin_spec.specs.Records.{limit, optionOf};
 ghost use Rattle.lin_spec.specs.Refusals.{passesEnd};
 ghost use Rattle.lin_spec.specs.Lent.{callRows, lent, lentSpans, spanIn, badFlag, badCards};
 ghost use Rattle.text.specs.Index.{Indexed};
-ghost use Rattle.board_lent.specs.Calls.{spansOf, textBytes};
+ghost use Rattle.board_lent.specs.Calls.{spansOfCall, textBytes};
 ghost use Rattle.board_lent.specs.Heads.{boardOf, headSpans};
 ghost use Rattle.board_lent.specs.Checks.{verdictOf, checked, amiss, Started, RowsBounded, Bounded};
 
@@ -84,7 +84,7 @@ fn present_meets(text: &[u8], next: &[u32], x: MaybeSpan) -> bool
 // Whether 5 or 6 meets a text of a call. The place of an annotation that is absent is not looked at.
 pub fn call_meets(text: &[u8], next: &[u32], c: Call) -> bool
     requires { ⌜ Indexed (now text) (now next) ⌝ }
-    ensures { λ r. ⌜ r ≡ any (amiss (now (text .entry))) (spansOf c) ⌝ }
+    ensures { λ r. ⌜ r ≡ any (amiss (now (text .entry))) (spansOfCall c) ⌝ }
 {
     if meets(text, next, c.bid) {
         return true;
@@ -119,7 +119,7 @@ pub struct Bounds {
 
 // Whether a text of a call passes the end. Both texts are looked at.
 pub fn call_past(text: &[u8], c: Call) -> bool
-    ensures { λ r. ⌜ r ≡ any (passesEnd (now (text .entry))) (spansOf c) ⌝ }
+    ensures { λ r. ⌜ r ≡ any (passesEnd (now (text .entry))) (spansOfCall c) ⌝ }
 {
     let bid = past_end(text, c.bid);
     let annotation = past_end(text, c.annotation);
@@ -193,7 +193,7 @@ pub fn bounds_of(text: &[u8], head: Head, rows: &[u32], cards: &[u8]) -> Bounds
 // Whether 5 or 6 meets a text of a row.
 fn rows_meet(text: &[u8], next: &[u32], rows: &[u32]) -> bool
     requires { ⌜ Indexed (now text) (now next) ⌝ }
-    ensures { λ r. ⌜ r ≡ any (λ c. any (amiss (now (text .entry))) (spansOf c)) (callRows (now (rows .entry))) ⌝ }
+    ensures { λ r. ⌜ r ≡ any (λ c. any (amiss (now (text .entry))) (spansOfCall c)) (callRows (now (rows .entry))) ⌝ }
 {
     let mut found = false;
     let mut i = 0;
@@ -264,7 +264,7 @@ fn start_of(text: &[u8], rows: &[u32]) -> Start
 // Whether 5 or 6 meets a text of a row, with a word for each block of the text: no text is looked at for longer than a block.
 fn rows_by_blocks(text: &[u8], rows: &[u32]) -> bool
     requires { ⌜ length (now text) ≤ limit ⌝ }
-    ensures { λ r. ⌜ r ≡ any (λ c. any (amiss (now (text .entry))) (spansOf c)) (callRows (now (rows .entry))) ⌝ }
+    ensures { λ r. ⌜ r ≡ any (λ c. any (amiss (now (text .entry))) (spansOfCall c)) (callRows (now (rows .entry))) ⌝ }
 {
     let mut next = [0u32; 1025];
     index_text(text, &mut next);
@@ -274,7 +274,7 @@ fn rows_by_blocks(text: &[u8], rows: &[u32]) -> bool
 // The same. The index of all blocks is made only where the text is ill-formed and the rows have more bytes than it.
 fn rows_ill(text: &[u8], next: &[u32], rows: &[u32]) -> bool
     requires { ⌜ Indexed (now text) (now next) × (0 < length (now next) → length (now text) ≤ limit) ⌝ }
-    ensures { λ r. ⌜ r ≡ any (λ c. any (amiss (now (text .entry))) (spansOf c)) (callRows (now (rows .entry))) ⌝ }
+    ensures { λ r. ⌜ r ≡ any (λ c. any (amiss (now (text .entry))) (spansOfCall c)) (callRows (now (rows .entry))) ⌝ }
 {
     if next.len() == 0 {
         return rows_meet(text, next, rows);

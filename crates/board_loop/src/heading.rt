@@ -1,7 +1,6 @@
 // The heading of a board from a run of tokens, in one pass that keeps spans and small numbers only. (01: Board, `from_tokens`)
 use board_fields::on_card;
 use board_fields::on_claim;
-use board_fields::on_count;
 use board_fields::on_md;
 use board_fields::on_names;
 use board_fields::on_present;
@@ -29,6 +28,7 @@ ghost use Rattle.lin_spec.specs.Records.{endOf};
 ghost use mathlib.Core.Path.{_≡_};
 ghost use mathlib.Core.List.{[]};
 ghost use Rattle.lin_spec.specs.Reading.{stream};
+ghost use Rattle.document_commands.specs.Commands.{pcNo, mbNo};
 ghost use Rattle.board_loop.specs.Head.{Stepped, Leaves, freshHead};
 
 // A heading while it is read. The value of the last md that was accepted stands for dealer and deal.
@@ -44,9 +44,9 @@ pub struct ReadHead {
     pub cards: usize,
 }
 
-// The heading after one token more, whose command has the number k.
+// The heading after one token more that is neither a call nor a card, whose command has the number k.
 pub(crate) fn step(text: &[u8], h: ReadHead, k: u8, v: Span) -> ReadHead
-    requires { ⌜ (endOf v ≤ length (now text)) × (length (now text) < 2 ^ 32) × (h .calls < 2 ^ 32) × (h .cards < 2 ^ 32) ⌝ }
+    requires { ⌜ (endOf v ≤ length (now text)) × (length (now text) < 2 ^ 32) × (k ≡ pcNo → ⊥) × (k ≡ mbNo → ⊥) ⌝ }
     ensures { λ r. ⌜ Stepped (now (text .entry)) h k v r ⌝ }
 {
     let old = h.names;
@@ -63,8 +63,6 @@ pub(crate) fn step(text: &[u8], h: ReadHead, k: u8, v: Span) -> ReadHead
     let room = on_value(k == QX, v, old_room);
     let header = on_present(k == AH, v, old_header);
     let claim = on_claim(text, k == MC, v, old_claim);
-    let calls = on_count(k == MB, h.calls);
-    let cards = on_card(text, k == PC, v, h.cards);
     ReadHead {
         names,
         md,
@@ -73,8 +71,8 @@ pub(crate) fn step(text: &[u8], h: ReadHead, k: u8, v: Span) -> ReadHead
         room,
         header,
         claim,
-        calls,
-        cards,
+        calls: h.calls,
+        cards: h.cards,
     }
 }
 
@@ -107,14 +105,14 @@ pub fn read_head(text: &[u8], at: usize) -> ReadHead
     loop {
         match board_token(&letters, text, c) {
             BoardToken::Card(_, next) => {
-                h.cards = on_count(true, h.cards);
+                h.cards = h.cards + 1;
                 c = next;
             }
             BoardToken::Known(k, v, next) => {
                 if k == PC {
-                    h.cards = on_card(text, true, v, h.cards);
+                    h.cards = on_card(text, v, h.cards);
                 } else if k == MB {
-                    h.calls = on_count(true, h.calls);
+                    h.calls = h.calls + 1;
                 } else {
                     h = step(text, h, k, v);
                 }

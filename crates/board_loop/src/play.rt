@@ -18,7 +18,7 @@ ghost use Rattle.lin_spec.specs.Base.{pick};
 ghost use Rattle.lin_spec.specs.Records.{bytesAt};
 ghost use Rattle.lin_spec.specs.White.{trim as trimmed};
 ghost use Rattle.lin_spec.specs.Cards.{readCard};
-ghost use Rattle.cards.specs.Letters.{maybeOf};
+ghost use Rattle.cards.specs.Letters.{maybeCard};
 ghost use Rattle.document_commands.specs.Commands.{pcNo};
 ghost use Rattle.board_loop.specs.Play.{GivesCard};
 
@@ -30,7 +30,7 @@ pub enum NextCard {
 
 // The card of a token, if it is a pc and its value is a card.
 pub(crate) fn card_at(text: &[u8], k: u8, v: Span) -> MaybeCard
-    ensures { λ r. ⌜ maybeOf r ≡ pick (eqb k pcNo) (readCard (trimmed (bytesAt (now (text .entry)) v))) none ⌝ }
+    ensures { λ r. ⌜ maybeCard r ≡ pick (eqb k pcNo) (readCard (trimmed (bytesAt (now (text .entry)) v))) none ⌝ }
 {
     if k == PC {
         return read_card(trim(shown(text, v)));

@@ -20,7 +20,7 @@ use Rattle.lin_spec.proofs.Base.{split}
 use Rattle.lin_spec.proofs.Records.{part-length}
 use Rattle.lin_spec.proofs.Cursor.{find-after}
 use Rattle.lin_spec.proofs.Cards.{hand-length}
-use Rattle.cards.specs.Deals.{others, fieldAt, placed, handOf}
+use Rattle.cards.specs.Deals.{others, fieldAt, withHand, handOf}
 use Rattle.cards.proofs.HandLaws.{part-long, count-at, field-is, Three, all, rest-at}
 
 -- Fields
@@ -80,17 +80,17 @@ pub put-next : (d h x : List ℕ) (at i : ℕ) → x ≡ paste d at h i → at +
 put-next d h x at i e k l m = ap (λ (y : List ℕ). set y (at + i) (getD h i 0)) e ∙ rw add-one (paste-suc d at h i 0 (omega arith) (omega arith))
 
 -- the end of that loop
-pub put-end : (d h x : List ℕ) (k i : ℕ) → x ≡ paste d (k * 52) h i → length h ≡ 52 → i ≡ 52 → x ≡ placed d k h
-unfolding placed
+pub put-end : (d h x : List ℕ) (k i : ℕ) → x ≡ paste d (k * 52) h i → length h ≡ 52 → i ≡ 52 → x ≡ withHand d k h
+unfolding withHand
 put-end d h x k i e l m = e ∙ rw (m, take-all 52 h (omega arith)) (append-assoc (take (k * 52) d) h (drop (k * 52 + 52) d))
 
 drop-zeros : (k m : ℕ) → drop k (replicate (k + m) 0) ≡ replicate {A = ℕ} m 0
 drop-zeros k m = ap (drop k) (sym (replicate-append-replicate k m 0)) ∙ drop-at (replicate k 0) (replicate m 0) k (length-replicate k 0)
 
 -- a hand stored after those that are there
-put-step : (p h d x : List ℕ) (k m : ℕ) → length p ≡ k * 52 → d ≡ p ++ replicate (52 + m) 0 → x ≡ placed d k h
+put-step : (p h d x : List ℕ) (k m : ℕ) → length p ≡ k * 52 → d ≡ p ++ replicate (52 + m) 0 → x ≡ withHand d k h
     → x ≡ (p ++ h) ++ replicate m 0
-unfolding placed
+unfolding withHand
 put-step p h d x k m lp ed ex =
     let z : List ℕ = replicate (52 + m) 0 in
     let front : take (k * 52) (p ++ z) ≡ p = take-at p z (k * 52) lp in
@@ -115,7 +115,7 @@ module _ (d p : List ℕ) (k m : ℕ) (v : Dealing d p k (52 + m)) where
       ap (take 52) (e ∙ sym (replicate-append-replicate 52 m 0)) ∙ take-at (replicate 52 0) (replicate m 0) 52 refl
 
   -- it is stored there
-  pub dealing-more : (x h : List ℕ) → x ≡ placed d k h → length h ≡ 52 → Dealing x (p ++ h) (k + 1) m
+  pub dealing-more : (x h : List ℕ) → x ≡ withHand d k h → length h ≡ 52 → Dealing x (p ++ h) (k + 1) m
   dealing-more x h e l = record { long = (let a = v .long in let b = length-append p h in omega arith); is = put-step p h d x k m (v .long) (v .is) e }
 
 -- the first three hands of a deal
@@ -133,7 +133,7 @@ three-hands d s w n e ls lw ln =
     )
 
 -- a fourth after them
-pub fourth-put : (d s w n x e : List ℕ) → Dealing d ((s ++ w) ++ n) 3 52 → x ≡ placed d 3 e → x ≡ s ++ (w ++ (n ++ e))
+pub fourth-put : (d s w n x e : List ℕ) → Dealing d ((s ++ w) ++ n) 3 52 → x ≡ withHand d 3 e → x ≡ s ++ (w ++ (n ++ e))
 fourth-put d s w n x e v f = put-step ((s ++ w) ++ n) e d x 3 0 (v .long) (v .is) f ∙ simp (append-nil, append-assoc)
 
 -- East by the others
@@ -173,7 +173,7 @@ module _ (d : List ℕ) (room : handOf d 3 ≡ noCards) where
       let q : w ≡ getD rest i 0 = rest-at _ _ _ three i w h (k ∙ rw (a, kept x i 52 i e h (omega arith), kept x i 104 i e h (omega arith)) refl) in
       ap (set x (156 + i)) q ∙ put-next d rest x 156 i e (omega arith) (all _ _ _ three) h
 
-  pub rest-end : (x : List ℕ) (i : ℕ) → x ≡ paste d 156 rest i → i ≡ 52 → x ≡ placed d 3 rest
+  pub rest-end : (x : List ℕ) (i : ℕ) → x ≡ paste d 156 rest i → i ≡ 52 → x ≡ withHand d 3 rest
   rest-end x i e m = put-end d rest x 3 i e (all _ _ _ three) m
 
 -- the deal of the fields
@@ -184,7 +184,7 @@ deal-is f x y z v s w n e d ex ey ez ev es ew en ee ed = ed ∙ rw (ee, es, ew, 
 
 -- the deal that was made of them, hand by hand
 pub deal-done : (f : Pieces) (x y z v d r : List ℕ) → x ≡ field 0 f → y ≡ field 1 f → z ≡ field 2 f → v ≡ field 3 f
-    → Dealing d ((readHand x ++ readHand y) ++ readHand z) 3 52 → r ≡ placed d 3 (eastOf v (handOf d 0) (handOf d 1) (handOf d 2)) → r ≡ dealOf f
+    → Dealing d ((readHand x ++ readHand y) ++ readHand z) 3 52 → r ≡ withHand d 3 (eastOf v (handOf d 0) (handOf d 1) (handOf d 2)) → r ≡ dealOf f
 deal-done f x y z v d r ex ey ez ev k e =
     let h = three-hands d (readHand x) (readHand y) (readHand z) (k .is) (hand-length x) (hand-length y) (hand-length z) in
     deal-is f x y z v (readHand x) (readHand y) (readHand z) _ r ex ey ez ev refl refl refl refl

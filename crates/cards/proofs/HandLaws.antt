@@ -22,9 +22,9 @@ use Rattle.lin_spec.specs.Cards.{indexOf, field, suitOf, rankOf, cardOf, noCard
 use Rattle.lin_spec.proofs.Base.{and-left, and-right, split}
 use Rattle.lin_spec.proofs.Records.{part-rest, part-length}
 use Rattle.lin_spec.proofs.Cursor.{find-here, find-next, find-after, find-within, find-end, cut-at, cut-end}
-use Rattle.lin_spec.proofs.Cards.{count-sum, set-sum, remainder-at, remainder-length}
+use Rattle.lin_spec.proofs.Cards.{count-sum, set-sum, unheld-at, unheld-length}
 use Rattle.cards.specs.Letters.{suitIn, rankIn}
-use Rattle.cards.specs.Deals.{others, fieldAt, placed, Counted}
+use Rattle.cards.specs.Deals.{others, fieldAt, withHand, FieldCounted}
 
 -- The loop over a text: the rest of it makes of the hand so far what the whole text makes of none
 
@@ -101,7 +101,7 @@ module _ {s h : List ℕ} {suit i n : ℕ} (v : Turn s h suit i n) where
 pub record Held (s d counts : List ℕ) (seat suit i : ℕ) : Type 0 where
   pub hand : List ℕ
   pub long : length hand ≡ 52
-  pub is : counts ≡ placed d seat hand
+  pub is : counts ≡ withHand d seat hand
   pub inv : HandInv s hand suit i
 
 -- a store after the front of a list
@@ -115,7 +115,7 @@ unfolding part
 part-in d a n = sym (take-append-drop a d) ∙ ap (λ (x : List ℕ). take a d ++ x) (sym (take-append-drop n (drop a d)) ∙ ap (λ (x : List ℕ). take n (drop a d) ++ x) (drop-drop n a d))
 
 pub held-start : (s d : List ℕ) (seat : ℕ) → part d (seat * 52) 52 ≡ noCards → Held s d d seat 4 0
-unfolding placed
+unfolding withHand
 held-start s d seat e =
     record {
       hand = noCards;
@@ -130,14 +130,14 @@ unfolding part
 part-long d a e = let f : length (take 52 (drop a d)) ≡ 52 = ap length e in omega (arith, length-take 52 (drop a d), length-drop a d)
 
 module _ (s d counts : List ℕ) (seat suit i : ℕ) (v : Held s d counts seat suit i) (l : part d (seat * 52) 52 ≡ noCards) where
-  pub held-end : length s ≤ i → counts ≡ placed d seat (readHand s)
-  held-end h = v .is ∙ ap (placed d seat) (hand-end s (v .hand) suit i (v .inv) h)
+  pub held-end : length s ≤ i → counts ≡ withHand d seat (readHand s)
+  held-end h = v .is ∙ ap (withHand d seat) (hand-end s (v .hand) suit i (v .inv) h)
 
   front : length (take (seat * 52) d) ≡ seat * 52
   front = length-take-le (seat * 52) d (omega (arith, part-long d (seat * 52) l))
 
   held-at : (c : ℕ) → c < 52 → getD counts (seat * 52 + c) 0 ≡ getD (v .hand) c 0
-  unfolding placed
+  unfolding withHand
   held-at c h =
       let n = v .long in
       ap (λ (y : List ℕ). getD y (seat * 52 + c) 0) (v .is)
@@ -147,8 +147,8 @@ module _ (s d counts : List ℕ) (seat suit i : ℕ) (v : Held s d counts seat s
   pub held-few : (c : ℕ) → c < 52 → getD counts (seat * 52 + c) 0 ≤ i
   held-few c h = rw (held-at c h) (count-few s (v .hand) suit i c (v .inv))
 
-  held-set : (c x : ℕ) → c < 52 → set counts (seat * 52 + c) x ≡ placed d seat (set (v .hand) c x)
-  unfolding placed
+  held-set : (c x : ℕ) → c < 52 → set counts (seat * 52 + c) x ≡ withHand d seat (set (v .hand) c x)
+  unfolding withHand
   held-set c x h =
       let n = v .long in
       ap (λ (y : List ℕ). set y (seat * 52 + c) x) (v .is)
@@ -222,17 +222,17 @@ module _ (s : List ℕ) (at : ℕ) (d counts : List ℕ) (seat suit i : ℕ) (v 
   long-field h k = ap length (sym (field-is s at)) ∙ part-length s at (findFrom 0x2C s at - at) (omega arith)
 
   -- at the comma, and at the end
-  counted : (r : ℕ) → findFrom 0x2C s at ≡ i → cut 0x2C (drop r s) ≡ others (cut 0x2C (drop at s)) → r ≤ length s → Counted s at d seat counts r
+  counted : (r : ℕ) → findFrom 0x2C s at ≡ i → cut 0x2C (drop r s) ≡ others (cut 0x2C (drop at s)) → r ≤ length s → FieldCounted s at d seat counts r
   counted r e k h =
       let a = v .from in
       let b = v .within in
       let n = long-field (omega arith) (omega arith) in
       record { hand = held-end (fieldAt s at) d counts seat suit (i - at) (v .held) l (omega arith); rest = k; within = h }
 
-  pub fielded-comma : i < length s → getD s i 0 ≡ 0x2C → Counted s at d seat counts (i + 1)
+  pub fielded-comma : i < length s → getD s i 0 ≡ 0x2C → FieldCounted s at d seat counts (i + 1)
   fielded-comma h e = let f = sym (v .find) ∙ find-here 0x2C s i h e in counted (i + 1) f (rest-at-comma s at i f h) (omega arith)
 
-  pub fielded-end : length s ≤ i → Counted s at d seat counts i
+  pub fielded-end : length s ≤ i → FieldCounted s at d seat counts i
   fielded-end h =
       let b = v .within in
       let e : i ≡ length s = omega arith in
@@ -335,8 +335,8 @@ pub record Three (x y z : List ℕ) : Type 0 where
 
 module _ (x y z : List ℕ) (f : Three x y z) where
   pub all : length (unheldCards x y z) ≡ 52
-  all = remainder-length 52 x y z (f .first) (f .second) (f .third)
+  all = unheld-length 52 x y z (f .first) (f .second) (f .third)
 
   -- one of its counts
   pub rest-at : (i w : ℕ) → i < 52 → w ≡ pick (eqb (getD x i 0) 0 && (eqb (getD y i 0) 0 && eqb (getD z i 0) 0)) 1 0 → w ≡ getD (unheldCards x y z) i 0
-  rest-at i w m k = k ∙ sym (remainder-at 52 x y z (f .first) (f .second) (f .third) i m)
+  rest-at i w m k = k ∙ sym (unheld-at 52 x y z (f .first) (f .second) (f .third) i m)

@@ -18,15 +18,15 @@ abbrev pub fieldAt : (s : List ℕ) (at : ℕ) → List ℕ
 fieldAt s at = field 0 (cut 0x2C (drop at s))
 
 -- the counts of a deal with those of a hand at its seat's place: "seat times 52 plus card"
-unfoldable pub placed : (deal : List ℕ) (seat : ℕ) (hand : List ℕ) → List ℕ
-placed d k h = take (k * 52) d ++ (h ++ drop (k * 52 + 52) d)
+unfoldable pub withHand : (deal : List ℕ) (seat : ℕ) (hand : List ℕ) → List ℕ
+withHand d k h = take (k * 52) d ++ (h ++ drop (k * 52 + 52) d)
 
 -- the counts of a seat's hand
 abbrev pub handOf : (deal : List ℕ) (seat : ℕ) → List ℕ
 handOf d k = part d (k * 52) 52
 
 -- the cards of the field at `at` are counted at a seat's place of the deal d, and the fields after it begin at r
-pub record Counted (s : List ℕ) (at : ℕ) (d : List ℕ) (seat : ℕ) (counts : List ℕ) (r : ℕ) : Type 0 where
-  pub hand : counts ≡ placed d seat (readHand (fieldAt s at))
+pub record FieldCounted (s : List ℕ) (at : ℕ) (d : List ℕ) (seat : ℕ) (counts : List ℕ) (r : ℕ) : Type 0 where
+  pub hand : counts ≡ withHand d seat (readHand (fieldAt s at))
   pub rest : cut 0x2C (drop r s) ≡ others (cut 0x2C (drop at s))
   pub within : r ≤ length s

@@ -24,9 +24,9 @@ lookupOf (Found n) = some n
 lookupOf Nothing = none
 
 -- the card read
-abbrev pub maybeOf : MaybeCard → Option ℕ
-maybeOf (Card c) = some c
-maybeOf NoCard = none
+abbrev pub maybeCard : MaybeCard → Option ℕ
+maybeCard (Card c) = some c
+maybeCard NoCard = none
 
 -- the suit and the rank that a letter's number stands for
 abbrev pub suitIn : ℕ → Option ℕ

@@ -13,7 +13,7 @@ ghost use lib.ListN.{length, replicate};
 ghost use Rattle.lin_spec.specs.Tokens.{cut};
 ghost use Rattle.lin_spec.specs.Cards.{noCards, thirteens, eastOf, dealOf};
 ghost use Rattle.cards.specs.Letters.{table};
-ghost use Rattle.cards.specs.Deals.{fieldAt, placed, handOf};
+ghost use Rattle.cards.specs.Deals.{fieldAt, withHand, handOf};
 
 // The field that begins at a place: the text up to the next comma.
 fn field_at(s: &[u8], at: usize) -> &[u8]
@@ -34,7 +34,7 @@ fn all_thirteen(counts: &[u32; 208]) -> bool
 // Counts East's hand, by its field, which begins at a place, and the hands of the other seats.
 fn count_east(counts: &mut [u32; 208], letters: &[u8; 128], s: &[u8], at: usize)
     requires { ⌜ (now letters ≡ table) × (handOf (now counts) 3 ≡ noCards) × (at ≤ length (now s)) × (length (now s) < 2 ^ 32) ⌝ }
-    ensures { λ r. ⌜ now (counts .exit) ≡ placed (now (counts .entry)) 3 (eastOf (fieldAt (now (s .entry)) at) (handOf (now (counts .entry)) 0) (handOf (now (counts .entry)) 1) (handOf (now (counts .entry)) 2)) ⌝ }
+    ensures { λ r. ⌜ now (counts .exit) ≡ withHand (now (counts .entry)) 3 (eastOf (fieldAt (now (s .entry)) at) (handOf (now (counts .entry)) 0) (handOf (now (counts .entry)) 1) (handOf (now (counts .entry)) 2)) ⌝ }
 {
     let east = field_at(s, at);
     if is_blank(east) & all_thirteen(counts) {

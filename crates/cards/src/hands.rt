@@ -12,7 +12,7 @@ ghost use Rattle.lin_spec.specs.Records.{part};
 ghost use Rattle.lin_spec.specs.Cards.{noCards, unheldCards};
 ghost use Rattle.lin_spec.specs.Letters.{handLength};
 ghost use Rattle.cards.specs.Letters.{table};
-ghost use Rattle.cards.specs.Deals.{placed, handOf, Counted};
+ghost use Rattle.cards.specs.Deals.{withHand, handOf, FieldCounted};
 
 // Counts the cards of a field, up to its comma or the end, at a seat's place in a deal, where none is counted yet, and gives the place of the next field.
 // The suit is that of the last suit letter, 4 before the first.
@@ -24,7 +24,7 @@ pub(crate) fn count_field(
     at: usize,
 ) -> usize
     requires { ⌜ (now letters ≡ table) × (seat < 4) × (part (now counts) (seat * 52) 52 ≡ noCards) × (at ≤ length (now s)) × (length (now s) < 2 ^ 32) ⌝ }
-    ensures { λ r. ⌜ Counted (now (s .entry)) at (now (counts .entry)) seat (now (counts .exit)) r ⌝ }
+    ensures { λ r. ⌜ FieldCounted (now (s .entry)) at (now (counts .entry)) seat (now (counts .exit)) r ⌝ }
 {
     let first = seat * Deal::CARDS;
     let mut suit: u8 = 4;
@@ -88,7 +88,7 @@ fn unheld(a: u32, b: u32, c: u32) -> u32
 // Counts at East's place each card that no other seat holds, once.
 pub(crate) fn count_rest(counts: &mut [u32; 208])
     requires { ⌜ handOf (now counts) 3 ≡ noCards ⌝ }
-    ensures { λ r. ⌜ now (counts .exit) ≡ placed (now (counts .entry)) 3 (unheldCards (handOf (now (counts .entry)) 0) (handOf (now (counts .entry)) 1) (handOf (now (counts .entry)) 2)) ⌝ }
+    ensures { λ r. ⌜ now (counts .exit) ≡ withHand (now (counts .entry)) 3 (unheldCards (handOf (now (counts .entry)) 0) (handOf (now (counts .entry)) 1) (handOf (now (counts .entry)) 2)) ⌝ }
 {
     let mut c = 0;
     while c < Deal::CARDS {

@@ -2,7 +2,7 @@
 ghost use mathlib.Core.Path.{_≡_};
 ghost use Prim.Native.Nat.{_<_};
 ghost use Rattle.lin_spec.specs.Cards.{suitOf, rankOf, readCard};
-ghost use Rattle.cards.specs.Letters.{table, lookupOf, maybeOf, suitIn, rankIn, CardIs};
+ghost use Rattle.cards.specs.Letters.{table, lookupOf, maybeCard, suitIn, rankIn, CardIs};
 
 // The number of the suit or rank that a letter stands for, if it stands for one.
 pub enum Lookup {
@@ -60,7 +60,7 @@ pub enum MaybeCard {
 
 // The card that a text gives: exactly a suit and a rank.
 pub fn read_card(s: &[u8]) -> MaybeCard
-    ensures { λ r. ⌜ maybeOf r ≡ readCard (now (s .entry)) ⌝ }
+    ensures { λ r. ⌜ maybeCard r ≡ readCard (now (s .entry)) ⌝ }
 {
     if s.len() != 2 {
         return MaybeCard::Nothing;

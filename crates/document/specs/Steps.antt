@@ -14,9 +14,9 @@ abbrev pub openedOf : Opened → Answer ℕ
 openedOf (At c) = accepted (c .at)
 openedOf (Refused r) = refused r
 
-abbrev pub placeOf : Part → Place
-placeOf p = place (p .start) (p .len)
+abbrev pub partPlace : Part → Place
+partPlace p = place (p .start) (p .len)
 
 abbrev pub stepOf : Step → StepAt
-stepOf (Found t c) = found (placeOf (t .command)) (placeOf (t .value)) (c .at)
+stepOf (Found t c) = found (partPlace (t .command)) (partPlace (t .value)) (c .at)
 stepOf (Ended c) = ended (c .at)

@@ -21,11 +21,11 @@ use Rattle.lin_spec.proofs.Base.{picked}
 use Rattle.lin_spec.proofs.Utf8.{short, whole-text}
 use Rattle.lin_spec.proofs.File.{Found, all-remain}
 use Rattle.board_loop.specs.Head.{boardAt}
-use Rattle.file_sections.specs.Sections.{sectionOf, standingOf}
-use Rattle.file.specs.Numbers.{AtFirst, Finds}
+use Rattle.file_sections.specs.Sections.{sectionOf, standingOf, AtFirst}
+use Rattle.file.specs.Numbers.{Finds}
 use Rattle.file_sections.specs.declared.sections.Section.{Section}
 use Rattle.file_sections.specs.declared.sections.BoardCursor.{BoardCursor}
-use Rattle.file.proofs.NumberLaws.{Way, way-begin, number-board, number-other, way-on}
+use Rattle.file_sections.proofs.WayLaws.{Way, way-begin, number-board, number-other, way-on}
 
 -- One section
 

@@ -1,6 +1,6 @@
--- Laws of boards by number: what a cursor has passed and what remains, and what the entries give. (01: File)
+-- Laws of boards by number: what a cursor looks for, and what the entries give. (01: File)
 -- Assumes nothing.
-use Prim.Native.Nat.{ℕ, suc, _+_, _-_, _≤_, _<_}
+use Prim.Native.Nat.{ℕ, suc, _-_, _≤_, _<_}
 use native.Mathlib.Omega.{arith}
 use mathlib.Core.Path.{_≡_, refl, ap, sym, subst, _∙_}
 use mathlib.Core.Bool.{Bool, true, false, _&&_}
@@ -9,12 +9,9 @@ use mathlib.Core.Option.{Option}
 use lib.ListN.{length, getD, take, length-map}
 use lib.Dec.{eqb}
 use borrow.Author.Tests.{eqb-true, eqb-false, le-leb, lt-leb}
-use Rattle.lin_spec.specs.Base.{pick, keep}
-use Rattle.lin_spec.specs.Records.{limit}
 use Rattle.lin_spec.specs.Refusals.{Answer, unless, tooLong, notUtf8}
 use Rattle.lin_spec.specs.Refusals.Answer.{refused, accepted}
 use Rattle.lin_spec.specs.Fresh.{refusedHeading}
-use Rattle.lin_spec.specs.Document.{openText}
 use Rattle.lin_spec.specs.Board.{BoardOf}
 use Rattle.lin_spec.specs.Reading.{headingOf, headed, fewRows, Reading, stored}
 use Rattle.lin_spec.specs.File.{Section as Part, section, Standing, openBoards, sections, boardsOf, boardIn, fileSpans, noBoard, numbered, countBoards, fileHeading, fileBoard, remaining}
@@ -23,66 +20,22 @@ use Rattle.lin_spec.specs.declared.Refusal.{Refusal}
 use Rattle.lin_spec.specs.declared.Refusal.the-variants.{NoBoard}
 use Rattle.lin_spec.specs.declared.Heading.{Heading}
 use Rattle.lin_spec.proofs.Base.{and-left, and-right, split}
-use Rattle.lin_spec.proofs.Checks.{unless-same, unless-refused, unless-passed}
-use Rattle.lin_spec.proofs.Document.{opened}
+use Rattle.lin_spec.proofs.Checks.{unless-refused, unless-passed}
 use Rattle.lin_spec.proofs.File.{Found, all-remain}
 use Rattle.lin_spec.proofs.FileMeaning.{getD-map}
 use Rattle.board_loop.specs.Head.{boardAt}
-use Rattle.file_sections.specs.Sections.{sectionOf, standingOf, openedOf, Inside}
-use Rattle.file.specs.Numbers.{first, AtFirst, Counts, Board, Numbers}
+use Rattle.file_sections.specs.Sections.{sectionOf, standingOf, openedOf, firstStanding, AtFirst}
+use Rattle.file_sections.proofs.WayLaws.{Way, way-begin, way-end, front-boards, number-board, number-other, way-on, found-inside}
+use Rattle.file.specs.Numbers.{Counts, NumberedBoard, Numbers}
 use Rattle.file_sections.specs.declared.sections.Section.{Section}
 use Rattle.file_sections.specs.declared.sections.BoardCursor.{BoardCursor}
 use Rattle.file_sections.specs.declared.sections.OpenedBoards.{OpenedBoards}
 use Rattle.file_sections.specs.declared.sections.OpenedBoards.the-variants.{At, Refused}
 use Rattle.file.specs.declared.numbers.Numbered.{Numbered}
 
--- A cursor on its way: the boards passed and those that remain are all
-
-pub record Way (s : List ℕ) (c : Standing) : Type 0 where
-  pub short : length s ≤ limit
-  pub all : c .number + length (boardsOf (remaining s c)) ≡ length (boardsOf (sections s))
-  pub small : c .number ≤ c .at
-  pub within : c .at ≤ length s + 1
-
-pub way-begin : (s : List ℕ) (c : BoardCursor) → AtFirst s c → Way s (standingOf c)
-way-begin s c r =
-    let a = ap (λ (l : List Part). length (boardsOf l)) (all-remain s) in
-    let w : Way s (first s) = record { short = r .short; all = omega arith; small = omega arith; within = omega arith } in
-    subst (Way s) (sym (r .first)) w
-
-pub way-end : (s : List ℕ) (c : Standing) → Way s c → remaining s c ≡ [] → c .number ≡ length (boardsOf (sections s))
-unfolding keep
-way-end s c w e = (let z : c .number ≡ c .number + length (boardsOf (remaining s c)) = rw e (omega arith) in z) ∙ w .all
+-- One section on the way of a cursor
 
 module _ (s : List ℕ) (c : Standing) (w : Way s c) (n : ℕ) (p : Part) (d : Standing) (f : Found s c n p d) where
-  front-boards : boardsOf (remaining s c) ≡ pick (p .board) (p ∷ boardsOf (remaining s d)) (boardsOf (remaining s d))
-  unfolding keep
-  front-boards = ap boardsOf (f .front)
-
-  -- the number goes up by one at a board
-  pub number-board : p .board ≡ true → d .number ≡ c .number + 1
-  number-board h = f .next ∙ simp h (let a = w .small in let b = w .within in let l = w .short in omega arith)
-
-  pub number-other : p .board ≡ false → d .number ≡ c .number
-  number-other h = f .next ∙ simp h
-
-  pub way-on : Way s d
-  way-on = go (p .board) refl
-    where
-      go : (t : Bool) → p .board ≡ t → Way s d
-      go true h =
-          let e = number-board h in
-          let b : boardsOf (remaining s c) ≡ p ∷ boardsOf (remaining s d) = front-boards ∙ simp h in
-          let l = ap length b in
-          let a = w .all in
-          record { short = w .short; all = omega arith; small = let x = w .small in let y = f .later in omega arith; within = f .within }
-      go false h =
-          let e = number-other h in
-          let b : boardsOf (remaining s c) ≡ boardsOf (remaining s d) = front-boards ∙ simp h in
-          let l = ap length b in
-          let a = w .all in
-          record { short = w .short; all = omega arith; small = let x = w .small in let y = f .later in omega arith; within = f .within }
-
   -- the board that is looked for
   pub it-is : (m : ℕ) → (p .board && eqb n m) ≡ true → getD (boardsOf (remaining s c)) (m - c .number) (section 0 0 false) ≡ getD (boardsOf (sections s)) m (section 0 0 false)
       → (m < length (boardsOf (sections s))) × (getD (boardsOf (sections s)) m (section 0 0 false) ≡ p)
@@ -90,7 +43,7 @@ module _ (s : List ℕ) (c : Standing) (w : Way s c) (n : ℕ) (p : Part) (d : S
       let t = and-left (p .board) _ h in
       let e = f .number in
       let q = eqb-true n m (and-right (p .board) _ h) in
-      let b : boardsOf (remaining s c) ≡ p ∷ boardsOf (remaining s d) = front-boards ∙ simp t in
+      let b : boardsOf (remaining s c) ≡ p ∷ boardsOf (remaining s d) = front-boards s c w n p d f ∙ simp t in
       let l = ap length b in
       let a = w .all in
       let z : m - c .number ≡ 0 = omega arith in
@@ -102,16 +55,16 @@ module _ (s : List ℕ) (c : Standing) (w : Way s c) (n : ℕ) (p : Part) (d : S
     where
       go : (t : Bool) → p .board ≡ t → (d .number ≤ m) × (getD (boardsOf (remaining s d)) (m - d .number) (section 0 0 false) ≡ getD (boardsOf (sections s)) m (section 0 0 false))
       go true t =
-          let e = number-board t in
+          let e = number-board s c w n p d f t in
           let u = f .number in
           let q = eqb-false n m (simp t at h) in
-          let b : boardsOf (remaining s c) ≡ p ∷ boardsOf (remaining s d) = front-boards ∙ simp t in
+          let b : boardsOf (remaining s c) ≡ p ∷ boardsOf (remaining s d) = front-boards s c w n p d f ∙ simp t in
           let r : c .number < m = split (c .number) m (λ y. y) (λ y. absurd (q (omega arith))) in
           let z : m - c .number ≡ suc (m - d .number) = omega arith in
           (omega arith, (let y = rw (b, z) at g in y))
       go false t =
-          let e = number-other t in
-          let b : boardsOf (remaining s c) ≡ boardsOf (remaining s d) = front-boards ∙ simp t in
+          let e = number-other s c w n p d f t in
+          let b : boardsOf (remaining s c) ≡ boardsOf (remaining s d) = front-boards s c w n p d f ∙ simp t in
           (omega arith, (let y = rw b at g in rw e y))
 
 -- Looking for a number: the board of that number among those that remain is the file's
@@ -135,10 +88,7 @@ seeks-on s m c k n p d f h =
     let z = not-it s c (k .way) n p d f m h (k .most) (k .same) in
     record { way = way-on s c (k .way) n p d f; most = z .0; same = z .1 }
 
-pub found-inside : (s : List ℕ) (c : Standing) → Way s c → (n : ℕ) (p : Section) (d : Standing) → Found s c n (sectionOf p) d → Inside s p
-found-inside s c w n p d f = record { begins = f .begins; stops = f .stops; short = let l = w .short in omega arith }
-
-pub seeks-found : (s : List ℕ) (m : ℕ) (c : Standing) → Seeks s m c → (n : ℕ) (p : Section) (d : Standing) → Found s c n (sectionOf p) d → (p .board && eqb n m) ≡ true → Board s m p
+pub seeks-found : (s : List ℕ) (m : ℕ) (c : Standing) → Seeks s m c → (n : ℕ) (p : Section) (d : Standing) → Found s c n (sectionOf p) d → (p .board && eqb n m) ≡ true → NumberedBoard s m p
 seeks-found s m c k n p d f h =
     let z = it-is s c (k .way) n (sectionOf p) d f m h (k .same) in
     record { some = z .0; is = z .1; inside = found-inside s c (k .way) n p d f }
@@ -152,7 +102,7 @@ spans-count : (s : List ℕ) → length (fileSpans s) ≡ length (boardsOf (sect
 unfolding fileSpans
 spans-count s = length-map (boardsOf (sections s)) (boardIn s)
 
-pub numbered-is : (s : List ℕ) (n : ℕ) (p : Section) → Board s n p → numbered s n ≡ boardAt (take (p .stop) s) (p .start)
+pub numbered-is : (s : List ℕ) (n : ℕ) (p : Section) → NumberedBoard s n p → numbered s n ≡ boardAt (take (p .stop) s) (p .start)
 unfolding fileSpans boardIn
 numbered-is s n p b = getD-map (boardIn s) (boardsOf (sections s)) n (section 0 0 false) ∙ ap (boardIn s) (b .is)
 
@@ -161,18 +111,10 @@ module _ (s : List ℕ) (o : OpenedBoards) (e : openedOf o ≡ openBoards s) whe
     taken : openBoards s ≡ accepted (standingOf c)
     taken = sym e ∙ ap openedOf f
 
-    pub ready : AtFirst s c
-    unfolding openBoards openText
-    ready =
-        record {
-          first = sym (unless-same (tooLong s ∷ notUtf8 s ∷ []) (first s) (standingOf c) taken);
-          short = opened s {n = 0} (unless-passed (tooLong s ∷ notUtf8 s ∷ []) [] (first s) (standingOf c) 0 taken ∙ (unfold unless in refl)) .short;
-        }
-
     -- the checks 1 and 2 are passed
     pub passed : {A : Type 0} (ds : List (Option Refusal)) (a : A) → unless (tooLong s ∷ notUtf8 s ∷ ds) a ≡ unless ds a
     unfolding openBoards
-    passed ds a = unless-passed (tooLong s ∷ notUtf8 s ∷ []) ds (first s) (standingOf c) a taken
+    passed ds a = unless-passed (tooLong s ∷ notUtf8 s ∷ []) ds (firstStanding s) (standingOf c) a taken
 
     pub counted : (n : ℕ) → Counts s n → accepted n ≡ countBoards s
     unfolding countBoards
@@ -183,7 +125,7 @@ module _ (s : List ℕ) (o : OpenedBoards) (e : openedOf o ≡ openBoards s) whe
       unfolding unless
       missing k h l ds a = let q : length (fileSpans s) ≡ k = spans-count s ∙ sym h in rw q (simp (le-leb k n l))
 
-      pub there : (p : Section) → Board s n p → {A : Type 0} (ds : List (Option Refusal)) (a : A) → unless (noBoard n (length (fileSpans s)) ∷ ds) a ≡ unless ds a
+      pub there : (p : Section) → NumberedBoard s n p → {A : Type 0} (ds : List (Option Refusal)) (a : A) → unless (noBoard n (length (fileSpans s)) ∷ ds) a ≡ unless ds a
       unfolding unless
       there p b ds a = simp (lt-leb (length (fileSpans s)) n (let x = b .some in let y = spans-count s in omega arith))
 
@@ -191,7 +133,7 @@ module _ (s : List ℕ) (o : OpenedBoards) (e : openedOf o ≡ openBoards s) whe
       unfolding fileHeading
       heading-missing k q l h g = g ∙ sym (ap headed (passed _ (numbered s n) ∙ missing k q l [] (numbered s n)))
 
-      pub heading-found : (p : Section) → Board s n p → (h : Heading) → h ≡ headingOf (boardAt (take (p .stop) s) (p .start)) → h ≡ fileHeading s n
+      pub heading-found : (p : Section) → NumberedBoard s n p → (h : Heading) → h ≡ headingOf (boardAt (take (p .stop) s) (p .start)) → h ≡ fileHeading s n
       unfolding fileHeading
       heading-found p b h g =
           let z : unless [] (numbered s n) ≡ accepted (boardAt (take (p .stop) s) (p .start)) = unfold unless in ap accepted (numbered-is s n p b) in
@@ -202,7 +144,7 @@ module _ (s : List ℕ) (o : OpenedBoards) (e : openedOf o ≡ openBoards s) whe
       unfolding fileBoard
       board-missing k q l h g rows cards = rw g (sym (ap (λ (a : Answer (BoardOf Span)). stored a rows cards) (passed _ (numbered s n) ∙ missing k q l (fewRows (numbered s n) rows cards) (numbered s n))))
 
-      pub board-found : (p : Section) → Board s n p → (rows cards : List ℕ) {r : Reading}
+      pub board-found : (p : Section) → NumberedBoard s n p → (rows cards : List ℕ) {r : Reading}
           → r ≡ stored (unless (fewRows (boardAt (take (p .stop) s) (p .start)) rows cards) (boardAt (take (p .stop) s) (p .start))) rows cards → r ≡ fileBoard s n rows cards
       unfolding fileBoard
       board-found p b rows cards g =
@@ -215,7 +157,7 @@ module _ (s : List ℕ) (o : OpenedBoards) (e : openedOf o ≡ openBoards s) whe
 
     pub stopped : {A : Type 0} (ds : List (Option Refusal)) (a : A) → unless (tooLong s ∷ notUtf8 s ∷ ds) a ≡ refused r
     unfolding openBoards
-    stopped ds a = unless-refused (tooLong s ∷ notUtf8 s ∷ []) ds (first s) a r left
+    stopped ds a = unless-refused (tooLong s ∷ notUtf8 s ∷ []) ds (firstStanding s) a r left
 
     pub count-refused : refused r ≡ countBoards s
     unfolding countBoards

@@ -15,8 +15,8 @@ ghost use mathlib.Core.Path.{_≡_};
 ghost use Rattle.lin_spec.specs.Base.{any, countIf};
 ghost use Rattle.lin_spec.specs.Records.{bytesAt};
 ghost use Rattle.lin_spec.specs.File.{sameName, hasName, fileSpans, findName};
-ghost use Rattle.file_sections.specs.Sections.{Inside};
-ghost use Rattle.file.specs.Numbers.{countedOf, Finds, AtFirst};
+ghost use Rattle.file_sections.specs.Sections.{Inside, AtFirst};
+ghost use Rattle.file.specs.Numbers.{countedOf, Finds};
 
 // Names are the same when their bytes are.
 fn same_name(a: &[u8], b: &[u8]) -> bool

@@ -11,7 +11,8 @@ use lin_spec::Refusal;
 ghost use mathlib.Core.Path.{_≡_};
 ghost use Rattle.lin_spec.specs.Reading.{Reading};
 ghost use Rattle.lin_spec.specs.File.{countBoards, fileHeading, fileBoard};
-ghost use Rattle.file.specs.Numbers.{countedOf, Counts, AtFirst, Numbers};
+ghost use Rattle.file.specs.Numbers.{countedOf, Counts, Numbers};
+ghost use Rattle.file_sections.specs.Sections.{AtFirst};
 
 // How many there are.
 pub enum Counted {
@@ -43,6 +44,7 @@ fn count_from(text: &[u8], cursor: BoardCursor) -> usize
     }
 }
 
+// How many boards a file has.
 pub fn count_boards(text: &[u8]) -> Counted
     ensures { λ r. ⌜ countedOf r ≡ countBoards (now (text .entry)) ⌝ }
 {

@@ -1,12 +1,12 @@
 -- A PBN record lent as numbers: what the export computes, and what a code outside its range leaves of a call. (01: From PBN; Eight refusals, 8)
 -- Assumes nothing.
 use Prim.Native.Nat.{ℕ}
-use Prim.Native.Char.{code}
 use mathlib.Core.Path.{_≡_, ap}
 use mathlib.Core.Bool.{Bool, true, false}
 use mathlib.Core.List.{List}
 use lib.ListN.{length}
 use lib.Dec.{ltb}
+use Rattle.lin_spec.specs.Writer.{pipeMark, lineMark}
 use Rattle.lin_spec.specs.Base.{pick}
 use Rattle.lin_spec.specs.Records.{limit}
 use Rattle.lin_spec.specs.Refusals.{Answer}
@@ -24,7 +24,7 @@ use Rattle.lin_host.proofs.WritingLaws.{second}
 
 -- the answer for a record and a test that are those of the numbers
 pub converting : (s : List ℕ) (b : LinPbn) (ws ps ns o rows cards : List ℕ) {t : Bool} {x : PbnBoard} → t ≡ badRecord b → x ≡ recordOf b
-    → conversionNumbers (convertBoard t (code "/") (code " ") (pbn s x ws ps ns) o rows cards) ≡ fromBoardNumbers s b ws ps ns o rows cards
+    → conversionNumbers (convertBoard t pipeMark lineMark (pbn s x ws ps ns) o rows cards) ≡ fromBoardNumbers s b ws ps ns o rows cards
 converting s b ws ps ns o rows cards e f = rw (e, f)
 
 -- with codes in their ranges the export is the entry

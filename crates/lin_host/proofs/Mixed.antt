@@ -23,10 +23,10 @@ use Rattle.lin_spec.specs.declared.Refusal.the-variants.{TextTooLong, NotUtf8, 
 use Rattle.lin_spec.proofs.Base.{picked, all-map}
 use Rattle.lin_spec.proofs.ThirdDemand.{Allowed, plain-fit, kept-walk}
 use Rattle.lin_host_numbers.specs.Answers.{numbersOf}
-use Rattle.lin_host_numbers.specs.Codes.{spansOf, claimOf, boardOf, badCodes}
+use Rattle.lin_host_numbers.specs.Codes.{wordSpans, codedClaim, codedBoard, badCodes}
 use Rattle.lin_host_numbers.specs.declared.boards.LinBoard.{LinBoard}
 use Rattle.lin_host.specs.Writing.{lentNumbers}
-use Rattle.lin_host.specs.Mixed.{Appending, called, fed, TypedNumbers, TypedCall, ThirdDemandMixed}
+use Rattle.lin_host.specs.Mixed.{Appending, calledBy, fed, TypedNumbers, TypedCall, ThirdDemandMixed}
 use Rattle.lin_host.specs.Mixed.Appending.{entry, export}
 
 -- A call by its own definition is the call that the third demand speaks of
@@ -50,7 +50,7 @@ used-told : (a : Answer ℕ) (used : ℕ) → pick (eqb (numbersOf a .refusal) 0
 used-told (refused r) used = ap (λ (t : Bool). pick t (numbersOf (refused r) .value) used) (refusal-told r)
 used-told (accepted n) used = refl
 
-same-call : (st : State) (c : Appending) → called st c ≡ event st (fed c)
+same-call : (st : State) (c : Appending) → calledBy st c ≡ event st (fed c)
 unfolding event
 same-call st (entry x) = refl
 same-call st (export s b ws cs) =
@@ -61,15 +61,15 @@ same-call st (export s b ws cs) =
 
 -- A board of numbers has what append's types say
 
-spans-length : (n : ℕ) (ws : List ℕ) → length ws ≡ n * 2 → length (spansOf ws) ≡ n
-unfolding spansOf
+spans-length : (n : ℕ) (ws : List ℕ) → length ws ≡ n * 2 → length (wordSpans ws) ≡ n
+unfolding wordSpans
 spans-length zero [] h = refl
 spans-length (suc n) [] h = absurd (let z : ⊥ = omega arith in z)
 spans-length zero (a ∷ ws) h = absurd (let z : ⊥ = omega arith in z)
 spans-length (suc n) (a ∷ []) h = absurd (let z : ⊥ = omega arith in z)
 spans-length (suc n) (a ∷ b ∷ ws) h = ap suc (spans-length n ws (omega arith))
 
-claim-told : (t n : ℕ) → Present (λ (k : ℕ). k ≤ 255) (claimed (claimOf t n))
+claim-told : (t n : ℕ) → Present (λ (k : ℕ). k ≤ 255) (claimed (codedClaim t n))
 claim-told t n =
     picked P (eqb t 0) (λ _. tt) (λ _. picked P (ltb 255 n) (λ _. tt) (λ e. ltb-false 255 n e))
   where
@@ -77,7 +77,7 @@ claim-told t n =
     P c = Present (λ (k : ℕ). k ≤ 255) (claimed c)
 
 numbers-typed : (s : List ℕ) (b : LinBoard) (ws cs : List ℕ) → TypedNumbers b → Typed (lentNumbers s b ws cs)
-unfolding boardOf
+unfolding codedBoard
 numbers-typed s b ws cs h = record { names = spans-length 4 (b .names) (h .names); counts = h .counts; claim = claim-told (b .claimed) (b .claim) }
 
 call-allowed : (c : Appending) → TypedCall c → Allowed (fed c)
@@ -86,4 +86,4 @@ call-allowed (export s b ws cs) h = record { fit = plain-fit; typed = numbers-ty
 
 -- The theorem: the used bytes are T, the file reader finds L in them, a refused call changes nothing, and the accepted calls are those of the book
 pub third-demand-mixed : (o : List ℕ) (cs : List Appending) → All TypedCall cs → ThirdDemandMixed o cs
-third-demand-mixed o cs h = kept-walk called fed same-call o cs (all-map TypedCall Allowed fed call-allowed cs h)
+third-demand-mixed o cs h = kept-walk calledBy fed same-call o cs (all-map TypedCall Allowed fed call-allowed cs h)

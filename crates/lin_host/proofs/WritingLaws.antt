@@ -20,22 +20,22 @@ use Rattle.lin_spec.specs.declared.Refusal.the-variants.{TextTooLong, OutOfRang
 use Rattle.board_lent.specs.declared.heads.Head.{Head}
 use Rattle.board_lent.specs.Heads.{headOf, boardOf as withDeal}
 use Rattle.lin_host_numbers.specs.Answers.{outcomeNumbers}
-use Rattle.lin_host_numbers.specs.Codes.{boardOf, badCodes}
+use Rattle.lin_host_numbers.specs.Codes.{codedBoard, badCodes}
 use Rattle.lin_host.specs.Writing.{lentNumbers, appendNumbers, equalityNumbers, sameNumbers}
 use Rattle.lin_host_numbers.specs.declared.boards.LinBoard.{LinBoard}
 
 -- the board of the numbers is what it is without its deal, and the counts
-whole : (b : LinBoard) {h : Head} → h ≡ headOf (boardOf b) → withDeal h (b .counts) ≡ boardOf b
-unfolding boardOf
+whole : (b : LinBoard) {h : Head} → h ≡ headOf (codedBoard b) → withDeal h (b .counts) ≡ codedBoard b
+unfolding codedBoard
 whole b e = ap (λ (h : Head). withDeal h (b .counts)) e
 
 -- the answer for a board and a test that are those of the numbers
-pub appending : (s : List ℕ) (b : LinBoard) (ws cs o : List ℕ) (used : ℕ) {t : Bool} {h : Head} → t ≡ badCodes b → h ≡ headOf (boardOf b)
+pub appending : (s : List ℕ) (b : LinBoard) (ws cs o : List ℕ) (used : ℕ) {t : Bool} {h : Head} → t ≡ badCodes b → h ≡ headOf (codedBoard b)
     → outcomeNumbers (appended t (plain (lent s (withDeal h (b .counts)) ws cs)) o used) ≡ appendNumbers s b ws cs o used
 appending s b ws cs o used e f = let z = whole b f in rw (e, z)
 
 pub comparing : (s : List ℕ) (b : LinBoard) (ws cs : List ℕ) (s2 : List ℕ) (b2 : LinBoard) (ws2 cs2 : List ℕ) {t u : Bool} {x y : Head}
-    → t ≡ badCodes b → u ≡ badCodes b2 → x ≡ headOf (boardOf b) → y ≡ headOf (boardOf b2)
+    → t ≡ badCodes b → u ≡ badCodes b2 → x ≡ headOf (codedBoard b) → y ≡ headOf (codedBoard b2)
     → equalityNumbers (sameBoards (t || u) (lent s (withDeal x (b .counts)) ws cs) (lent s2 (withDeal y (b2 .counts)) ws2 cs2)) ≡ sameNumbers s b ws cs s2 b2 ws2 cs2
 comparing s b ws cs s2 b2 ws2 cs2 e f g h = let z = whole b g in let w = whole b2 h in rw (e, f, z, w)
 
@@ -49,7 +49,7 @@ pub same-plain : (s : List ℕ) (b : LinBoard) (ws cs : List ℕ) (s2 : List ℕ
     → sameNumbers s b ws cs s2 b2 ws2 cs2 ≡ equalityNumbers (sameBoard (lentNumbers s b ws cs) (lentNumbers s2 b2 ws2 cs2))
 same-plain s b ws cs s2 b2 ws2 cs2 e f = rw (e, f)
 
--- A call with a code outside its range is refused by 1 or 8, whatever else it is lent: no answer shows what boardOf makes of such a code
+-- A call with a code outside its range is refused by 1 or 8, whatever else it is lent: no answer shows what codedBoard makes of such a code
 
 pub second : {A : Type 0} (t : Bool) (q r : Refusal) (cs : List (Option Refusal)) (a : A) → unless (refuseIf t q ∷ some r ∷ cs) a ≡ refused (pick t q r)
 unfolding unless

@@ -1,7 +1,7 @@
 -- The board that is made of a PBN record lent as numbers. (01: From PBN, `from_board`)
 use Prim.Native.Nat.{ℕ}
-use Prim.Native.Char.{code}
 use mathlib.Core.List.{List}
+use Rattle.lin_spec.specs.Writer.{pipeMark, lineMark}
 use Rattle.lin_spec.specs.Pbn.{pbn, convertBoard, Conversion as BoardConversion}
 use Rattle.lin_host_numbers.specs.Boards.{headingNumbers}
 use Rattle.lin_host_numbers.specs.Records.{recordOf, badRecord}
@@ -22,4 +22,4 @@ conversionNumbers c = record { heading = headingNumbers (c .heading); len = c .l
 -- `from_board`, cleaning with "/" and space
 abbrev pub fromBoardNumbers : (text : List ℕ) → LinPbn → (calls plays notes o rows cards : List ℕ) → Conversion
 fromBoardNumbers s b ws ps ns o rows cards =
-    conversionNumbers (convertBoard (badRecord b) (code "/") (code " ") (pbn s (recordOf b) ws ps ns) o rows cards)
+    conversionNumbers (convertBoard (badRecord b) pipeMark lineMark (pbn s (recordOf b) ws ps ns) o rows cards)

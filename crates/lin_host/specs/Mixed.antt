@@ -26,11 +26,11 @@ pub data Appending : Type 0 where
 abbrev pub acceptsNumbers : (refusal : ℕ) → Bool
 acceptsNumbers r = eqb r 0
 
-abbrev pub called : State → Appending → Event
-called st (entry x) =
+abbrev pub calledBy : State → Appending → Event
+calledBy st (entry x) =
     let r = append x (st .output) (st .used) in
     record { before = st; accepted = accepts (r .answer); next = record { output = r .output; used = usedAfter (r .answer) (st .used) } }
-called st (export s b ws cs) =
+calledBy st (export s b ws cs) =
     let r = appendNumbers s b ws cs (st .output) (st .used) in
     let t = acceptsNumbers (r .answer .refusal) in
     record { before = st; accepted = t; next = record { output = r .output; used = pick t (r .answer .value) (st .used) } }
@@ -51,4 +51,4 @@ TypedCall (export s b ws cs) = TypedNumbers b
 
 -- the third demand for such a list
 abbrev pub ThirdDemandMixed : (o : List ℕ) (cs : List Appending) → Type 0
-ThirdDemandMixed o cs = Kept o (map fed cs) (walk called (start o) cs)
+ThirdDemandMixed o cs = Kept o (map fed cs) (walk calledBy (start o) cs)

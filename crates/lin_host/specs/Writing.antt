@@ -9,12 +9,12 @@ use Rattle.lin_spec.specs.Lent.{Lent, lent}
 use Rattle.lin_spec.specs.Append.{plain, appended}
 use Rattle.lin_spec.specs.Equality.{sameBoards}
 use Rattle.lin_host_numbers.specs.Answers.{numbersOf, Outcome, outcomeNumbers}
-use Rattle.lin_host_numbers.specs.Codes.{boardOf, badCodes}
+use Rattle.lin_host_numbers.specs.Codes.{codedBoard, badCodes}
 use Rattle.lin_host_numbers.specs.declared.answers.LinAnswer.{LinAnswer}
 use Rattle.lin_host_numbers.specs.declared.boards.LinBoard.{LinBoard}
 
 abbrev pub lentNumbers : (text : List ℕ) → LinBoard → (words cards : List ℕ) → Lent
-lentNumbers s b ws cs = lent s (boardOf b) ws cs
+lentNumbers s b ws cs = lent s (codedBoard b) ws cs
 
 -- append, and `write_lin`, which is an append after no used byte
 abbrev pub appendNumbers : (text : List ℕ) → LinBoard → (words cards o : List ℕ) (used : ℕ) → Outcome

@@ -21,7 +21,7 @@ use Rattle.lin_spec.specs.declared.Vulnerability.{Vulnerability}
 use Rattle.lin_spec.specs.declared.Vulnerability.the-variants.{None, NorthSouth, EastWest, Both}
 use Rattle.lin_spec.specs.declared.Board.{Board}
 use Rattle.lin_host_numbers.specs.Boards.{vulnerabilityNumber, placeNumbers, textNumbers, claimFlag, claimNumber, boardNumbers}
-use Rattle.lin_host_numbers.specs.Codes.{vulnerabilityOf, spansOf, textOf, claimOf, boardOf, badGiven, badCodes}
+use Rattle.lin_host_numbers.specs.Codes.{vulnerabilityOf, wordSpans, textOf, codedClaim, codedBoard, badGiven, badCodes}
 use Rattle.lin_spec.specs.Board.{Present as Holds}
 use Rattle.lin_spec.specs.Lent.{claimOf as claimIn}
 use Rattle.lin_spec.proofs.Seats.{seat-back}
@@ -29,8 +29,8 @@ use Rattle.lin_spec.proofs.Seats.{seat-back}
 -- the spans of eight words
 
 pub eight : (ws : List ℕ) → length ws ≡ 8
-    → span (getD ws 0 0) (getD ws 1 0) ∷ span (getD ws 2 0) (getD ws 3 0) ∷ span (getD ws 4 0) (getD ws 5 0) ∷ span (getD ws 6 0) (getD ws 7 0) ∷ [] ≡ spansOf ws
-unfolding spansOf
+    → span (getD ws 0 0) (getD ws 1 0) ∷ span (getD ws 2 0) (getD ws 3 0) ∷ span (getD ws 4 0) (getD ws 5 0) ∷ span (getD ws 6 0) (getD ws 7 0) ∷ [] ≡ wordSpans ws
+unfolding wordSpans
 eight [] h = absurd (omega arith)
 eight (a ∷ []) h = absurd (omega arith)
 eight (a ∷ b ∷ []) h = absurd (omega arith)
@@ -50,8 +50,8 @@ vulnerability-back NorthSouth = refl
 vulnerability-back EastWest = refl
 vulnerability-back Both = refl
 
-spans-back : (xs : List Span) → spansOf (placeNumbers xs) ≡ xs
-unfolding spansOf placeNumbers
+spans-back : (xs : List Span) → wordSpans (placeNumbers xs) ≡ xs
+unfolding wordSpans placeNumbers
 spans-back [] = refl
 spans-back (x ∷ xs) = rw (spans-back xs)
 
@@ -59,12 +59,12 @@ text-back : (x : MaybeSpan) → textOf (textNumbers x) ≡ x
 text-back Absent = refl
 text-back (Present x) = refl
 
-claim-back : (c : MaybeClaim) → Holds (λ (n : ℕ). n ≤ 255) (claimIn c) → claimOf (claimFlag c) (claimNumber c) ≡ c
+claim-back : (c : MaybeClaim) → Holds (λ (n : ℕ). n ≤ 255) (claimIn c) → codedClaim (claimFlag c) (claimNumber c) ≡ c
 claim-back NoClaim h = refl
 claim-back (Claimed n) h = simp (le-ltb 255 n h)
 
-pub board-back : (b : Board) → Holds (λ (n : ℕ). n ≤ 255) (claimIn (b .claim)) → boardOf (boardNumbers b) ≡ b
-unfolding boardOf boardNumbers
+pub board-back : (b : Board) → Holds (λ (n : ℕ). n ≤ 255) (claimIn (b .claim)) → codedBoard (boardNumbers b) ≡ b
+unfolding codedBoard boardNumbers
 board-back b h =
     rw (spans-back (b .names), seat-back (b .dealer), vulnerability-back (b .vulnerability), text-back (b .title), text-back (b .«room_board»), text-back (b .«board_header»), claim-back (b .claim) h)
 

@@ -23,30 +23,30 @@ abbrev pub vulnerabilityOf : ℕ → Vulnerability
 vulnerabilityOf n = pick (eqb n 0) None (pick (eqb n 1) NorthSouth (pick (eqb n 2) EastWest Both))
 
 -- a start and a length are a span
-unfoldable pub spansOf : List ℕ → List Span
-spansOf [] = []
-spansOf (a ∷ []) = []
-spansOf (a ∷ n ∷ ws) = span a n ∷ spansOf ws
+unfoldable pub wordSpans : List ℕ → List Span
+wordSpans [] = []
+wordSpans (a ∷ []) = []
+wordSpans (a ∷ n ∷ ws) = span a n ∷ wordSpans ws
 
 -- the place of an absent text is not looked at
 abbrev pub textOf : LinText → MaybeSpan
 textOf x = pick (eqb (x .present) 0) Absent (Present (span (x .start) (x .len)))
 
 -- nor is an absent claim
-abbrev pub claimOf : (claimed claim : ℕ) → MaybeClaim
-claimOf t n = pick (eqb t 0) NoClaim (pick (ltb 255 n) NoClaim (Claimed n))
+abbrev pub codedClaim : (claimed claim : ℕ) → MaybeClaim
+codedClaim t n = pick (eqb t 0) NoClaim (pick (ltb 255 n) NoClaim (Claimed n))
 
-unfoldable pub boardOf : LinBoard → Board
-boardOf b =
+unfoldable pub codedBoard : LinBoard → Board
+codedBoard b =
     record {
-      names = spansOf (b .names);
+      names = wordSpans (b .names);
       dealer = seatAt (b .dealer);
       deal = record { counts = b .counts };
       vulnerability = vulnerabilityOf (b .vulnerability);
       title = textOf (b .title);
       «room_board» = textOf (b .«room_board»);
       «board_header» = textOf (b .«board_header»);
-      claim = claimOf (b .claimed) (b .claim);
+      claim = codedClaim (b .claimed) (b .claim);
     }
 
 -- 8: "number outside its range". Seats and vulnerability are 0 to 3, a flag is 0 or 1, and a claim that is made is "0 to 255".

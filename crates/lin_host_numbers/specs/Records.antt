@@ -20,8 +20,8 @@ use Rattle.lin_host_numbers.specs.declared.records.LinPbn.{LinPbn}
 abbrev pub boardNumberOf : (given number : ℕ) → MaybeNumber
 boardNumberOf t n = pick (eqb t 0) NoNumber (Number n)
 
-abbrev pub dealerOf : (given dealer : ℕ) → MaybeSeat
-dealerOf t n = pick (eqb t 0) NoSeat (Given (seatAt n))
+abbrev pub codedDealer : (given dealer : ℕ) → MaybeSeat
+codedDealer t n = pick (eqb t 0) NoSeat (Given (seatAt n))
 
 abbrev pub resultOf : (given : ℕ) (result : ℤ) → MaybeResult
 resultOf t n = pick (eqb t 0) NoResult (Tricks n)
@@ -37,7 +37,7 @@ recordOf b =
       date = textOf (b .date);
       id = textOf (b .id);
       number = boardNumberOf (b .«number_given») (b .number);
-      dealer = dealerOf (b .«dealer_given») (b .dealer);
+      dealer = codedDealer (b .«dealer_given») (b .dealer);
       deal = record { counts = b .counts };
       vulnerability = vulnerabilityOf (b .vulnerability);
       result = resultOf (b .«result_given») (b .result);

@@ -9,7 +9,7 @@ use lin_spec::Span;
 use lin_spec::Vulnerability;
 ghost use mathlib.Core.Path.{_≡_};
 ghost use Rattle.board_lent.specs.Heads.{headOf};
-ghost use Rattle.lin_host_numbers.specs.Codes.{vulnerabilityOf, spansOf, textOf, claimOf, boardOf, badThree, badGiven, badCodes};
+ghost use Rattle.lin_host_numbers.specs.Codes.{vulnerabilityOf, wordSpans, textOf, codedClaim, codedBoard, badThree, badGiven, badCodes};
 
 // The parts of a board, each for any number.
 
@@ -26,7 +26,7 @@ pub(crate) fn vulnerability_of(code: u32) -> Vulnerability
 
 // The four names by their starts and lengths.
 fn names_of(words: [u32; 8]) -> [Span; 4]
-    ensures { λ r. ⌜ r ≡ spansOf words ⌝ }
+    ensures { λ r. ⌜ r ≡ wordSpans words ⌝ }
 {
     let s = Span {
         start: words[0],
@@ -61,7 +61,7 @@ pub(crate) fn text_of(x: LinText) -> MaybeSpan
 }
 
 fn claim_of(claimed: u32, claim: u32) -> MaybeClaim
-    ensures { λ r. ⌜ r ≡ claimOf claimed claim ⌝ }
+    ensures { λ r. ⌜ r ≡ codedClaim claimed claim ⌝ }
 {
     if claimed == 0 {
         return MaybeClaim::Absent;
@@ -74,7 +74,7 @@ fn claim_of(claimed: u32, claim: u32) -> MaybeClaim
 
 // The board of these numbers, without its deal.
 pub fn coded_head(b: LinBoard) -> Head
-    ensures { λ r. ⌜ r ≡ headOf (boardOf b) ⌝ }
+    ensures { λ r. ⌜ r ≡ headOf (codedBoard b) ⌝ }
 {
     let words = b.names;
     let title = b.title;

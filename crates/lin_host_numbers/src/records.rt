@@ -11,7 +11,7 @@ use lin_spec::MaybeSeat;
 use lin_spec::PbnBoard;
 use lin_spec::Seat;
 ghost use mathlib.Core.Path.{_≡_};
-ghost use Rattle.lin_host_numbers.specs.Records.{boardNumberOf, dealerOf, resultOf, recordOf, badNames, badRecord};
+ghost use Rattle.lin_host_numbers.specs.Records.{boardNumberOf, codedDealer, resultOf, recordOf, badNames, badRecord};
 
 // A PBN record without its calls, its play and its notes. Each flag is 0 or 1, and what it says is not given is not looked at.
 #[repr(C)]
@@ -50,7 +50,7 @@ fn board_number_of(given: u32, number: u32) -> MaybeNumber
 }
 
 fn given_dealer(given: u32, dealer: u32) -> MaybeSeat
-    ensures { λ r. ⌜ r ≡ dealerOf given dealer ⌝ }
+    ensures { λ r. ⌜ r ≡ codedDealer given dealer ⌝ }
 {
     if given == 0 {
         return MaybeSeat::Absent;

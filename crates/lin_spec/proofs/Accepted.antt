@@ -1,5 +1,5 @@
 -- A call that no refusal meets has a board that reads back: its cards are cards and its texts are UTF-8. And what a reader gives, lent again, means the
--- board that was read. (01: Eight refusals; Writer; Reading)
+-- board that was read. (01: Eight refusals; Writer; Board)
 -- Assumes nothing.
 use Prim.Native.Nat.{ℕ, suc, _+_, _*_, _<_}
 use native.Mathlib.Omega.{arith}

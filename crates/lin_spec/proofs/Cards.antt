@@ -158,13 +158,13 @@ hand-count s c = omega (arith, count-sum (readHand s) c, hand-sum s)
 -- The remainder
 
 -- of three hands of n counts it has n counts
-pub remainder-length : (n : ℕ) (x y z : List ℕ) → length x ≡ n → length y ≡ n → length z ≡ n → length (unheldCards x y z) ≡ n
+pub unheld-length : (n : ℕ) (x y z : List ℕ) → length x ≡ n → length y ≡ n → length z ≡ n → length (unheldCards x y z) ≡ n
 unfolding unheldCards
-remainder-length n [] y z hx hy hz = hx
-remainder-length n (a ∷ x) [] z hx hy hz = hy
-remainder-length n (a ∷ x) (b ∷ y) [] hx hy hz = hz
-remainder-length zero (a ∷ x) (b ∷ y) (c ∷ z) hx hy hz = absurd (omega arith)
-remainder-length (suc n) (a ∷ x) (b ∷ y) (c ∷ z) hx hy hz = ap suc (remainder-length n x y z (omega arith) (omega arith) (omega arith))
+unheld-length n [] y z hx hy hz = hx
+unheld-length n (a ∷ x) [] z hx hy hz = hy
+unheld-length n (a ∷ x) (b ∷ y) [] hx hy hz = hz
+unheld-length zero (a ∷ x) (b ∷ y) (c ∷ z) hx hy hz = absurd (omega arith)
+unheld-length (suc n) (a ∷ x) (b ∷ y) (c ∷ z) hx hy hz = ap suc (unheld-length n x y z (omega arith) (omega arith) (omega arith))
 
 -- a sum is 0 where each of its parts is
 none-held : (a b c : ℕ) → eqb (a + b + c) 0 ≡ (eqb a 0 && (eqb b 0 && eqb c 0))
@@ -174,15 +174,15 @@ none-held zero (suc b) c = simp (ne-eqb (zero + suc b + c) 0 (λ e. omega arith)
 none-held zero zero (suc c) = simp (ne-eqb (zero + zero + suc c) 0 (λ e. omega arith), ne-eqb (suc c) 0 (λ e. omega arith))
 
 -- it holds exactly the cards that none of the three hands holds, each once
-pub remainder-at : (n : ℕ) (x y z : List ℕ) → length x ≡ n → length y ≡ n → length z ≡ n → (c : ℕ) → c < n
+pub unheld-at : (n : ℕ) (x y z : List ℕ) → length x ≡ n → length y ≡ n → length z ≡ n → (c : ℕ) → c < n
     → getD (unheldCards x y z) c 0 ≡ pick (eqb (getD x c 0) 0 && (eqb (getD y c 0) 0 && eqb (getD z c 0) 0)) 1 0
 unfolding unheldCards
-remainder-at n [] y z hx hy hz c h = absurd (omega arith)
-remainder-at n (a ∷ x) [] z hx hy hz c h = absurd (omega arith)
-remainder-at n (a ∷ x) (b ∷ y) [] hx hy hz c h = absurd (omega arith)
-remainder-at n (a ∷ x) (b ∷ y) (d ∷ z) hx hy hz zero h = ap (λ (t : Bool). pick t 1 0) (none-held a b d)
-remainder-at zero (a ∷ x) (b ∷ y) (d ∷ z) hx hy hz (suc c) h = absurd (omega arith)
-remainder-at (suc n) (a ∷ x) (b ∷ y) (d ∷ z) hx hy hz (suc c) h = remainder-at n x y z (omega arith) (omega arith) (omega arith) c (omega arith)
+unheld-at n [] y z hx hy hz c h = absurd (omega arith)
+unheld-at n (a ∷ x) [] z hx hy hz c h = absurd (omega arith)
+unheld-at n (a ∷ x) (b ∷ y) [] hx hy hz c h = absurd (omega arith)
+unheld-at n (a ∷ x) (b ∷ y) (d ∷ z) hx hy hz zero h = ap (λ (t : Bool). pick t 1 0) (none-held a b d)
+unheld-at zero (a ∷ x) (b ∷ y) (d ∷ z) hx hy hz (suc c) h = absurd (omega arith)
+unheld-at (suc n) (a ∷ x) (b ∷ y) (d ∷ z) hx hy hz (suc c) h = unheld-at n x y z (omega arith) (omega arith) (omega arith) c (omega arith)
 
 -- Deals
 
@@ -198,7 +198,7 @@ pub field-length : (c k : ℕ) (s : List ℕ) → length (field k (cut c s)) ≤
 field-length c k s = omega (arith, field-joined c k (cut c s), ap length (joined-cut c s))
 
 east-length : (t : Bool) (x y z v : List ℕ) → length (pick t (unheldCards (readHand x) (readHand y) (readHand z)) (readHand v)) ≡ 52
-east-length true x y z v = remainder-length 52 (readHand x) (readHand y) (readHand z) (hand-length x) (hand-length y) (hand-length z)
+east-length true x y z v = unheld-length 52 (readHand x) (readHand y) (readHand z) (hand-length x) (hand-length y) (hand-length z)
 east-length false x y z v = hand-length v
 
 -- a deal has 208 counts

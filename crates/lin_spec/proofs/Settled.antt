@@ -17,7 +17,7 @@ use Rattle.lin_spec.specs.Board.{CallOf, BoardOf, withoutEnd, mapOption,
 use Rattle.lin_spec.specs.Writer.{clean, cleanName, heldIn, impliedEast, present, settledDeal, settledCall, cleaned, settled}
 use Rattle.lin_spec.specs.declared.Seat.the-variants.{South, West, North, East}
 use Rattle.lin_spec.proofs.Base.{and-left}
-use Rattle.lin_spec.proofs.Cards.{remainder-length}
+use Rattle.lin_spec.proofs.Cards.{unheld-length}
 use Rattle.lin_spec.proofs.Reading.{board-eq}
 use Rattle.lin_spec.proofs.Clean.{Fit, Free, free-clean, clean-same, clean-clean, name-name, all-withoutEnd, without-same-end, without-ends}
 
@@ -64,7 +64,7 @@ module _ (s w n : List ℕ) (ls : length s ≡ 52) (lw : length w ≡ 52) (ln : 
   rest = unheldCards s w n
 
   lr : length rest ≡ 52
-  lr = remainder-length 52 s w n ls lw ln
+  lr = unheld-length 52 s w n ls lw ln
 
   implied-four : impliedEast (four s w n rest ls lw ln lr) ≡ true
   unfolding impliedEast

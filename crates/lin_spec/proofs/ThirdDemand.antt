@@ -1,7 +1,6 @@
 -- The third demand: what any list of append calls leaves in the output is what the plain book holds, and the file reader finds its boards in it.
 -- (01: Writer, "For the third demand ..")
 -- Assumes nothing.
-use Prim.Native.Char.{code}
 use Prim.Native.Nat.{ℕ, zero, suc, _+_, _*_, _/_, _≤_, _<_, min}
 use native.Mathlib.Nat.{le-of-suc-le-suc}
 use native.Mathlib.Omega.{arith}
@@ -13,6 +12,7 @@ use lib.ListN.{length, take, drop, getD, length-append, length-take, length-drop
 use lib.Seq.{take-at}
 use lib.Dec.{ltb, leb}
 use borrow.Author.Tests.{ltb-false, le-ltb, lt-leb}
+use Rattle.lin_spec.specs.Writer.{pipeMark, lineMark}
 use Rattle.lin_spec.specs.Base.{pick, All, any, keep, countIf, concat}
 use Rattle.lin_spec.specs.Records.{bytesAt, limit}
 use Rattle.lin_spec.specs.Refusals.{Answer, refuseIf, unless, passesEnd, illSpan, sat}
@@ -389,7 +389,7 @@ pub kept-walk : {A : Type 0} (step : State → A → Event) (asked : A → Asked
 kept-walk step asked h o cs a = subst (Kept o (map asked cs)) (sym (walk-same step asked h cs (start o))) (kept-list o (map asked cs) a)
 
 -- `/` and space are such bytes
-pub plain-fit : Fit (code "/") (code " ")
+pub plain-fit : Fit pipeMark lineMark
 plain-fit = record { p-low = omega arith; p-high = omega arith; p-pipe = λ e. omega arith; q-low = omega arith; q-high = omega arith; q-pipe = λ e. omega arith }
 
 pub third-demand : (o : List ℕ) (xs : List Lent) → All Typed xs → ThirdDemand o xs

@@ -1,6 +1,5 @@
 -- The entries that write a board: `write_lin`, and append. (01: Writer and settled form)
 use Prim.Native.Nat.{ℕ, _+_}
-use Prim.Native.Char.{code}
 use mathlib.Core.Bool.{Bool, false, _||_}
 use mathlib.Core.List.{List, [], _∷_, _++_}
 use mathlib.Core.Option.{Option}
@@ -10,7 +9,7 @@ use Rattle.lin_spec.specs.Refusals.{Answer, refuseIf, unless, sat}
 use Rattle.lin_spec.specs.Refusals.Answer.{refused, accepted}
 use Rattle.lin_spec.specs.Output.{overlay, room, Outcome}
 use Rattle.lin_spec.specs.Board.{BoardOf}
-use Rattle.lin_spec.specs.Writer.{written, settled}
+use Rattle.lin_spec.specs.Writer.{written, settled, pipeMark, lineMark}
 use Rattle.lin_spec.specs.Lent.{Lent, meaning, lentChecks}
 use Rattle.lin_spec.specs.declared.Refusal.{Refusal}
 use Rattle.lin_spec.specs.declared.Refusal.the-variants.{OutputTooSmall}
@@ -23,7 +22,7 @@ pub record Filing : Type 0 where
 
 -- "pipe to `/`, CR and LF each to a space"
 abbrev pub plain : Lent → Filing
-plain x = record { p = code "/"; q = code " "; lent = x }
+plain x = record { p = pipeMark; q = lineMark; lent = x }
 
 -- its written form and its settled form
 unfoldable pub writtenForm : Filing → List ℕ

@@ -1,6 +1,5 @@
 -- A board made from a PBN record. (01: From PBN, `from_board`)
 use Prim.Native.Nat.{ℕ, _+_, _%_}
-use Prim.Native.Char.{code}
 use mathlib.Core.Bool.{Bool, false, _&&_, _||_, not}
 use mathlib.Core.List.{List, [], _∷_, _++_, map}
 use mathlib.Core.Option.{Option, none, some}
@@ -15,7 +14,7 @@ use Rattle.lin_spec.specs.Output.{overlay, room}
 use Rattle.lin_spec.specs.Decimal.{digit, decimal}
 use Rattle.lin_spec.specs.Board.{CallOf, BoardOf, mapOption}
 use Rattle.lin_spec.specs.Reading.{headed, callWords, fewRows}
-use Rattle.lin_spec.specs.Writer.{clean, cleanName, orEmpty, present}
+use Rattle.lin_spec.specs.Writer.{clean, cleanName, orEmpty, present, pipeMark, lineMark}
 use Rattle.lin_spec.specs.Lent.{rowsOf, spanIn}
 use Rattle.lin_spec.specs.Annotation.{noteSpans, annotationText}
 use Rattle.lin_spec.specs.declared.Span.{Span}
@@ -250,4 +249,4 @@ convertBoard other p q x o rows cards =
 
 -- "pipe to `/`, CR and LF each to a space"
 abbrev pub convert : Pbn → (o rows cards : List ℕ) → Conversion
-convert x o rows cards = convertBoard false (code "/") (code " ") x o rows cards
+convert x o rows cards = convertBoard false pipeMark lineMark x o rows cards

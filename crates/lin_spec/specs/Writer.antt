@@ -20,6 +20,13 @@ unfoldable pub clean : (p q : ℕ) → List ℕ → List ℕ
 clean p q [] = []
 clean p q (b ∷ s) = pick (eqb b pipe) p (pick (eqb b 0x0D || eqb b 0x0A) q b) ∷ clean p q s
 
+-- those two bytes
+abbrev pub pipeMark : ℕ
+pipeMark = code "/"
+
+abbrev pub lineMark : ℕ
+lineMark = code " "
+
 -- "names then lose commas"
 abbrev pub without : (c : ℕ) → List ℕ → List ℕ
 without c s = keep (λ (b : ℕ). not (eqb b c)) s

@@ -22,13 +22,12 @@ use Rattle.lin_spec.specs.declared.Heading.{Heading}
 use Rattle.lin_spec.proofs.Checks.{unless-refused, unless-passed}
 use Rattle.lin_spec.proofs.File.{Found, all-remain}
 use Rattle.board_loop.specs.Head.{boardAt}
-use Rattle.file_sections.specs.Sections.{sectionOf, standingOf, openedOf}
-use Rattle.file.specs.Numbers.{AtFirst}
+use Rattle.file_sections.specs.Sections.{sectionOf, standingOf, openedOf, AtFirst}
 use Rattle.file_sections.specs.declared.sections.Section.{Section}
 use Rattle.file_sections.specs.declared.sections.BoardCursor.{BoardCursor}
 use Rattle.file_sections.specs.declared.sections.OpenedBoards.{OpenedBoards}
 use Rattle.file_sections.specs.declared.sections.OpenedBoards.the-variants.{At, Refused}
-use Rattle.file.proofs.NumberLaws.{Way, way-begin, way-on, number-board, number-other}
+use Rattle.file_sections.proofs.WayLaws.{Way, way-begin, way-on, number-board, number-other}
 use Rattle.output.specs.Put.{Room, Put}
 use Rattle.output.proofs.Laws.{Left, start, roomy, step, finish, overlay-nil}
 use Rattle.listing.specs.Lines.{sectionLine}

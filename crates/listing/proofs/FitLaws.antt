@@ -42,10 +42,9 @@ use Rattle.lin_spec.proofs.Decimal.{length-short, more-digits}
 use Rattle.lin_spec.proofs.Rules.{number-only}
 use Rattle.lin_spec.proofs.Reading.{part-most}
 use Rattle.lin_spec.proofs.File.{visit-is, visits}
-use Rattle.file_sections.specs.Sections.{standingOf}
-use Rattle.file.specs.Numbers.{AtFirst}
+use Rattle.file_sections.specs.Sections.{standingOf, AtFirst}
 use Rattle.file_sections.specs.declared.sections.BoardCursor.{BoardCursor}
-use Rattle.file.proofs.NumberLaws.{Way, way-begin, way-on}
+use Rattle.file_sections.proofs.WayLaws.{Way, way-begin, way-on}
 use Rattle.output.specs.Put.{Put}
 use Rattle.listing.specs.Lines.{sectionLine}
 use Rattle.listing_lines.proofs.LineLaws.{header-long, field-long, lengths-long, board-long, refusal-long}
@@ -96,13 +95,13 @@ hand-most : (d : List ℕ) (x : Seat) → handLength d x ≤ sum d
 unfolding part
 hand-most d x = let a = sum-take 52 (drop (seatNumber x * 52) d) in let b = sum-drop (seatNumber x * 52) d in omega arith
 
-remainder-sum : (x y z : List ℕ) → sum (unheldCards x y z) ≤ length x
+unheld-sum : (x y z : List ℕ) → sum (unheldCards x y z) ≤ length x
 unfolding sum unheldCards
-remainder-sum [] y z = omega arith
-remainder-sum (a ∷ x) [] z = omega arith
-remainder-sum (a ∷ x) (b ∷ y) [] = omega arith
-remainder-sum (a ∷ x) (b ∷ y) (c ∷ z) =
-    let k = remainder-sum x y z in
+unheld-sum [] y z = omega arith
+unheld-sum (a ∷ x) [] z = omega arith
+unheld-sum (a ∷ x) (b ∷ y) [] = omega arith
+unheld-sum (a ∷ x) (b ∷ y) (c ∷ z) =
+    let k = unheld-sum x y z in
     picked (λ (n : ℕ). n + sum (unheldCards x y z) ≤ suc (length x)) (eqb (a + b + c) 0) {a = 1} {b = 0} (λ _. omega arith) (λ _. omega arith)
 
 -- a deal has no more cards than this, where its text has n bytes
@@ -113,7 +112,7 @@ deal-sum n f h =
     let w = readHand (field 1 f) in
     let t = readHand (field 2 f) in
     let e = pick (blank (field 3 f) && thirteens s w t) (unheldCards s w t) (readHand (field 3 f)) in
-    let k : sum e ≤ n + 52 = picked (λ (x : List ℕ). sum x ≤ n + 52) (blank (field 3 f) && thirteens s w t) (λ _. let a = remainder-sum s w t in let b = hand-length (field 0 f) in omega arith) (λ _. let a = hand-sum (field 3 f) in let b = h 3 in omega arith) in
+    let k : sum e ≤ n + 52 = picked (λ (x : List ℕ). sum x ≤ n + 52) (blank (field 3 f) && thirteens s w t) (λ _. let a = unheld-sum s w t in let b = hand-length (field 0 f) in omega arith) (λ _. let a = hand-sum (field 3 f) in let b = h 3 in omega arith) in
     let q : sum (s ++ (w ++ (t ++ e))) ≡ sum s + (sum w + (sum t + sum e)) = sum-append s _ ∙ ap (λ (i : ℕ). sum s + i) (sum-append w _ ∙ ap (λ (i : ℕ). sum w + i) (sum-append t e)) in
     let a = hand-sum (field 0 f) in
     let b = hand-sum (field 1 f) in

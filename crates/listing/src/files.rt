@@ -23,8 +23,7 @@ ghost use Rattle.lin_spec.specs.Output.{Outcome, answerOf};
 ghost use Rattle.lin_spec.specs.Reading.{headingOf};
 ghost use Rattle.lin_spec.specs.File.{boardIn, fileSpans};
 ghost use Rattle.lin_spec.specs.Listing.{header, boardLines, listing, writeLine};
-ghost use Rattle.file_sections.specs.Sections.{sectionOf, Inside};
-ghost use Rattle.file.specs.Numbers.{AtFirst};
+ghost use Rattle.file_sections.specs.Sections.{sectionOf, Inside, AtFirst};
 ghost use Rattle.output.specs.Put.{Room, Put};
 ghost use Rattle.listing.specs.Lines.{sectionLine};
 

@@ -40,8 +40,8 @@ use Rattle.pbn_texts.specs.Layout.{layoutOf}
 use Rattle.pbn_texts.specs.Raw.{textsOf}
 use Rattle.pbn_texts.specs.Calls.{isKept, keptOne, keptMany, bidBytes, noteBytes, pbnCallBytes, pbnCallsBytes}
 use Rattle.pbn_texts.specs.Rows.{threeText, notedText, keptRowText, placedRow, placedRows}
-use Rattle.pbn_checks.specs.Checks.{pbnChecks, checked}
-use Rattle.pbn.specs.Made.{madeHeading, Counted, refusedBoard, fitted}
+use Rattle.pbn_checks.specs.Checks.{pbnChecks, recordChecked}
+use Rattle.pbn.specs.Made.{madeHeading, KeptCounted, refusedBoard, fittedRecord}
 use Rattle.pbn.proofs.MadeLaws.{kept-many, rows-are, texts-are, layout-end, calls-at, heading-is}
 
 -- How many there are
@@ -97,14 +97,14 @@ module _ (p q : ℕ) (x : Pbn) (o rows cards : List ℕ) where
     few = ltb (length rows / 6) n
 
     is-three : (a b c : Bool) (k t : ℕ) → k ≡ length (laid board .play) → t ≡ sat (length (boardTexts board)) → a ≡ few → b ≡ ltb (length cards) k → c ≡ ltb (room o) (length (boardTexts board))
-        → after (three a b c n k t) ≡ fitted p q x o rows cards
-    unfolding fitted three
+        → after (three a b c n k t) ≡ fittedRecord p q x o rows cards
+    unfolding fittedRecord three
     is-three a b c k t ek et ea eb ec =
         let e₁ = ea ∙ ap (ltb (length rows / 6)) en in
         let e₂ = eb ∙ ap (ltb (length cards)) ek in
         λ i. after (three (e₁ i) (e₂ i) (ec i) (en i) (ek i) (et i))
 
-    few-calls : length rows / 6 < n → (v : Converted) → v ≡ refusedBoard (TooFewRows Calls n) → Stays v ≡ fitted p q x o rows cards
+    few-calls : length rows / 6 < n → (v : Converted) → v ≡ refusedBoard (TooFewRows Calls n) → Stays v ≡ fittedRecord p q x o rows cards
     unfolding three unless
     few-calls h v ev =
         ap Stays ev
@@ -114,20 +114,20 @@ module _ (p q : ℕ) (x : Pbn) (o rows cards : List ℕ) where
       abbrev enough : false ≡ few
       enough = sym (le-ltb (length rows / 6) n h)
 
-      few-cards : length cards < k → (v : Converted) → v ≡ refusedBoard (TooFewRows Cards k) → Stays v ≡ fitted p q x o rows cards
+      few-cards : length cards < k → (v : Converted) → v ≡ refusedBoard (TooFewRows Cards k) → Stays v ≡ fittedRecord p q x o rows cards
       unfolding three unless
       few-cards l v ev =
           ap Stays ev
           ∙ is-three false true (ltb (room o) (length (boardTexts board))) k (sat (length (boardTexts board))) ek refl enough (sym (lt-ltb (length cards) k l)) refl
 
       module _ (l : k ≤ length cards) (need : ℕ) (et : need ≡ sat (length (boardTexts board))) where
-        small-output : room o < need → (v : Converted) → v ≡ refusedBoard (OutputTooSmall need) → Stays v ≡ fitted p q x o rows cards
+        small-output : room o < need → (v : Converted) → v ≡ refusedBoard (OutputTooSmall need) → Stays v ≡ fittedRecord p q x o rows cards
         unfolding three unless
         small-output m v ev =
             ap Stays ev
             ∙ is-three false false true k need ek et enough (sym (le-ltb (length cards) k l)) (sym (lt-ltb (room o) (length (boardTexts board)) (omega arith)))
 
-        all-fits : need ≤ room o → after (accepted (laid board)) ≡ fitted p q x o rows cards
+        all-fits : need ≤ room o → after (accepted (laid board)) ≡ fittedRecord p q x o rows cards
         unfolding three unless
         all-fits m = is-three false false false k need ek et enough (sym (le-ltb (length cards) k l)) (sym (le-ltb (room o) (length (boardTexts board)) (omega arith)))
 
@@ -143,15 +143,15 @@ module _ (p q : ℕ) (s : List ℕ) (b : PbnBoard) (ws ps ns : List ℕ) where
   cards-many k e = e
 
 module _ (p q : ℕ) (s : List ℕ) (b : PbnBoard) (ws ps ns o rows cards : List ℕ) (n : ℕ) (en : n ≡ keptMany (pbnRows ws)) where
-  pub calls-refused : length rows / 6 < n → (v : Converted) → v ≡ refusedBoard (TooFewRows Calls n) → Stays p q (pbn s b ws ps ns) o rows cards v ≡ fitted p q (pbn s b ws ps ns) o rows cards
+  pub calls-refused : length rows / 6 < n → (v : Converted) → v ≡ refusedBoard (TooFewRows Calls n) → Stays p q (pbn s b ws ps ns) o rows cards v ≡ fittedRecord p q (pbn s b ws ps ns) o rows cards
   calls-refused = few-calls p q (pbn s b ws ps ns) o rows cards n (calls-many p q s b ws ps ns n en)
 
   module _ (h : n ≤ length rows / 6) (k : ℕ) (ek : k ≡ length (keptCards ps)) where
-    pub cards-refused : length cards < k → (v : Converted) → v ≡ refusedBoard (TooFewRows Cards k) → Stays p q (pbn s b ws ps ns) o rows cards v ≡ fitted p q (pbn s b ws ps ns) o rows cards
+    pub cards-refused : length cards < k → (v : Converted) → v ≡ refusedBoard (TooFewRows Cards k) → Stays p q (pbn s b ws ps ns) o rows cards v ≡ fittedRecord p q (pbn s b ws ps ns) o rows cards
     cards-refused = few-cards p q (pbn s b ws ps ns) o rows cards n (calls-many p q s b ws ps ns n en) h k (cards-many p q s b ws ps ns k ek)
 
     -- what the rest rests on
-    pub counted : (length s ≤ limit) × (badPbn (pbn s b ws ps ns) ≡ false) → k ≤ length cards → Counted s ws ps rows cards n k
+    pub counted : (length s ≤ limit) × (badPbn (pbn s b ws ps ns) ≡ false) → k ≤ length cards → KeptCounted s ws ps rows cards n k
     unfolding badPbn
     counted pre l =
         record {
@@ -167,7 +167,7 @@ module _ (p q : ℕ) (s : List ℕ) (b : PbnBoard) (ws ps ns o rows cards : List
 
 -- what is known once it is computed how many bytes the texts need
 pub record Known (p q : ℕ) (s : List ℕ) (b : PbnBoard) (ws ps ns rows cards : List ℕ) (n k : ℕ) (ms : List MaybeSpan) (x : Sources) (at : Layout) (need : ℕ) : Type 0 where
-  pub counts : Counted s ws ps rows cards n k
+  pub counts : KeptCounted s ws ps rows cards n k
   pub names-are : ms ≡ pbnNames b
   pub sources-are : SourcesOf s b x
   pub layout-is : at ≡ layoutOf p q s ms x
@@ -193,7 +193,7 @@ module _ {p q : ℕ} {s : List ℕ} {b : PbnBoard} {ws ps ns rows cards : List �
   abbrev cards-made : k ≡ length (laid (fromBoard p q (pbn s b ws ps ns)) .play)
   cards-made = cards-many p q s b ws ps ns k (r .counts .kept)
 
-  pub output-refused : room o < need → (v : Converted) → v ≡ refusedBoard (OutputTooSmall need) → Stays p q (pbn s b ws ps ns) o rows cards v ≡ fitted p q (pbn s b ws ps ns) o rows cards
+  pub output-refused : room o < need → (v : Converted) → v ≡ refusedBoard (OutputTooSmall need) → Stays p q (pbn s b ws ps ns) o rows cards v ≡ fittedRecord p q (pbn s b ws ps ns) o rows cards
   output-refused = small-output p q (pbn s b ws ps ns) o rows cards n calls-made (r .counts .rows-fit) k cards-made (r .counts .cards-fit) need need-made
 
   module _ (f : need ≤ room o) where
@@ -218,7 +218,7 @@ module _ {p q : ℕ} {s : List ℕ} {b : PbnBoard} {ws ps ns rows cards : List �
 
     pub stored : {o′ : List ℕ} {len : ℕ} → Put o 0 (textsOf p q s ms x ns ws) o′ len → {rows′ : List ℕ} {y : ℕ} → Put rows 0 (placedRows s ns (at .calls) (pbnRows ws)) rows′ y
         → {cards′ : List ℕ} {z : ℕ} → Put cards 0 (keptCards ps) cards′ z → (h : Heading) → h ≡ madeHeading b at n k
-        → _≡_ {A = Conversion} (record { heading = h; len = len; rows = rows′; cards = cards′; output = o′ }) (fitted p q (pbn s b ws ps ns) o rows cards)
+        → _≡_ {A = Conversion} (record { heading = h; len = len; rows = rows′; cards = cards′; output = o′ }) (fittedRecord p q (pbn s b ws ps ns) o rows cards)
     stored {o′} {len} put {rows′} put₂ {cards′} put₃ h eh =
         let play : keptCards ps ≡ laid (fromBoard p q (pbn s b ws ps ns)) .play = unfold laid fromBoard in refl in
         let e₁ = eh ∙ heading-is p q s b ws ps ns x (r .sources-are) at layout-made n calls-made k cards-made in
@@ -231,7 +231,7 @@ module _ {p q : ℕ} {s : List ℕ} {b : PbnBoard} {ws ps ns rows cards : List �
 
 -- By the verdict of the checks before them
 
-module _ (other : Bool) (p q : ℕ) (x : Pbn) (o rows cards : List ℕ) (v : Verdict) (e : verdictOf v ≡ checked other x) where
+module _ (other : Bool) (p q : ℕ) (x : Pbn) (o rows cards : List ℕ) (v : Verdict) (e : verdictOf v ≡ recordChecked other x) where
   abbrev rest : List (Option Refusal)
   rest = fewRows (laid (fromBoard p q x)) rows cards ++ (tooSmall (room o) (length (boardTexts (fromBoard p q x))) ∷ [])
 
@@ -245,8 +245,8 @@ module _ (other : Bool) (p q : ℕ) (x : Pbn) (o rows cards : List ℕ) (v : Ver
       ∙ sym (ap (after p q x o rows cards) (unless-refused (pbnChecks other x) rest tt (laid (fromBoard p q x)) r (told (Refused r) k)))
 
   module _ (k : v ≡ Accepted) where
-    pub convert-passed : fitted p q x o rows cards ≡ convertBoard other p q x o rows cards
-    unfolding convertBoard fitted pbnChecks
+    pub convert-passed : fittedRecord p q x o rows cards ≡ convertBoard other p q x o rows cards
+    unfolding convertBoard fittedRecord pbnChecks
     convert-passed = sym (ap (after p q x o rows cards) (unless-passed (pbnChecks other x) rest tt tt (laid (fromBoard p q x)) (told Accepted k)))
 
     -- what storing then rests on

@@ -47,7 +47,7 @@ madeHeading b at n k =
     }
 
 -- the checks before 7 are passed: the calls are sound, n of them and k cards are kept, and there are rows and places for all of these
-pub record Counted (s ws ps rows cards : List ℕ) (n k : ℕ) : Type 0 where
+pub record KeptCounted (s ws ps rows cards : List ℕ) (n k : ℕ) : Type 0 where
   pub short : length s ≤ limit
   pub sound : any badCall (pbnRows ws) ≡ false
   pub many : n ≡ keptMany (pbnRows ws)
@@ -60,8 +60,8 @@ abbrev pub refusedBoard : Refusal → Converted
 refusedBoard r = record { heading = refusedHeading r; len = 0 }
 
 -- what is stored and answered once the checks before 3 are passed
-unfoldable pub fitted : (p q : ℕ) → Pbn → (o rows cards : List ℕ) → Conversion
-fitted p q x o rows cards =
+unfoldable pub fittedRecord : (p q : ℕ) → Pbn → (o rows cards : List ℕ) → Conversion
+fittedRecord p q x o rows cards =
     let b = fromBoard p q x in
     let t = boardTexts b in
     converted (unless (fewRows (laid b) rows cards ++ (tooSmall (room o) (length t) ∷ [])) (laid b)) t rows cards o

@@ -27,7 +27,7 @@ ghost use Prim.Native.Nat.{_≤_};
 ghost use lib.ListN.{length};
 ghost use Rattle.lin_spec.specs.Records.{limit};
 ghost use Rattle.lin_spec.specs.Pbn.{pbn, badPbn, Conversion, convertBoard, convert};
-ghost use Rattle.pbn.specs.Made.{Counted, refusedBoard, fitted};
+ghost use Rattle.pbn.specs.Made.{KeptCounted, refusedBoard, fittedRecord};
 
 // What a refused call gives.
 fn refused_record(r: Refusal) -> Converted
@@ -52,8 +52,8 @@ fn convert_counted(
     n: usize,
     k: usize,
 ) -> Converted
-    requires { ⌜ Counted (now text) (now calls) (now plays) (now rows) (now cards) n k ⌝ }
-    ensures { λ r. ⌜ _≡_ {A = Conversion} (record { heading = r .heading; len = r .len; rows = now (rows .exit); cards = now (cards .exit); output = now (out .exit) }) (fitted (marks .pipe) (marks .line) (pbn (now (text .entry)) board (now (calls .entry)) (now (plays .entry)) (now (notes .entry))) (now (out .entry)) (now (rows .entry)) (now (cards .entry))) ⌝ }
+    requires { ⌜ KeptCounted (now text) (now calls) (now plays) (now rows) (now cards) n k ⌝ }
+    ensures { λ r. ⌜ _≡_ {A = Conversion} (record { heading = r .heading; len = r .len; rows = now (rows .exit); cards = now (cards .exit); output = now (out .exit) }) (fittedRecord (marks .pipe) (marks .line) (pbn (now (text .entry)) board (now (calls .entry)) (now (plays .entry)) (now (notes .entry))) (now (out .entry)) (now (rows .entry)) (now (cards .entry))) ⌝ }
 {
     let names = pbn_names(board);
     let sources = sources_of(text, board);
@@ -82,7 +82,7 @@ fn convert_checked(
     cards: &mut [u8],
 ) -> Converted
     requires { ⌜ (length (now text) ≤ limit) × (badPbn (pbn (now text) board (now calls) (now plays) (now notes)) ≡ false) ⌝ }
-    ensures { λ r. ⌜ _≡_ {A = Conversion} (record { heading = r .heading; len = r .len; rows = now (rows .exit); cards = now (cards .exit); output = now (out .exit) }) (fitted (marks .pipe) (marks .line) (pbn (now (text .entry)) board (now (calls .entry)) (now (plays .entry)) (now (notes .entry))) (now (out .entry)) (now (rows .entry)) (now (cards .entry))) ⌝ }
+    ensures { λ r. ⌜ _≡_ {A = Conversion} (record { heading = r .heading; len = r .len; rows = now (rows .exit); cards = now (cards .exit); output = now (out .exit) }) (fittedRecord (marks .pipe) (marks .line) (pbn (now (text .entry)) board (now (calls .entry)) (now (plays .entry)) (now (notes .entry))) (now (out .entry)) (now (rows .entry)) (now (cards .entry))) ⌝ }
 {
     let n = kept_calls(calls);
     if rows.len() / 6 < n {

@@ -19,7 +19,7 @@ use Rattle.lin_spec.specs.declared.MaybeSpan.{MaybeSpan}
 use Rattle.lin_spec.specs.declared.PbnCall.{PbnCall}
 use Rattle.lin_spec.specs.declared.PbnBoard.{PbnBoard}
 use Rattle.lin_spec.specs.declared.Refusal.the-variants.{TextTooLong, OutOfRange, SpanPastEnd, SpanNotUtf8}
-use Rattle.pbn_checks.specs.Checks.{pbnChecks, checked}
+use Rattle.pbn_checks.specs.Checks.{pbnChecks, recordChecked}
 
 -- an entry of the play, by the two tests that are made of it
 pub bad-entry : (c : ℕ) → 51 < c → (c ≡ 255 → ⊥) → true ≡ badEntry c
@@ -113,7 +113,7 @@ module _ (other : Bool) (s : List ℕ) (b : PbnBoard) (ws ps ns : List ℕ) wher
   spans = pbnSpans (pbn s b ws [] ns)
 
   abbrev verdict : Answer Unit
-  verdict = checked other (pbn s b ws ps ns)
+  verdict = recordChecked other (pbn s b ws ps ns)
 
   is-four : (x y z w : Bool) → x ≡ ltb limit (length s) → y ≡ (other || bad) → z ≡ any (passesEnd s) spans → w ≡ any (illSpan s) spans → four x y z w ≡ verdict
   unfolding pbnChecks badPbn pbnSpans four

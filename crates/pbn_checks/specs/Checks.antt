@@ -11,5 +11,5 @@ use Rattle.lin_spec.specs.declared.Refusal.the-variants.{OutOfRange}
 unfoldable pub pbnChecks : (other : Bool) → Pbn → List (Option Refusal)
 pbnChecks other x = tooLong (x .text) ∷ refuseIf (other || badPbn x) OutOfRange ∷ pastEnd (x .text) (pbnSpans x) ∷ spanNotUtf8 (x .text) (pbnSpans x) ∷ []
 
-abbrev pub checked : (other : Bool) → Pbn → Answer Unit
-checked other x = unless (pbnChecks other x) tt
+abbrev pub recordChecked : (other : Bool) → Pbn → Answer Unit
+recordChecked other x = unless (pbnChecks other x) tt

@@ -26,7 +26,7 @@ ghost use Rattle.lin_spec.specs.Pbn.{pbn, pbnNames, pbnRows, rawOf, badEntry, b
 ghost use Rattle.text.specs.Fault.{faultOf};
 ghost use Rattle.text.specs.Index.{Indexed};
 ghost use Rattle.board_lent.specs.Checks.{verdictOf};
-ghost use Rattle.pbn_checks.specs.Checks.{checked};
+ghost use Rattle.pbn_checks.specs.Checks.{recordChecked};
 
 // Whether a number of a call is outside its range. Level and strain are those of a bid alone.
 fn bad_call(c: PbnCall) -> bool
@@ -244,7 +244,7 @@ pub fn check_record(
     plays: &[u8],
     notes: &[u32; 768],
 ) -> Verdict
-    ensures { λ r. ⌜ verdictOf r ≡ checked other (pbn (now (text .entry)) board (now (calls .entry)) (now (plays .entry)) (now (notes .entry))) ⌝ }
+    ensures { λ r. ⌜ verdictOf r ≡ recordChecked other (pbn (now (text .entry)) board (now (calls .entry)) (now (plays .entry)) (now (notes .entry))) ⌝ }
 {
     let number = board.number;
     if LIMIT < text.len() {

@@ -29,7 +29,7 @@ use Rattle.output.specs.Put.{Put}
 use Rattle.output.proofs.Laws.{Left, start, step, finish, overlay-nil}
 use Rattle.board_lent.specs.Calls.{callAt}
 use Rattle.board_lent.proofs.LentLaws.{rows-cons, rows-count}
-use Rattle.rows.specs.Rows.{called, rowIn, numbered, emptyRow, laid, wordsOf, turnsOf, Moving, spillAnswer, spillOf, rowsIn, fillAnswer, rowsAfter, fillOf}
+use Rattle.rows.specs.Rows.{called, rowIn, rowNumbers, emptyRow, laidOver, structWords, turnsOf, Moving, spillAnswer, spillOf, structsIn, fillAnswer, rowsAfter, fillOf}
 
 -- A row by its parts
 
@@ -46,8 +46,8 @@ module _ (c : Call) where
   row-annotated e = ap by-test (sym (ne-eqb (c .annotated) 0 e))
 
 -- the words of a row are its six numbers
-pub words-numbered : (r : CallRow) (c : Call) → c ≡ numbered r
-    → c .bid .start ∷ c .bid .len ∷ c .alerted ∷ c .annotated ∷ c .annotation .start ∷ c .annotation .len ∷ [] ≡ wordsOf r
+pub words-numbered : (r : CallRow) (c : Call) → c ≡ rowNumbers r
+    → c .bid .start ∷ c .bid .len ∷ c .alerted ∷ c .annotated ∷ c .annotation .start ∷ c .annotation .len ∷ [] ≡ structWords r
 words-numbered r c e = rw e (go (r .annotation))
   where
     go : (m : MaybeSpan)
@@ -59,16 +59,16 @@ words-numbered r c e = rw e (go (r .annotation))
 -- A list over another from i on
 
 unfoldable pub laidAt : {A : Type 0} → ℕ → (new old : List A) → List A
-laidAt zero xs ys = laid xs ys
+laidAt zero xs ys = laidOver xs ys
 laidAt (suc i) xs [] = []
 laidAt (suc i) xs (y ∷ ys) = y ∷ laidAt i xs ys
 
-pub laid-start : {A : Type 0} (xs ys : List A) → laidAt 0 xs ys ≡ laid xs ys
+pub laid-start : {A : Type 0} (xs ys : List A) → laidAt 0 xs ys ≡ laidOver xs ys
 unfolding laidAt
 laid-start xs ys = refl
 
 pub laid-more : {A : Type 0} (i : ℕ) (x : A) (xs ys : List A) → laidAt (i + 1) xs (set ys i x) ≡ laidAt i (x ∷ xs) ys
-unfolding laidAt laid
+unfolding laidAt laidOver
 laid-more {A} i x xs ys = rw (add-one i) (go i ys)
   where
     go : (i : ℕ) (ys : List A) → laidAt (suc i) xs (set ys i x) ≡ laidAt i (x ∷ xs) ys
@@ -78,13 +78,13 @@ laid-more {A} i x xs ys = rw (add-one i) (go i ys)
     go (suc i) (y ∷ ys) = ap (λ (l : List A). y ∷ l) (go i ys)
 
 pub laid-none : {A : Type 0} (i : ℕ) (ys : List A) → laidAt i [] ys ≡ ys
-unfolding laidAt laid
+unfolding laidAt laidOver
 laid-none {A} zero ys = refl
 laid-none {A} (suc i) [] = refl
 laid-none {A} (suc i) (y ∷ ys) = ap (λ (l : List A). y ∷ l) (laid-none i ys)
 
 pub laid-full : {A : Type 0} (i : ℕ) (xs ys : List A) → length ys ≤ i → laidAt i xs ys ≡ ys
-unfolding laidAt laid
+unfolding laidAt laidOver
 laid-full {A} zero [] ys h = refl
 laid-full {A} zero (x ∷ xs) [] h = refl
 laid-full {A} zero (x ∷ xs) (y ∷ ys) h = absurd (not-suc-le-zero h)
@@ -108,23 +108,23 @@ front {A} xs m i d h =
 -- Rows filled from words: i of the first n are, and zs is the list
 
 abbrev given : (ws : List ℕ) (n i : ℕ) → List CallRow
-given ws n i = drop i (take n (rowsIn ws))
+given ws n i = drop i (take n (structsIn ws))
 
 abbrev pub Filling : (ws : List ℕ) (ys : List CallRow) (n i : ℕ) (zs : List CallRow) → Type 0
-Filling ws ys n i zs = laidAt i (given ws n i) zs ≡ laid (take n (rowsIn ws)) ys
+Filling ws ys n i zs = laidAt i (given ws n i) zs ≡ laidOver (take n (structsIn ws)) ys
 
 pub fill-start : (ws : List ℕ) (ys : List CallRow) (n : ℕ) → Filling ws ys n 0 ys
-fill-start ws ys n = laid-start (take n (rowsIn ws)) ys
+fill-start ws ys n = laid-start (take n (structsIn ws)) ys
 
 -- the row that the six words from i * 6 on give
-row-at : (ws : List ℕ) (i : ℕ) → i < length ws / 6 → getD (rowsIn ws) i emptyRow ≡ rowIn (callIn (callAt ws (i * 6)))
+row-at : (ws : List ℕ) (i : ℕ) → i < length ws / 6 → getD (structsIn ws) i emptyRow ≡ rowIn (callIn (callAt ws (i * 6)))
 row-at ws i l = go 0 i (omega arith) ∙ ap (λ (k : ℕ). rowIn (callIn (callAt ws k))) (let e : 0 + i * 6 ≡ i * 6 = omega arith in e)
   where
     go : (k i : ℕ) → k + i * 6 + 6 ≤ length ws → getD (map (λ c. rowIn (callIn c)) (callRows (drop k ws))) i emptyRow ≡ rowIn (callIn (callAt ws (k + i * 6)))
     go k zero h = rw (rows-cons ws k (omega arith)) (ap (λ (m : ℕ). rowIn (callIn (callAt ws m))) (let e : k ≡ k + 0 * 6 = omega arith in e))
     go k (suc i) h = rw (rows-cons ws k (omega arith)) (go (k + 6) i (omega arith) ∙ ap (λ (m : ℕ). rowIn (callIn (callAt ws m))) (let e : k + 6 + i * 6 ≡ k + suc i * 6 = omega arith in e))
 
-pub rows-in : (ws : List ℕ) → length (rowsIn ws) ≡ length ws / 6
+pub rows-in : (ws : List ℕ) → length (structsIn ws) ≡ length ws / 6
 rows-in ws = length-map (callRows ws) (λ c. rowIn (callIn c)) ∙ rows-count ws
 
 module _ (ws : List ℕ) (ys : List CallRow) (n i : ℕ) (zs : List CallRow) (h : Filling ws ys n i zs) where
@@ -132,13 +132,13 @@ module _ (ws : List ℕ) (ys : List CallRow) (n i : ℕ) (zs : List CallRow) (h 
   fill-more l m r e =
       laid-more i r (given ws n (i + 1)) zs
       ∙ ap (λ (x : CallRow). laidAt i (x ∷ given ws n (i + 1)) zs) (e ∙ sym (row-at ws i (omega arith)))
-      ∙ ap (λ (l : List CallRow). laidAt i l zs) (sym (front (rowsIn ws) n i emptyRow (omega (arith, rows-in ws))))
+      ∙ ap (λ (l : List CallRow). laidAt i l zs) (sym (front (structsIn ws) n i emptyRow (omega (arith, rows-in ws))))
       ∙ h
 
-  pub fill-end : n ≤ i → zs ≡ laid (take n (rowsIn ws)) ys
+  pub fill-end : n ≤ i → zs ≡ laidOver (take n (structsIn ws)) ys
   fill-end k =
-      let past : length (take n (rowsIn ws)) ≤ i = omega (arith, length-take n (rowsIn ws)) in
-      sym (laid-none i zs) ∙ ap (λ (l : List CallRow). laidAt i l zs) (sym (drop-of-length-le (take n (rowsIn ws)) past)) ∙ h
+      let past : length (take n (structsIn ws)) ≤ i = omega (arith, length-take n (structsIn ws)) in
+      sym (laid-none i zs) ∙ ap (λ (l : List CallRow). laidAt i l zs) (sym (drop-of-length-le (take n (structsIn ws)) past)) ∙ h
 
 -- and what the answer says of it
 module _ (ys : List CallRow) (ws : List ℕ) (a : Answer ℕ) (e : a ≡ fillAnswer (length ys) ws) where
@@ -152,26 +152,26 @@ module _ (ys : List CallRow) (ws : List ℕ) (a : Answer ℕ) (e : a ≡ fillAns
       go false true h = (omega arith, omega arith)
       go false false h = (ltb-false _ _ h, omega arith)
 
-  pub fill-done : (zs : List CallRow) → zs ≡ laid (take (turnsOf a) (rowsIn ws)) ys → _≡_ {A = Moving CallRow} (record { answer = a; after = zs }) (fillOf ws ys)
-  unfolding fillOf unless laid
+  pub fill-done : (zs : List CallRow) → zs ≡ laidOver (take (turnsOf a) (structsIn ws)) ys → _≡_ {A = Moving CallRow} (record { answer = a; after = zs }) (fillOf ws ys)
+  unfolding fillOf unless laidOver
   fill-done zs f =
       ap (λ (l : List CallRow). record { answer = a; after = l }) f
-      ∙ ap (λ (x : Answer ℕ). record { answer = x; after = laid (take (turnsOf x) (rowsIn ws)) ys }) e
+      ∙ ap (λ (x : Answer ℕ). record { answer = x; after = laidOver (take (turnsOf x) (structsIn ws)) ys }) e
       ∙ go (any badFlag (callRows ws)) (ltb (length ys) (length ws / 6))
     where
       go : (t u : Bool) → let x = unless (refuseIf t OutOfRange ∷ refuseIf u (TooFewRows Calls (length ws / 6)) ∷ []) (length ws / 6) in
-          _≡_ {A = Moving CallRow} (record { answer = x; after = laid (take (turnsOf x) (rowsIn ws)) ys }) (record { answer = x; after = rowsAfter x (rowsIn ws) ys })
+          _≡_ {A = Moving CallRow} (record { answer = x; after = laidOver (take (turnsOf x) (structsIn ws)) ys }) (record { answer = x; after = rowsAfter x (structsIn ws) ys })
       go true u = refl
       go false true = refl
-      go false false = ap (λ (l : List CallRow). record { answer = accepted (length ws / 6); after = laid l ys }) (take-all (length ws / 6) (rowsIn ws) (omega (arith, rows-in ws)))
+      go false false = ap (λ (l : List CallRow). record { answer = accepted (length ws / 6); after = laidOver l ys }) (take-all (length ws / 6) (structsIn ws) (omega (arith, rows-in ws)))
 
 -- Rows spilled into words: i of the first n are, ws are the words, and `at` is the place after the last
 
-pub words-cons : (r : CallRow) (rs : List CallRow) → callWords (map called (r ∷ rs)) ≡ wordsOf r ++ callWords (map called rs)
+pub words-cons : (r : CallRow) (rs : List CallRow) → callWords (map called (r ∷ rs)) ≡ structWords r ++ callWords (map called rs)
 unfolding callWords
 words-cons r rs = refl
 
-words-long : (r : CallRow) → length (wordsOf r) ≡ 6
+words-long : (r : CallRow) → length (structWords r) ≡ 6
 words-long r = go (r .annotation)
   where
     go : (m : MaybeSpan) → length (r .bid .start ∷ r .bid .len ∷ flag (r .alerted) ∷ annotationWords (optionOf m)) ≡ 6
@@ -182,7 +182,7 @@ pub words-many : (rs : List CallRow) → length (callWords (map called rs)) ≡ 
 unfolding callWords
 words-many [] = refl
 words-many (r ∷ rs) =
-    let e : length (callWords (map called (r ∷ rs))) ≡ length (wordsOf r) + length (callWords (map called rs)) = ap length (words-cons r rs) ∙ length-append (wordsOf r) (callWords (map called rs)) in
+    let e : length (callWords (map called (r ∷ rs))) ≡ length (structWords r) + length (callWords (map called rs)) = ap length (words-cons r rs) ∙ length-append (structWords r) (callWords (map called rs)) in
     omega (arith, e, words-long r, words-many rs)
 
 abbrev pub Spilling : (rs : List CallRow) (vs : List ℕ) (n i : ℕ) (ws : List ℕ) (at : ℕ) → Type 0
@@ -192,10 +192,10 @@ pub spill-start : (rs : List CallRow) (vs : List ℕ) (n : ℕ) → n ≤ length
 spill-start rs vs n l = start (record { room = omega (arith, words-many (take n rs), length-take n rs) })
 
 module _ (rs : List CallRow) (vs : List ℕ) (n i : ℕ) (ws : List ℕ) (at : ℕ) (h : Spilling rs vs n i ws at) where
-  pub spill-next : i < n → n ≤ length rs → Left ws at (wordsOf (getD rs i emptyRow) ++ callWords (map called (drop (i + 1) (take n rs)))) vs 0 (callWords (map called (take n rs)))
+  pub spill-next : i < n → n ≤ length rs → Left ws at (structWords (getD rs i emptyRow) ++ callWords (map called (drop (i + 1) (take n rs)))) vs 0 (callWords (map called (take n rs)))
   spill-next l m = subst (λ (x : List ℕ). Left ws at x vs 0 (callWords (map called (take n rs)))) (ap (λ (x : List CallRow). callWords (map called x)) (front rs n i emptyRow (omega arith)) ∙ words-cons (getD rs i emptyRow) (drop (i + 1) (take n rs))) h
 
-  pub spill-more : i < n → n ≤ length rs → (zs : List ℕ) (at′ : ℕ) → Put ws at (wordsOf (getD rs i emptyRow)) zs at′ → Spilling rs vs n (i + 1) zs at′
+  pub spill-more : i < n → n ≤ length rs → (zs : List ℕ) (at′ : ℕ) → Put ws at (structWords (getD rs i emptyRow)) zs at′ → Spilling rs vs n (i + 1) zs at′
   spill-more l m zs at′ p = step (spill-next l m) p
 
   pub spill-end : n ≤ i → ws ≡ overlay vs 0 (callWords (map called (take n rs)))

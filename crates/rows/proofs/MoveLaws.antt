@@ -30,7 +30,7 @@ use Rattle.lin_spec.specs.declared.Refusal.the-variants.{TooFewRows, OutOfRange
 use Rattle.lin_spec.proofs.Checks.{unmet, unless-same}
 use Rattle.lin_spec.proofs.ThirdDemand.{front-of}
 use Rattle.rows.specs.declared.CallRow.{CallRow}
-use Rattle.rows.specs.Rows.{called, rowIn, numbered, lentRows, laid, Moving, spillOf, rowsIn, fillAnswer, rowsAfter, fillOf}
+use Rattle.rows.specs.Rows.{called, rowIn, rowNumbers, lentRows, laidOver, Moving, spillOf, structsIn, fillAnswer, rowsAfter, fillOf}
 use Rattle.rows.proofs.Laws.{words-many, rows-in, fill-all}
 
 -- A row means its struct, and a struct is its row
@@ -38,11 +38,11 @@ use Rattle.rows.proofs.Laws.{words-many, rows-in, fill-all}
 by-parts : Span → Bool → MaybeSpan → CallRow
 by-parts x t m = record { bid = x; alerted = t; annotation = m }
 
-pub row-means : (r : CallRow) → callIn (numbered r) ≡ called r
+pub row-means : (r : CallRow) → callIn (rowNumbers r) ≡ called r
 unfolding by-parts
 row-means r = go (r .alerted) (r .annotation)
   where
-    go : (t : Bool) (m : MaybeSpan) → callIn (numbered (by-parts (r .bid) t m)) ≡ called (by-parts (r .bid) t m)
+    go : (t : Bool) (m : MaybeSpan) → callIn (rowNumbers (by-parts (r .bid) t m)) ≡ called (by-parts (r .bid) t m)
     go true Absent = refl
     go true (Present x) = refl
     go false Absent = refl
@@ -64,11 +64,11 @@ call-again c = go (c .annotation)
     go (some x) = refl
 
 -- its flags are 0 or 1
-pub row-flags : (r : CallRow) → badFlag (numbered r) ≡ false
+pub row-flags : (r : CallRow) → badFlag (rowNumbers r) ≡ false
 unfolding by-parts
 row-flags r = go (r .alerted) (r .annotation)
   where
-    go : (t : Bool) (m : MaybeSpan) → badFlag (numbered (by-parts (r .bid) t m)) ≡ false
+    go : (t : Bool) (m : MaybeSpan) → badFlag (rowNumbers (by-parts (r .bid) t m)) ≡ false
     go true Absent = refl
     go true (Present x) = refl
     go false Absent = refl
@@ -76,38 +76,38 @@ row-flags r = go (r .alerted) (r .annotation)
 
 -- Rows that stand in words
 
-row-words : (r : CallRow) (rs : List CallRow) → callRows (callWords (map called (r ∷ rs))) ≡ numbered r ∷ callRows (callWords (map called rs))
+row-words : (r : CallRow) (rs : List CallRow) → callRows (callWords (map called (r ∷ rs))) ≡ rowNumbers r ∷ callRows (callWords (map called rs))
 unfolding by-parts callWords rowsOf
 row-words r rs = go (r .annotation)
   where
-    go : (m : MaybeSpan) → let x = by-parts (r .bid) (r .alerted) m in callRows (callWords (map called (x ∷ rs))) ≡ numbered x ∷ callRows (callWords (map called rs))
+    go : (m : MaybeSpan) → let x = by-parts (r .bid) (r .alerted) m in callRows (callWords (map called (x ∷ rs))) ≡ rowNumbers x ∷ callRows (callWords (map called rs))
     go Absent = refl
     go (Present y) = refl
 
 -- they give the six numbers of each
-pub words-rows : (rs : List CallRow) → callRows (callWords (map called rs)) ≡ map numbered rs
+pub words-rows : (rs : List CallRow) → callRows (callWords (map called rs)) ≡ map rowNumbers rs
 unfolding callWords rowsOf
 words-rows [] = refl
-words-rows (r ∷ rs) = row-words r rs ∙ ap (λ (l : List Call). numbered r ∷ l) (words-rows rs)
+words-rows (r ∷ rs) = row-words r rs ∙ ap (λ (l : List Call). rowNumbers r ∷ l) (words-rows rs)
 
 -- and the rows again
-numbered-again : (rs : List CallRow) → map (λ c. rowIn (callIn c)) (map numbered rs) ≡ rs
+numbered-again : (rs : List CallRow) → map (λ c. rowIn (callIn c)) (map rowNumbers rs) ≡ rs
 numbered-again [] = refl
-numbered-again (r ∷ rs) = ap (λ (x : CallRow). x ∷ map (λ c. rowIn (callIn c)) (map numbered rs)) (ap rowIn (row-means r) ∙ row-again r) ∙ ap (λ (l : List CallRow). r ∷ l) (numbered-again rs)
+numbered-again (r ∷ rs) = ap (λ (x : CallRow). x ∷ map (λ c. rowIn (callIn c)) (map rowNumbers rs)) (ap rowIn (row-means r) ∙ row-again r) ∙ ap (λ (l : List CallRow). r ∷ l) (numbered-again rs)
 
-pub words-again : (rs : List CallRow) → rowsIn (callWords (map called rs)) ≡ rs
+pub words-again : (rs : List CallRow) → structsIn (callWords (map called rs)) ≡ rs
 words-again rs = ap (λ (cs : List Call). map (λ c. rowIn (callIn c)) cs) (words-rows rs) ∙ numbered-again rs
 
-pub words-flags : (rs : List CallRow) → any badFlag (map numbered rs) ≡ false
+pub words-flags : (rs : List CallRow) → any badFlag (map rowNumbers rs) ≡ false
 unfolding any
 words-flags [] = refl
-words-flags (r ∷ rs) = ap (λ (t : Bool). t || any badFlag (map numbered rs)) (row-flags r) ∙ words-flags rs
+words-flags (r ∷ rs) = ap (λ (t : Bool). t || any badFlag (map rowNumbers rs)) (row-flags r) ∙ words-flags rs
 
 -- rows that words give mean what the words mean
-pub given-means : (cs : List Call) → map callIn (map numbered (map (λ c. rowIn (callIn c)) cs)) ≡ map callIn cs
+pub given-means : (cs : List Call) → map callIn (map rowNumbers (map (λ c. rowIn (callIn c)) cs)) ≡ map callIn cs
 given-means [] = refl
 given-means (c ∷ cs) =
-    ap (λ (x : CallOf Span). x ∷ map callIn (map numbered (map (λ c. rowIn (callIn c)) cs))) (row-means (rowIn (callIn c)) ∙ call-again (callIn c))
+    ap (λ (x : CallOf Span). x ∷ map callIn (map rowNumbers (map (λ c. rowIn (callIn c)) cs))) (row-means (rowIn (callIn c)) ∙ call-again (callIn c))
     ∙ ap (λ (l : List (CallOf Span)). callIn c ∷ l) (given-means cs)
 
 -- Rows spilled
@@ -130,16 +130,16 @@ module _ (rs : List CallRow) (ws : List ℕ) (n : ℕ) (ws′ : List ℕ) (h : s
   spilled-means s b cs = ap (λ (l : List Call). record { text = s; board = b; calls = l; cards = cs }) (ap callRows spilled-words ∙ words-rows rs)
 
   -- rows spilled and filled again are the rows
-  pub spilled-again : (ys : List CallRow) → length rs ≤ length ys → fillOf (take (n * 6) ws′) ys ≡ record { answer = accepted (length rs); after = laid rs ys }
+  pub spilled-again : (ys : List CallRow) → length rs ≤ length ys → fillOf (take (n * 6) ws′) ys ≡ record { answer = accepted (length rs); after = laidOver rs ys }
   unfolding fillOf
   spilled-again ys l = ap (λ (ws : List ℕ). fillOf ws ys) spilled-words ∙ go (words-many rs)
     where
-      go : length (callWords (map called rs)) ≡ length rs * 6 → fillOf (callWords (map called rs)) ys ≡ record { answer = accepted (length rs); after = laid rs ys }
+      go : length (callWords (map called rs)) ≡ length rs * 6 → fillOf (callWords (map called rs)) ys ≡ record { answer = accepted (length rs); after = laidOver rs ys }
       go e =
           let k : length (callWords (map called rs)) / 6 ≡ length rs = omega (arith, e) in
           let a = sym (fill-all (length ys) (callWords (map called rs)) false (sym (ap (any badFlag) (words-rows rs) ∙ words-flags rs)) refl (omega (arith, k))) ∙ ap (λ (m : ℕ). accepted m) k in
-          ap (λ (x : Answer ℕ). record { answer = x; after = rowsAfter x (rowsIn (callWords (map called rs))) ys }) a
-          ∙ ap (λ (xs : List CallRow). record { answer = accepted (length rs); after = laid xs ys }) (words-again rs)
+          ap (λ (x : Answer ℕ). record { answer = x; after = rowsAfter x (structsIn (callWords (map called rs))) ys }) a
+          ∙ ap (λ (xs : List CallRow). record { answer = accepted (length rs); after = laidOver xs ys }) (words-again rs)
 
 -- a refused call leaves the words
 pub spill-stays : (rs : List CallRow) (ws : List ℕ) (r : Refusal) → spillOf rs ws .answer ≡ refused r → spillOf rs ws .after ≡ ws
@@ -149,8 +149,8 @@ spill-stays rs ws r h = ap (λ (a : Answer ℕ). outputAfter a ws (callWords (ma
 -- Rows filled
 
 -- the first of a list over another
-front-laid : {A : Type 0} (xs ys : List A) → length xs ≤ length ys → take (length xs) (laid xs ys) ≡ xs
-unfolding laid
+front-laid : {A : Type 0} (xs ys : List A) → length xs ≤ length ys → take (length xs) (laidOver xs ys) ≡ xs
+unfolding laidOver
 front-laid [] ys h = refl
 front-laid (x ∷ xs) [] h = absurd (not-suc-le-zero h)
 front-laid {A} (x ∷ xs) (y ∷ ys) h = ap (λ (l : List A). x ∷ l) (front-laid xs ys (le-of-suc-le-suc h))
@@ -171,13 +171,13 @@ module _ (ws : List ℕ) (rs : List CallRow) (n : ℕ) (rs′ : List CallRow) (h
   pub filled-all : n ≡ length ws / 6
   filled-all = sym (unless-same _ (length ws / 6) n answered)
 
-  pub filled-rows : take n rs′ ≡ rowsIn ws
+  pub filled-rows : take n rs′ ≡ structsIn ws
   unfolding fillOf
   filled-rows =
-      let f : rs′ ≡ laid (rowsIn ws) rs = sym (ap (λ (x : Moving CallRow). x .after) h) ∙ ap (λ (a : Answer ℕ). rowsAfter a (rowsIn ws) rs) answered in
-      let m : n ≡ length (rowsIn ws) = filled-all ∙ sym (rows-in ws) in
-      let l : length (rowsIn ws) ≤ length rs = omega (arith, fits, rows-in ws) in
-      ap (λ (l : List CallRow). take n l) f ∙ ap (λ (k : ℕ). take k (laid (rowsIn ws) rs)) m ∙ front-laid (rowsIn ws) rs l
+      let f : rs′ ≡ laidOver (structsIn ws) rs = sym (ap (λ (x : Moving CallRow). x .after) h) ∙ ap (λ (a : Answer ℕ). rowsAfter a (structsIn ws) rs) answered in
+      let m : n ≡ length (structsIn ws) = filled-all ∙ sym (rows-in ws) in
+      let l : length (structsIn ws) ≤ length rs = omega (arith, fits, rows-in ws) in
+      ap (λ (l : List CallRow). take n l) f ∙ ap (λ (k : ℕ). take k (laidOver (structsIn ws) rs)) m ∙ front-laid (structsIn ws) rs l
 
   -- no flag of them was above 1
   pub filled-flags : any badFlag (callRows ws) ≡ false
@@ -188,7 +188,7 @@ module _ (ws : List ℕ) (rs : List CallRow) (n : ℕ) (rs′ : List CallRow) (h
     pub filled-board : lentBoard (lentRows s b (take n rs′) cs) ≡ lentBoard (lent s b ws cs)
     unfolding lentBoard
     filled-board =
-        let e : map callIn (map numbered (take n rs′)) ≡ map callIn (callRows ws) = ap (λ (l : List CallRow). map callIn (map numbered l)) filled-rows ∙ given-means (callRows ws) in
+        let e : map callIn (map rowNumbers (take n rs′)) ≡ map callIn (callRows ws) = ap (λ (l : List CallRow). map callIn (map rowNumbers l)) filled-rows ∙ given-means (callRows ws) in
         rw e refl
 
     pub filled-means : meaning (lentRows s b (take n rs′) cs) ≡ meaning (lent s b ws cs)
@@ -198,4 +198,4 @@ module _ (ws : List ℕ) (rs : List CallRow) (n : ℕ) (rs′ : List CallRow) (h
 -- a refused call leaves the rows
 pub fill-stays : (ws : List ℕ) (rs : List CallRow) (r : Refusal) → fillOf ws rs .answer ≡ refused r → fillOf ws rs .after ≡ rs
 unfolding fillOf
-fill-stays ws rs r h = ap (λ (a : Answer ℕ). rowsAfter a (rowsIn ws) rs) h
+fill-stays ws rs r h = ap (λ (a : Answer ℕ). rowsAfter a (structsIn ws) rs) h

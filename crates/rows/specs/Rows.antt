@@ -28,26 +28,26 @@ abbrev pub rowIn : CallOf Span → CallRow
 rowIn c = record { bid = c .bid; alerted = c .alerted; annotation = maybeOf (c .annotation) }
 
 -- the six numbers of a row
-abbrev pub numbered : CallRow → Call
-numbered r = rowOf (called r)
+abbrev pub rowNumbers : CallRow → Call
+rowNumbers r = rowOf (called r)
 
 -- a board that is lent with its calls in rows: a call is the six numbers of its row
 abbrev pub lentRows : (text : List ℕ) → Board → List CallRow → (cards : List ℕ) → Lent
-lentRows s b rs cs = record { text = s; board = b; calls = map numbered rs; cards = cs }
+lentRows s b rs cs = record { text = s; board = b; calls = map rowNumbers rs; cards = cs }
 
 -- a row of no text: what a list is taken to hold past its end
 abbrev pub emptyRow : CallRow
 emptyRow = rowIn (callIn (record { bid = span 0 0; alerted = 0; annotated = 0; annotation = span 0 0 }))
 
 -- a list over another from the first on: "Rows and bytes not named by a success stay too."
-unfoldable pub laid : {A : Type 0} → (new old : List A) → List A
-laid [] ys = ys
-laid (x ∷ xs) [] = []
-laid (x ∷ xs) (y ∷ ys) = x ∷ laid xs ys
+unfoldable pub laidOver : {A : Type 0} → (new old : List A) → List A
+laidOver [] ys = ys
+laidOver (x ∷ xs) [] = []
+laidOver (x ∷ xs) (y ∷ ys) = x ∷ laidOver xs ys
 
 -- the six words of a row
-abbrev pub wordsOf : CallRow → List ℕ
-wordsOf r = r .bid .start ∷ r .bid .len ∷ flag (r .alerted) ∷ annotationWords (optionOf (r .annotation))
+abbrev pub structWords : CallRow → List ℕ
+structWords r = r .bid .start ∷ r .bid .len ∷ flag (r .alerted) ∷ annotationWords (optionOf (r .annotation))
 
 -- how many rows were moved, or the refusal
 abbrev pub movedOf : Moved → Answer ℕ
@@ -74,8 +74,8 @@ spillOf rs ws =
     record { answer = a; after = outputAfter a ws (callWords (map called rs)) }
 
 -- the rows that words give, six to a row; a rest is no row
-abbrev pub rowsIn : (words : List ℕ) → List CallRow
-rowsIn ws = map (λ c. rowIn (callIn c)) (callRows ws)
+abbrev pub structsIn : (words : List ℕ) → List CallRow
+structsIn ws = map (λ c. rowIn (callIn c)) (callRows ws)
 
 -- 8: "card, level or number outside its range", and 3. Rows are filled from words: all of them, or none where a flag is above 1 or there are too few
 -- structs
@@ -85,9 +85,9 @@ fillAnswer n ws = unless (refuseIf (any badFlag (callRows ws)) OutOfRange ∷ to
 -- "All lent memory stays. Rows and bytes not named by a success stay too."
 abbrev pub rowsAfter : Answer ℕ → (new old : List CallRow) → List CallRow
 rowsAfter (refused r) xs ys = ys
-rowsAfter (accepted n) xs ys = laid xs ys
+rowsAfter (accepted n) xs ys = laidOver xs ys
 
 unfoldable pub fillOf : (words : List ℕ) → List CallRow → Moving CallRow
 fillOf ws rs =
     let a = fillAnswer (length rs) ws in
-    record { answer = a; after = rowsAfter a (rowsIn ws) rs }
+    record { answer = a; after = rowsAfter a (structsIn ws) rs }

@@ -14,7 +14,7 @@ ghost use Rattle.lin_spec.specs.Lent.{callIn};
 ghost use Rattle.output.specs.Put.{Room, Put};
 ghost use Rattle.board_lent.specs.Calls.{callAt};
 ghost use Rattle.rows.specs.declared.CallRow.{CallRow};
-ghost use Rattle.rows.specs.Rows.{rowIn, numbered, wordsOf, movedOf, Moving, fillOf, spillOf};
+ghost use Rattle.rows.specs.Rows.{rowIn, rowNumbers, structWords, movedOf, Moving, fillOf, spillOf};
 
 // The row of a call's six numbers.
 pub fn row_of(c: Call) -> CallRow
@@ -62,7 +62,7 @@ pub fn fill_rows(rows: &mut [CallRow], words: &[u32]) -> Moved
 
 // The six numbers of a row: an annotation that is absent has no place.
 pub fn row_numbers(row: CallRow) -> Call
-    ensures { λ r. ⌜ r ≡ numbered row ⌝ }
+    ensures { λ r. ⌜ r ≡ rowNumbers row ⌝ }
 {
     let bid = row.bid;
     let annotation = row.annotation;
@@ -71,7 +71,7 @@ pub fn row_numbers(row: CallRow) -> Call
 
 // The six words of a row.
 pub(crate) fn words_of(row: CallRow) -> [u32; 6]
-    ensures { λ r. ⌜ r ≡ wordsOf row ⌝ }
+    ensures { λ r. ⌜ r ≡ structWords row ⌝ }
 {
     let c = row_numbers(row);
     let bid = c.bid;
@@ -103,8 +103,8 @@ fn copy_words(out: &mut [u32], at: usize, s: &[u32]) -> usize
 
 // Puts the words of a row.
 fn put_row_words(out: &mut [u32], at: usize, row: CallRow) -> usize
-    requires { ⌜ Room (now out) at (wordsOf row) ⌝ }
-    ensures { λ r. ⌜ Put (now (out .entry)) at (wordsOf row) (now (out .exit)) r ⌝ }
+    requires { ⌜ Room (now out) at (structWords row) ⌝ }
+    ensures { λ r. ⌜ Put (now (out .entry)) at (structWords row) (now (out .exit)) r ⌝ }
 {
     let w = words_of(row);
     copy_words(out, at, &w)

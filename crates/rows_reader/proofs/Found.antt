@@ -36,7 +36,7 @@ use Rattle.lin_spec.proofs.Accepted.{words-length, lent-back}
 use Rattle.lin_spec.proofs.Given.{read-given, file-given}
 use Rattle.lin_spec.proofs.ThirdDemand.{third-demand}
 use Rattle.rows.specs.declared.CallRow.{CallRow}
-use Rattle.rows.specs.Rows.{called, rowIn, laid, lentRows}
+use Rattle.rows.specs.Rows.{called, rowIn, laidOver, lentRows}
 use Rattle.rows_steps.specs.Steps.{fewStructs, fileAnswer}
 use Rattle.rows_reader.specs.Reader.{storedRows, readRows, fileRows}
 use Rattle.rows_reader.specs.Given.{GivesRows}
@@ -61,8 +61,8 @@ all-again [] = refl
 all-again (c ∷ cs) = ap (λ (x : CallOf Span). x ∷ map callIn (map (λ r. rowOf (called r)) (map rowIn cs))) (lent-again c) ∙ ap (λ (l : List (CallOf Span)). c ∷ l) (all-again cs)
 
 -- the first of the rows, and of the words, that were stored
-laid-front : {A : Type 0} (xs ys : List A) → length xs ≤ length ys → take (length xs) (laid xs ys) ≡ xs
-unfolding laid
+laid-front : {A : Type 0} (xs ys : List A) → length xs ≤ length ys → take (length xs) (laidOver xs ys) ≡ xs
+unfolding laidOver
 laid-front [] ys h = refl
 laid-front (x ∷ xs) [] h = absurd (not-suc-le-zero h)
 laid-front {A} (x ∷ xs) (y ∷ ys) h = ap (λ (l : List A). x ∷ l) (laid-front xs ys (le-of-suc-le-suc h))
@@ -122,7 +122,7 @@ module _ (t : List ℕ) (k : ℕ) (b : BoardOf (List ℕ)) (rs : List CallRow) (
       let ks = x .calls in
       let cards = take (length (x .play)) (overlay cs 0 (x .play)) in
       let fits : length (map rowIn ks) ≤ length rs = (let n = length-map ks rowIn in let m = g .calls in omega arith) in
-      let rows : take (length ks) (laid (map rowIn ks) rs) ≡ map rowIn ks = ap (λ (n : ℕ). take n (laid (map rowIn ks) rs)) (sym (length-map ks rowIn)) ∙ laid-front (map rowIn ks) rs fits in
+      let rows : take (length ks) (laidOver (map rowIn ks) rs) ≡ map rowIn ks = ap (λ (n : ℕ). take n (laidOver (map rowIn ks) rs)) (sym (length-map ks rowIn)) ∙ laid-front (map rowIn ks) rs fits in
       let words : map callIn (callRows (take (length ks * 6) (overlay ws 0 (callWords ks)))) ≡ ks = ap (λ (l : List ℕ). map callIn (callRows l)) (words-front ws ks) ∙ ap (λ (y : BoardOf Span). y .calls) (lent-back t x) in
       let ds = callRows (take (length ks * 6) (overlay ws 0 (callWords ks))) in
       let es = map (λ r. rowOf (called r)) (map rowIn ks) in

@@ -22,8 +22,8 @@ use Rattle.board.proofs.ReaderLaws.{calls-are}
 use Rattle.rows.specs.declared.CallRow.{CallRow}
 use Rattle.rows_steps.specs.declared.steps.RowStep.{RowStep}
 use Rattle.rows_steps.specs.declared.steps.Headed.{Headed}
-use Rattle.rows.specs.Rows.{called, rowIn, emptyRow, laid}
-use Rattle.rows_steps.specs.Steps.{Steps, callsIn, playIn, Heads}
+use Rattle.rows.specs.Rows.{called, rowIn, emptyRow, laidOver}
+use Rattle.rows_steps.specs.Steps.{StepsTo, callsIn, playIn, Heads}
 use Rattle.rows_reader.specs.Reader.{RowReading, storedRows}
 use Rattle.rows.proofs.Laws.{front, laidAt, laid-start, laid-more, laid-none}
 
@@ -31,14 +31,14 @@ use Rattle.rows.proofs.Laws.{front, laidAt, laid-start, laid-more, laid-none}
 
 abbrev pub Storing : (s : List ℕ) (start n : ℕ) (ys : List CallRow) (i at : ℕ) (zs : List CallRow) → Type 0
 Storing s start n ys i at zs =
-    (callsFrom s (stream s at) ≡ drop i (boardAt s start .calls)) × (laidAt i (map rowIn (drop i (take n (boardAt s start .calls)))) zs ≡ laid (map rowIn (take n (boardAt s start .calls))) ys)
+    (callsFrom s (stream s at) ≡ drop i (boardAt s start .calls)) × (laidAt i (map rowIn (drop i (take n (boardAt s start .calls)))) zs ≡ laidOver (map rowIn (take n (boardAt s start .calls))) ys)
 
 pub store-start : (s : List ℕ) (start n : ℕ) (ys : List CallRow) → Storing s start n ys 0 start ys
 unfolding boardFrom
 store-start s start n ys = (sym (calls-are s (stream s start)), laid-start (map rowIn (take n (boardAt s start .calls))) ys)
 
 module _ (s : List ℕ) (start n : ℕ) (ys : List CallRow) (i at : ℕ) (zs : List CallRow) (h : Storing s start n ys i at zs) (le : n ≤ length (boardAt s start .calls)) where
-  pub store-more : i < n → (r : RowStep) → Steps s at r → Storing s start n ys (i + 1) (r .at) (set zs i (r .row))
+  pub store-more : i < n → (r : RowStep) → StepsTo s at r → Storing s start n ys (i + 1) (r .at) (set zs i (r .row))
   store-more l r g =
       let k = boardAt s start .calls in
       let c = getD k i (called emptyRow) in
@@ -52,7 +52,7 @@ module _ (s : List ℕ) (start n : ℕ) (ys : List CallRow) (i at : ℕ) (zs : L
             ∙ h .1,
       )
 
-  pub store-end : n ≤ i → zs ≡ laid (map rowIn (take n (boardAt s start .calls))) ys
+  pub store-end : n ≤ i → zs ≡ laidOver (map rowIn (take n (boardAt s start .calls))) ys
   store-end l =
       let k = boardAt s start .calls in
       let past : length (take n k) ≤ i = omega (arith, length-take n k) in
@@ -60,8 +60,8 @@ module _ (s : List ℕ) (start n : ℕ) (ys : List CallRow) (i at : ℕ) (zs : L
 
 -- What an entry gives: the heading, and its calls stored in the rows
 
-stored-is : (a : Answer (BoardOf Span)) (rows : List CallRow) (cards : List ℕ) → record { heading = headed a; rows = laid (map rowIn (callsIn a)) rows; cards = overlay cards 0 (playIn a) } ≡ storedRows a rows cards
-unfolding laid
+stored-is : (a : Answer (BoardOf Span)) (rows : List CallRow) (cards : List ℕ) → record { heading = headed a; rows = laidOver (map rowIn (callsIn a)) rows; cards = overlay cards 0 (playIn a) } ≡ storedRows a rows cards
+unfolding laidOver
 stored-is (refused r) rows cards = ap (λ (x : List ℕ). record { heading = refusedHeading r; rows = rows; cards = x }) (overlay-nil cards 0)
 stored-is (accepted b) rows cards = refl
 
@@ -72,10 +72,10 @@ cong : (x x′ : Heading) → x ≡ x′ → (rows rows′ : List CallRow) → r
 cong x x′ e rows rows′ f cards cards′ g = ap (λ (y : Heading). reading y rows cards) e ∙ ap (λ (y : List CallRow). reading x′ y cards) f ∙ ap (λ (y : List ℕ). reading x′ rows′ y) g
 
 pub rows-read : (s : List ℕ) (a : Answer (BoardOf Span)) (rows : List CallRow) (cards : List ℕ) (h : Headed) (cards′ : List ℕ) → Heads s a (length rows) cards h cards′
-    → (x : Heading) → x ≡ h .heading → (rows′ : List CallRow) → rows′ ≡ laid (map rowIn (take (h .calls) (boardAt (take (h .stop) s) (h .start) .calls))) rows
+    → (x : Heading) → x ≡ h .heading → (rows′ : List CallRow) → rows′ ≡ laidOver (map rowIn (take (h .calls) (boardAt (take (h .stop) s) (h .start) .calls))) rows
     → record { heading = x; rows = rows′; cards = cards′ } ≡ storedRows a rows cards
 unfolding reading
 rows-read s a rows cards h cards′ g x ex rows′ er =
     let p : x ≡ headed a = ex ∙ g .heading in
-    let q : rows′ ≡ laid (map rowIn (callsIn a)) rows = er ∙ ap (λ (cs : List (CallOf Span)). laid (map rowIn cs) rows) (g .calls) in
-    cong x (headed a) p rows′ (laid (map rowIn (callsIn a)) rows) q cards′ (overlay cards 0 (playIn a)) (g .stored) ∙ stored-is a rows cards
+    let q : rows′ ≡ laidOver (map rowIn (callsIn a)) rows = er ∙ ap (λ (cs : List (CallOf Span)). laidOver (map rowIn cs) rows) (g .calls) in
+    cong x (headed a) p rows′ (laidOver (map rowIn (callsIn a)) rows) q cards′ (overlay cards 0 (playIn a)) (g .stored) ∙ stored-is a rows cards

@@ -11,7 +11,7 @@ use Rattle.lin_spec.specs.Reading.{headingOf}
 use Rattle.lin_spec.specs.declared.Span.{Span}
 use Rattle.lin_spec.specs.declared.Heading.{Heading}
 use Rattle.rows.specs.declared.CallRow.{CallRow}
-use Rattle.rows.specs.Rows.{rowIn, laid}
+use Rattle.rows.specs.Rows.{rowIn, laidOver}
 use Rattle.rows_steps.specs.Steps.{textAnswer, fileAnswer}
 
 -- the heading, and the rows and cards afterwards
@@ -23,7 +23,7 @@ pub record RowReading : Type 0 where
 -- "All lent memory stays. Rows and bytes not named by a success stay too."
 abbrev pub storedRows : Answer (BoardOf Span) → (rows : List CallRow) (cards : List ℕ) → RowReading
 storedRows (refused r) rows cards = record { heading = refusedHeading r; rows = rows; cards = cards }
-storedRows (accepted b) rows cards = record { heading = headingOf b; rows = laid (map rowIn (b .calls)) rows; cards = overlay cards 0 (b .play) }
+storedRows (accepted b) rows cards = record { heading = headingOf b; rows = laidOver (map rowIn (b .calls)) rows; cards = overlay cards 0 (b .play) }
 
 unfoldable pub readRows : (s : List ℕ) (rows : List CallRow) (cards : List ℕ) → RowReading
 readRows s rows cards = storedRows (textAnswer s (length rows) cards) rows cards

@@ -10,13 +10,13 @@ ghost use mathlib.Core.List.{map};
 ghost use Prim.Native.Nat.{_<_, _≤_, _^_};
 ghost use lib.ListN.{length, take};
 ghost use Rattle.board_loop.specs.Head.{boardAt};
-ghost use Rattle.rows.specs.Rows.{rowIn, laid};
+ghost use Rattle.rows.specs.Rows.{rowIn, laidOver};
 ghost use Rattle.rows_reader.specs.Reader.{RowReading, readRows, fileRows};
 
 // Stores the first n calls of the text up to `stop`, from a place on.
 fn store_rows(rows: &mut [CallRow], text: &[u8], n: usize, start: usize, stop: usize)
     requires { ⌜ (n ≤ length (now rows)) × (n ≤ length (boardAt (take stop (now text)) start .calls)) × (0 < n → (stop ≤ length (now text)) × (length (now text) < 2 ^ 32)) ⌝ }
-    ensures { λ r. ⌜ now (rows .exit) ≡ laid (map rowIn (take n (boardAt (take stop (now (text .entry))) start .calls))) (now (rows .entry)) ⌝ }
+    ensures { λ r. ⌜ now (rows .exit) ≡ laidOver (map rowIn (take n (boardAt (take stop (now (text .entry))) start .calls))) (now (rows .entry)) ⌝ }
 {
     let mut i = 0;
     let mut at = start;

@@ -12,7 +12,7 @@ use Rattle.lin_spec.specs.declared.Refusal.{Refusal}
 use Rattle.lin_spec.specs.declared.Refusal.the-variants.{NoBoard}
 use Rattle.board_loop.specs.Head.{boardAt}
 use Rattle.file_sections.specs.Sections.{openedOf, Inside}
-use Rattle.file.specs.Numbers.{Board}
+use Rattle.file.specs.Numbers.{NumberedBoard}
 use Rattle.file_sections.specs.declared.sections.BoardCursor.{BoardCursor}
 use Rattle.file_sections.specs.declared.sections.Section.{Section}
 use Rattle.file_sections.specs.declared.sections.OpenedBoards.{OpenedBoards}
@@ -34,7 +34,7 @@ module _ (s : List ℕ) (o : OpenedBoards) (e : openedOf o ≡ openBoards s) (n 
     pub file-missing : (k : ℕ) → k ≡ length (boardsOf (sections s)) → k ≤ n → h ≡ refusedHeaded (NoBoard k) → Heads s (fileAnswer s n rows cards) rows cards h cards
     file-missing k q l g = heads-refused s (fileAnswer s n rows cards) rows cards (NoBoard k) (passed s o e c f _ (numbered s n) ∙ missing s o e c f n k q l (fewStructs (numbered s n) rows cards) (numbered s n)) h g
 
-    pub file-read : (p : Section) → Board s n p → (cards′ : List ℕ) → Heads s (unless (fewStructs (boardAt (take (p .stop) s) (p .start)) rows cards) (boardAt (take (p .stop) s) (p .start))) rows cards h cards′
+    pub file-read : (p : Section) → NumberedBoard s n p → (cards′ : List ℕ) → Heads s (unless (fewStructs (boardAt (take (p .stop) s) (p .start)) rows cards) (boardAt (take (p .stop) s) (p .start))) rows cards h cards′
         → Heads s (fileAnswer s n rows cards) rows cards h cards′
     file-read p b cards′ g =
         subst (λ (x : Answer (BoardOf Span)). Heads s x rows cards h cards′)

@@ -40,7 +40,7 @@ use Rattle.rows.specs.declared.CallRow.{CallRow}
 use Rattle.rows_steps.specs.declared.steps.RowStep.{RowStep}
 use Rattle.rows_steps.specs.declared.steps.Headed.{Headed}
 use Rattle.rows.specs.Rows.{rowIn}
-use Rattle.rows_steps.specs.Steps.{fewStructs, textAnswer, Steps, refusedHeaded, Heads}
+use Rattle.rows_steps.specs.Steps.{fewStructs, textAnswer, StepsTo, refusedHeaded, Heads}
 use Rattle.rows.proofs.Laws.{front}
 
 -- A text up to a place
@@ -71,14 +71,14 @@ nil-cons : {A : Type 0} {P : Type 0} (x : A) (xs : List A) → [] ≡ x ∷ xs �
 nil-cons x xs e = absurd (let z : ⊥ = (let h = ap length e in omega arith) in z)
 
 module _ (s : List ℕ) (at : ℕ) (v : NextCall) (g : GivesCall s at v) where
-  pub step-found : (x : Call) (n : Cursor) → v ≡ Found x n → (row : CallRow) → row ≡ rowIn (callIn x) → Steps s at (record { row = row; at = n .at })
+  pub step-found : (x : Call) (n : Cursor) → v ≡ Found x n → (row : CallRow) → row ≡ rowIn (callIn x) → StepsTo s at (record { row = row; at = n .at })
   step-found x n e row f c cs h =
       let d : CallAt s at x (n .at) = subst (GivesCall s at) e g in
       let p : d .call ∷ callsFrom s (stream s (n .at)) ≡ c ∷ cs = sym (d .front) ∙ h in
       let one : d .call ≡ c = ap (λ (l : List (CallOf Span)). getD l 0 c) p in
       (f ∙ ap (λ (y : Call). rowIn (callIn y)) (d .row) ∙ row-back (d .call) ∙ ap rowIn one, ap (λ (l : List (CallOf Span)). drop 1 l) p)
 
-  pub step-none : v ≡ Ended → (r : RowStep) → Steps s at r
+  pub step-none : v ≡ Ended → (r : RowStep) → StepsTo s at r
   step-none e r c cs h =
       let none : callsFrom s (stream s at) ≡ [] = subst (GivesCall s at) e g in
       nil-cons c cs (sym none ∙ h)

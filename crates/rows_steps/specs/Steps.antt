@@ -35,8 +35,8 @@ fileAnswer s n rows cards = unless (tooLong s ∷ notUtf8 s ∷ noBoard n (lengt
 -- What the parts of the code give
 
 -- the next call of s from the place `at` on, where there is one
-abbrev pub Steps : (s : List ℕ) (at : ℕ) → RowStep → Type 0
-Steps s at r = (c : CallOf Span) (cs : List (CallOf Span)) → callsFrom s (stream s at) ≡ c ∷ cs → (r .row ≡ rowIn c) × (callsFrom s (stream s (r .at)) ≡ cs)
+abbrev pub StepsTo : (s : List ℕ) (at : ℕ) → RowStep → Type 0
+StepsTo s at r = (c : CallOf Span) (cs : List (CallOf Span)) → callsFrom s (stream s at) ≡ c ∷ cs → (r .row ≡ rowIn c) × (callsFrom s (stream s (r .at)) ≡ cs)
 
 -- the calls and the cards of an answer: a refusal names none
 abbrev pub callsIn : Answer (BoardOf Span) → List (CallOf Span)

@@ -22,7 +22,7 @@ ghost use Prim.Native.Nat.{_<_, _≤_, _^_};
 ghost use lib.ListN.{length, take};
 ghost use Rattle.board_loop.specs.Head.{boardAt};
 ghost use Rattle.lin_spec.specs.Refusals.{unless};
-ghost use Rattle.rows_steps.specs.Steps.{fewStructs, textAnswer, fileAnswer, Steps, Heads, refusedHeaded};
+ghost use Rattle.rows_steps.specs.Steps.{fewStructs, textAnswer, fileAnswer, StepsTo, Heads, refusedHeaded};
 
 // A call as a row, and the place after it.
 pub struct RowStep {
@@ -41,7 +41,7 @@ pub struct Headed {
 // The next call of the text up to `stop`, from a place on. Where there is none, a row of no text, and the place stays.
 pub fn next_row(text: &[u8], stop: usize, at: usize) -> RowStep
     requires { ⌜ (stop ≤ length (now text)) × (length (now text) < 2 ^ 32) ⌝ }
-    ensures { λ r. ⌜ Steps (take stop (now (text .entry))) at r ⌝ }
+    ensures { λ r. ⌜ StepsTo (take stop (now (text .entry))) at r ⌝ }
 {
     match next_call(&text[..stop], Cursor { at }) {
         NextCall::Found(c, next) => {

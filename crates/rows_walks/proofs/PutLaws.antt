@@ -18,7 +18,7 @@ use Rattle.writer_texts.specs.Calls.{callBytes}
 use Rattle.writer_texts.proofs.TextLaws.{clean-length}
 use Rattle.writer_texts.proofs.CallLaws.{call-long}
 use Rattle.rows.specs.declared.CallRow.{CallRow}
-use Rattle.rows.specs.Rows.{emptyRow, numbered}
+use Rattle.rows.specs.Rows.{emptyRow, rowNumbers}
 use Rattle.rows.proofs.Laws.{front}
 use Rattle.rows_walks.specs.Walks.{rowBytes, rowsBytes}
 
@@ -71,4 +71,4 @@ module _ (p q p′ q′ : ℕ) (s : List ℕ) where
   rows-long-same (r ∷ rs) =
       let a = ap length (rows-cons p q s r rs) ∙ length-append (rowBytes p q s r) (rowsBytes p q s rs) in
       let b = ap length (rows-cons p′ q′ s r rs) ∙ length-append (rowBytes p′ q′ s r) (rowsBytes p′ q′ s rs) in
-      omega (arith, a, b, call-long-same (numbered r), rows-long-same rs)
+      omega (arith, a, b, call-long-same (rowNumbers r), rows-long-same rs)

@@ -1,7 +1,6 @@
 -- Laws of rows that are looked at: a call by its parts, one row at a time, and what is found in all of them. (01: Eight refusals, 5 to 7)
 -- Assumes nothing.
 use Prim.Native.Nat.{ℕ, zero, suc, _+_, _≤_, _<_, min}
-use Prim.Native.Char.{code}
 use native.Mathlib.Nat.{zero-add, le-of-suc-le-suc}
 use native.Mathlib.Omega.{arith}
 use mathlib.Core.Path.{_≡_, refl, ap, sym, _∙_}
@@ -9,17 +8,18 @@ use mathlib.Core.Bool.{Bool, true, false, _||_, or-assoc, or-false}
 use mathlib.Core.List.{List, [], _∷_, map}
 use lib.ListN.{length, take, drop, getD, length-append, length-take}
 use lib.Seq.{take-all}
+use Rattle.lin_spec.specs.Writer.{pipeMark, lineMark}
 use Rattle.lin_spec.specs.Base.{pick, any}
 use Rattle.lin_spec.specs.Refusals.{passesEnd, sat}
 use Rattle.lin_spec.specs.declared.Call.{Call}
 use Rattle.lin_spec.proofs.Base.{split}
-use Rattle.board_lent.specs.Calls.{spansOf, textBytes}
+use Rattle.board_lent.specs.Calls.{spansOfCall, textBytes}
 use Rattle.board_lent.specs.Checks.{amiss}
 use Rattle.writer_texts.specs.Calls.{callBytes}
 use Rattle.rows.specs.declared.CallRow.{CallRow}
-use Rattle.rows.specs.Rows.{emptyRow, numbered}
+use Rattle.rows.specs.Rows.{emptyRow, rowNumbers}
 use Rattle.rows_walks.specs.declared.Scan.{Scan}
-use Rattle.rows_walks.specs.Walks.{rowBytes, rowsBytes, lookedAt, measured, scanRow, scanned}
+use Rattle.rows_walks.specs.Walks.{rowBytes, rowsBytes, lookedAtCall, measured, scanRow, scanned}
 use Rattle.rows_walks.proofs.PutLaws.{rows-cons, rows-none, rows-long-same}
 
 -- The first words of an index, as many as there are
@@ -34,24 +34,24 @@ take-lesser n xs r e =
 -- One call
 
 module _ (s : List ℕ) (c : Call) (z : Scan) where
-  pub looked-is : (t : Bool) → t ≡ any (amiss s) (spansOf c)
-      → _≡_ {A = Scan} (record { look = z .look; blocks = z .blocks; past = z .past; ill = z .ill || t; spans = z .spans; need = z .need }) (lookedAt s c z)
+  pub looked-is : (t : Bool) → t ≡ any (amiss s) (spansOfCall c)
+      → _≡_ {A = Scan} (record { look = z .look; blocks = z .blocks; past = z .past; ill = z .ill || t; spans = z .spans; need = z .need }) (lookedAtCall s c z)
   looked-is t e = rw e refl
 
-  pub measured-is : (t : Bool) → t ≡ any (passesEnd s) (spansOf c) → (l x : ℕ) → l ≡ textBytes c → x ≡ sat (z .spans + l)
-      → (m y : ℕ) → m ≡ sat (length (callBytes (code "/") (code " ") s c)) → y ≡ sat (z .need + m)
+  pub measured-is : (t : Bool) → t ≡ any (passesEnd s) (spansOfCall c) → (l x : ℕ) → l ≡ textBytes c → x ≡ sat (z .spans + l)
+      → (m y : ℕ) → m ≡ sat (length (callBytes pipeMark lineMark s c)) → y ≡ sat (z .need + m)
       → _≡_ {A = Scan} (record { look = z .look; blocks = z .blocks; past = z .past || t; ill = z .ill; spans = x; need = y }) (measured s c z)
   measured-is t e l x f g m y h k =
       let a : x ≡ sat (z .spans + textBytes c) = g ∙ ap (λ (n : ℕ). sat (z .spans + n)) f in
-      let b : y ≡ sat (z .need + length (callBytes (code "/") (code " ") s c)) = omega (arith, h, k) in
+      let b : y ≡ sat (z .need + length (callBytes pipeMark lineMark s c)) = omega (arith, h, k) in
       rw (e, a, b) refl
 
 -- One row
 
-module _ (s : List ℕ) (r : CallRow) (z : Scan) (c : Call) (e : c ≡ numbered r) (y : Scan) where
-  pub row-looked : z .look ≡ true → y ≡ lookedAt s c z → y ≡ scanRow s r z
+module _ (s : List ℕ) (r : CallRow) (z : Scan) (c : Call) (e : c ≡ rowNumbers r) (y : Scan) where
+  pub row-looked : z .look ≡ true → y ≡ lookedAtCall s c z → y ≡ scanRow s r z
   unfolding scanRow
-  row-looked h f = f ∙ ap (λ (x : Call). lookedAt s x z) e ∙ simp h
+  row-looked h f = f ∙ ap (λ (x : Call). lookedAtCall s x z) e ∙ simp h
 
   pub row-measured : z .look ≡ false → y ≡ measured s c z → y ≡ scanRow s r z
   unfolding scanRow
@@ -62,7 +62,7 @@ pub row-blocks : (s : List ℕ) (r : CallRow) (z : Scan) → scanRow s r z .bloc
 unfolding scanRow
 row-blocks s r z = go (z .look)
   where
-    go : (t : Bool) → pick t (lookedAt s (numbered r) z) (measured s (numbered r) z) .blocks ≡ z .blocks
+    go : (t : Bool) → pick t (lookedAtCall s (rowNumbers r) z) (measured s (rowNumbers r) z) .blocks ≡ z .blocks
     go true = refl
     go false = refl
 
@@ -87,59 +87,59 @@ scan-end s (r ∷ rs) (suc i) z h = scan-end s rs i z (le-of-suc-le-suc h)
 
 module _ (s : List ℕ) where
   -- where the bytes are looked at
-  look-step : (r : CallRow) (z : Scan) → z .look ≡ true → scanRow s r z ≡ lookedAt s (numbered r) z
+  look-step : (r : CallRow) (z : Scan) → z .look ≡ true → scanRow s r z ≡ lookedAtCall s (rowNumbers r) z
   unfolding scanRow
-  look-step r z e = ap (λ (t : Bool). pick t (lookedAt s (numbered r) z) (measured s (numbered r) z)) e
+  look-step r z e = ap (λ (t : Bool). pick t (lookedAtCall s (rowNumbers r) z) (measured s (rowNumbers r) z)) e
 
   pub look-past : (rs : List CallRow) (z : Scan) → z .look ≡ true → scanned s rs z .past ≡ z .past
   unfolding scanned
   look-past [] z e = refl
-  look-past (r ∷ rs) z e = ap (λ (y : Scan). scanned s rs y .past) (look-step r z e) ∙ look-past rs (lookedAt s (numbered r) z) e
+  look-past (r ∷ rs) z e = ap (λ (y : Scan). scanned s rs y .past) (look-step r z e) ∙ look-past rs (lookedAtCall s (rowNumbers r) z) e
 
   pub look-need : (rs : List CallRow) (z : Scan) → z .look ≡ true → scanned s rs z .need ≡ z .need
   unfolding scanned
   look-need [] z e = refl
-  look-need (r ∷ rs) z e = ap (λ (y : Scan). scanned s rs y .need) (look-step r z e) ∙ look-need rs (lookedAt s (numbered r) z) e
+  look-need (r ∷ rs) z e = ap (λ (y : Scan). scanned s rs y .need) (look-step r z e) ∙ look-need rs (lookedAtCall s (rowNumbers r) z) e
 
-  pub look-ill : (rs : List CallRow) (z : Scan) → z .look ≡ true → scanned s rs z .ill ≡ (z .ill || any (λ c. any (amiss s) (spansOf c)) (map numbered rs))
+  pub look-ill : (rs : List CallRow) (z : Scan) → z .look ≡ true → scanned s rs z .ill ≡ (z .ill || any (λ c. any (amiss s) (spansOfCall c)) (map rowNumbers rs))
   unfolding scanned any
   look-ill [] z e = sym (or-false (z .ill))
   look-ill (r ∷ rs) z e =
       ap (λ (y : Scan). scanned s rs y .ill) (look-step r z e)
-      ∙ look-ill rs (lookedAt s (numbered r) z) e
-      ∙ or-assoc (z .ill) (any (amiss s) (spansOf (numbered r))) (any (λ c. any (amiss s) (spansOf c)) (map numbered rs))
+      ∙ look-ill rs (lookedAtCall s (rowNumbers r) z) e
+      ∙ or-assoc (z .ill) (any (amiss s) (spansOfCall (rowNumbers r))) (any (λ c. any (amiss s) (spansOfCall c)) (map rowNumbers rs))
 
   -- where the numbers are
-  measure-step : (r : CallRow) (z : Scan) → z .look ≡ false → scanRow s r z ≡ measured s (numbered r) z
+  measure-step : (r : CallRow) (z : Scan) → z .look ≡ false → scanRow s r z ≡ measured s (rowNumbers r) z
   unfolding scanRow
-  measure-step r z e = ap (λ (t : Bool). pick t (lookedAt s (numbered r) z) (measured s (numbered r) z)) e
+  measure-step r z e = ap (λ (t : Bool). pick t (lookedAtCall s (rowNumbers r) z) (measured s (rowNumbers r) z)) e
 
-  pub measure-past : (rs : List CallRow) (z : Scan) → z .look ≡ false → scanned s rs z .past ≡ (z .past || any (λ c. any (passesEnd s) (spansOf c)) (map numbered rs))
+  pub measure-past : (rs : List CallRow) (z : Scan) → z .look ≡ false → scanned s rs z .past ≡ (z .past || any (λ c. any (passesEnd s) (spansOfCall c)) (map rowNumbers rs))
   unfolding scanned any
   measure-past [] z e = sym (or-false (z .past))
   measure-past (r ∷ rs) z e =
       ap (λ (y : Scan). scanned s rs y .past) (measure-step r z e)
-      ∙ measure-past rs (measured s (numbered r) z) e
-      ∙ or-assoc (z .past) (any (passesEnd s) (spansOf (numbered r))) (any (λ c. any (passesEnd s) (spansOf c)) (map numbered rs))
+      ∙ measure-past rs (measured s (rowNumbers r) z) e
+      ∙ or-assoc (z .past) (any (passesEnd s) (spansOfCall (rowNumbers r))) (any (λ c. any (passesEnd s) (spansOfCall c)) (map rowNumbers rs))
 
   pub measure-ill : (rs : List CallRow) (z : Scan) → z .look ≡ false → scanned s rs z .ill ≡ z .ill
   unfolding scanned
   measure-ill [] z e = refl
-  measure-ill (r ∷ rs) z e = ap (λ (y : Scan). scanned s rs y .ill) (measure-step r z e) ∙ measure-ill rs (measured s (numbered r) z) e
+  measure-ill (r ∷ rs) z e = ap (λ (y : Scan). scanned s rs y .ill) (measure-step r z e) ∙ measure-ill rs (measured s (rowNumbers r) z) e
 
-  pub measure-need : (rs : List CallRow) (z : Scan) (m : ℕ) → z .look ≡ false → z .need ≡ sat m → scanned s rs z .need ≡ sat (m + length (rowsBytes (code "/") (code " ") s rs))
+  pub measure-need : (rs : List CallRow) (z : Scan) (m : ℕ) → z .look ≡ false → z .need ≡ sat m → scanned s rs z .need ≡ sat (m + length (rowsBytes pipeMark lineMark s rs))
   unfolding scanned
   measure-need [] z m e f = f ∙ none m
     where
-      none : (n : ℕ) → sat n ≡ sat (n + length (rowsBytes (code "/") (code " ") s []))
-      none n = let k : length (rowsBytes (code "/") (code " ") s []) ≡ 0 = ap length (rows-none (code "/") (code " ") s) in omega (arith, k)
+      none : (n : ℕ) → sat n ≡ sat (n + length (rowsBytes pipeMark lineMark s []))
+      none n = let k : length (rowsBytes pipeMark lineMark s []) ≡ 0 = ap length (rows-none pipeMark lineMark s) in omega (arith, k)
   measure-need (r ∷ rs) z m e f =
-      let a = length (rowBytes (code "/") (code " ") s r) in
-      let b = length (rowsBytes (code "/") (code " ") s rs) in
-      let g : measured s (numbered r) z .need ≡ sat (m + a) = omega (arith, f) in
-      let h : length (rowsBytes (code "/") (code " ") s (r ∷ rs)) ≡ a + b = ap length (rows-cons (code "/") (code " ") s r rs) ∙ length-append (rowBytes (code "/") (code " ") s r) (rowsBytes (code "/") (code " ") s rs) in
+      let a = length (rowBytes pipeMark lineMark s r) in
+      let b = length (rowsBytes pipeMark lineMark s rs) in
+      let g : measured s (rowNumbers r) z .need ≡ sat (m + a) = omega (arith, f) in
+      let h : length (rowsBytes pipeMark lineMark s (r ∷ rs)) ≡ a + b = ap length (rows-cons pipeMark lineMark s r rs) ∙ length-append (rowBytes pipeMark lineMark s r) (rowsBytes pipeMark lineMark s rs) in
       ap (λ (y : Scan). scanned s rs y .need) (measure-step r z e)
-      ∙ measure-need rs (measured s (numbered r) z) (m + a) e g
+      ∙ measure-need rs (measured s (rowNumbers r) z) (m + a) e g
       ∙ omega (arith, h)
 
   -- what is looked for stays
@@ -147,7 +147,7 @@ module _ (s : List ℕ) where
   unfolding scanRow
   row-look r z = go (z .look)
     where
-      go : (t : Bool) → pick t (lookedAt s (numbered r) z) (measured s (numbered r) z) .look ≡ z .look
+      go : (t : Bool) → pick t (lookedAtCall s (rowNumbers r) z) (measured s (rowNumbers r) z) .look ≡ z .look
       go true = refl
       go false = refl
 
@@ -164,14 +164,14 @@ module _ (s : List ℕ) where
 -- A scan that has found nothing yet
 
 module _ (s : List ℕ) (rs : List CallRow) (z : Scan) where
-  pub found-past : z .look ≡ false → z .past ≡ false → scanned s rs z .past ≡ any (λ c. any (passesEnd s) (spansOf c)) (map numbered rs)
-  found-past e f = measure-past s rs z e ∙ ap (λ (t : Bool). t || any (λ c. any (passesEnd s) (spansOf c)) (map numbered rs)) f
+  pub found-past : z .look ≡ false → z .past ≡ false → scanned s rs z .past ≡ any (λ c. any (passesEnd s) (spansOfCall c)) (map rowNumbers rs)
+  found-past e f = measure-past s rs z e ∙ ap (λ (t : Bool). t || any (λ c. any (passesEnd s) (spansOfCall c)) (map rowNumbers rs)) f
 
-  pub found-ill : z .look ≡ true → z .ill ≡ false → scanned s rs z .ill ≡ any (λ c. any (amiss s) (spansOf c)) (map numbered rs)
-  found-ill e f = look-ill s rs z e ∙ ap (λ (t : Bool). t || any (λ c. any (amiss s) (spansOf c)) (map numbered rs)) f
+  pub found-ill : z .look ≡ true → z .ill ≡ false → scanned s rs z .ill ≡ any (λ c. any (amiss s) (spansOfCall c)) (map rowNumbers rs)
+  found-ill e f = look-ill s rs z e ∙ ap (λ (t : Bool). t || any (λ c. any (amiss s) (spansOfCall c)) (map rowNumbers rs)) f
 
   -- whatever the marks of cleaning
   pub found-need : z .look ≡ false → z .need ≡ 0 → (p q : ℕ) → scanned s rs z .need ≡ sat (length (rowsBytes p q s rs))
   found-need e f p q =
       measure-need s rs z 0 e f
-      ∙ ap sat (zero-add (length (rowsBytes (code "/") (code " ") s rs)) ∙ rows-long-same (code "/") (code " ") p q s rs)
+      ∙ ap sat (zero-add (length (rowsBytes pipeMark lineMark s rs)) ∙ rows-long-same pipeMark lineMark p q s rs)

@@ -12,12 +12,12 @@ use writer_texts::call_len;
 ghost use mathlib.Core.Path.{_≡_};
 ghost use lib.ListN.{take};
 ghost use Rattle.text.specs.Index.{Indexed};
-ghost use Rattle.rows_walks.specs.Walks.{lookedAt, measured, scanRow, scanned};
+ghost use Rattle.rows_walks.specs.Walks.{lookedAtCall, measured, scanRow, scanned};
 
 // Looks at the bytes of a call's texts.
 fn look_at_call(text: &[u8], next: &[u32], c: Call, scan: Scan) -> Scan
     requires { ⌜ Indexed (now text) (take (scan .blocks) (now next)) ⌝ }
-    ensures { λ r. ⌜ r ≡ lookedAt (now (text .entry)) c scan ⌝ }
+    ensures { λ r. ⌜ r ≡ lookedAtCall (now (text .entry)) c scan ⌝ }
 {
     let n = lesser(scan.blocks, next.len());
     let ill = scan.ill | call_meets(text, &next[..n], c);

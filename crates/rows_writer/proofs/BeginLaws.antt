@@ -1,7 +1,6 @@
 -- What is known of a board before its calls are put: the verdict of the checks, the room, and what is left to put. (01: Writer; Eight refusals)
 -- Assumes nothing.
 use Prim.Native.Nat.{ℕ, _+_, _≤_, _<_}
-use Prim.Native.Char.{code}
 use native.Mathlib.Omega.{arith}
 use mathlib.Core.Path.{_≡_, refl, ap, sym, _∙_, subst}
 use mathlib.Core.Bool.{Bool, true, false, _||_, not, or-false}
@@ -10,6 +9,7 @@ use lib.ListN.{length, take}
 use lib.Seq.{take-all}
 use lib.Dec.{T, ltb}
 use borrow.Author.Tests.{lt-ltb, le-ltb}
+use Rattle.lin_spec.specs.Writer.{pipeMark, lineMark}
 use Rattle.lin_spec.specs.Base.{any, concat}
 use Rattle.lin_spec.specs.Records.{limit}
 use Rattle.lin_spec.specs.Refusals.{Answer, unless, passesEnd, sat}
@@ -36,7 +36,7 @@ use Rattle.writer.specs.Pieces.{frontText, backText}
 use Rattle.writer.specs.Filing.{fitted}
 use Rattle.writer.proofs.PieceLaws.{written-lent, lent-long}
 use Rattle.rows.specs.declared.CallRow.{CallRow}
-use Rattle.rows.specs.Rows.{numbered, lentRows}
+use Rattle.rows.specs.Rows.{rowNumbers, lentRows}
 use Rattle.rows.proofs.MoveLaws.{words-flags}
 use Rattle.rows_walks.specs.declared.Scan.{Scan}
 use Rattle.rows_writer.specs.declared.begins.Begun.{Begun}
@@ -53,10 +53,10 @@ module _ (s : List ℕ) (h : Head) (ds : List ℕ) (rs : List CallRow) (cs : Lis
 
   module _ (z : Scan) (g : Found s rs z) where
     pub rows-bounded : (t : Bool) → t ≡ badCards cs → (u : Bool) → u ≡ any (passesEnd s) (headSpans h) → Bounded (lentRows s (boardOf h ds) rs cs) (record { number = t; past = u || z .past })
-    rows-bounded t et u eu = record { numbers = et ∙ sym numbers-are; ends = rw (eu, g .past) (sym (spans-any (passesEnd s) s h ds (map numbered rs) cs)) }
+    rows-bounded t et u eu = record { numbers = et ∙ sym numbers-are; ends = rw (eu, g .past) (sym (spans-any (passesEnd s) s h ds (map rowNumbers rs) cs)) }
 
     pub rows-texts : (u : Bool) → u ≡ any (amiss s) (headSpans h) → (u || z .ill) ≡ any (amiss s) (lentSpans (lentRows s (boardOf h ds) rs cs))
-    rows-texts u eu = rw (eu, g .ill) (sym (spans-any (amiss s) s h ds (map numbered rs) cs))
+    rows-texts u eu = rw (eu, g .ill) (sym (spans-any (amiss s) s h ds (map rowNumbers rs) cs))
 
 -- the verdict, by the tests that led there
 module _ (s : List ℕ) (h : Head) (ds : List ℕ) (rs : List CallRow) (cs : List ℕ) (beyond : Bool) (z : Scan) (g : Seen s rs z) where
@@ -146,18 +146,18 @@ module _ (s : List ℕ) (b : Board) (rs : List CallRow) (cs : List ℕ) where
   whole = writtenForm (plain (lentRows s b rs cs))
 
   abbrev front : List ℕ
-  front = frontText (code "/") (code " ") s b
+  front = frontText pipeMark lineMark s b
 
   abbrev calls : List ℕ
-  calls = rowsBytes (code "/") (code " ") s rs
+  calls = rowsBytes pipeMark lineMark s rs
 
   whole-is : whole ≡ front ++ (calls ++ backText (b .claim) cs)
   unfolding rowsBytes
-  whole-is = written-lent (code "/") (code " ") (lentRows s b rs cs) ∙ simp append-nil
+  whole-is = written-lent pipeMark lineMark (lentRows s b rs cs) ∙ simp append-nil
 
   whole-long : length whole ≡ length front + length (backText (b .claim) cs) + length calls
   unfolding rowsBytes
-  whole-long = lent-long (code "/") (code " ") (lentRows s b rs cs)
+  whole-long = lent-long pipeMark lineMark (lentRows s b rs cs)
 
   module _ (m : Marks) (em : m ≡ plainMarks) (o : List ℕ) (used n need : ℕ) (en : n ≡ sat (length (frontText (m .pipe) (m .line) s b) + length (backText (b .claim) cs))) (c : ℕ) (ec : c ≡ sat (length calls)) (ed : need ≡ sat (n + c)) (r sum : ℕ) (er : r ≡ room o) (es : sum ≡ sat (used + need)) where
     need-is : need ≡ sat (length whole)
@@ -212,7 +212,7 @@ module _ (s : List ℕ) (b : Board) (rs : List CallRow) (cs o : List ℕ) (used 
   began-refused y k x g = refused-begins s rs cs (append (lentRows s b rs cs) o used) o y (append-refused (lentRows s (boardOf h (b .deal .counts)) rs cs) o used r er v ev y k ∙ same-board) x g
 
   pub began-passed : (z : Scan) → Seen s rs z → v ≡ Accepted → (x : Begun) (o′ : List ℕ)
-      → (badCards cs ≡ false → z .need ≡ sat (length (rowsBytes (code "/") (code " ") s rs)) → Begins s rs cs (fitted (plain (lentRows s (boardOf h (b .deal .counts)) rs cs)) o used) x o′)
+      → (badCards cs ≡ false → z .need ≡ sat (length (rowsBytes pipeMark lineMark s rs)) → Begins s rs cs (fitted (plain (lentRows s (boardOf h (b .deal .counts)) rs cs)) o used) x o′)
       → Begins s rs cs (append (lentRows s b rs cs) o used) x o′
   began-passed z g k x o′ f =
       let y = lentRows s (boardOf h (b .deal .counts)) rs cs in

@@ -1,7 +1,6 @@
 -- What two scans of rows find: one that measures, and one that looks. (01: Eight refusals, 5 to 7)
 -- Assumes nothing.
 use Prim.Native.Nat.{ℕ, _≤_}
-use Prim.Native.Char.{code}
 use native.Mathlib.Omega.{arith}
 use mathlib.Core.Path.{_≡_, refl, ap, sym, _∙_, subst}
 use mathlib.Core.Bool.{Bool, true, false, _&&_}
@@ -10,6 +9,7 @@ use lib.ListN.{length, take}
 use lib.Seq.{take-all}
 use lib.Dec.{leb}
 use borrow.Author.Tests.{le-leb, leb-true}
+use Rattle.lin_spec.specs.Writer.{pipeMark, lineMark}
 use Rattle.lin_spec.specs.Records.{limit}
 use Rattle.lin_spec.proofs.Base.{and-left}
 use Rattle.text.specs.Index.{Indexed}
@@ -48,5 +48,5 @@ seen-found s rs z₀ z₁ z₂ z₃ next e₀ e₁ g e₃ h =
     record {
       past = ap (λ (y : Scan). y .past) e₃ ∙ look-past s rs z₂ (g .look h) ∙ g .past ∙ ap (λ (y : Scan). y .past) first ∙ found-past s rs measuringScan refl refl;
       ill = ap (λ (y : Scan). y .ill) e₃ ∙ found-ill s rs z₂ (g .look h) (g .ill);
-      need = ap (λ (y : Scan). y .need) e₃ ∙ look-need s rs z₂ (g .look h) ∙ g .need ∙ ap (λ (y : Scan). y .need) first ∙ found-need s rs measuringScan refl refl (code "/") (code " ");
+      need = ap (λ (y : Scan). y .need) e₃ ∙ look-need s rs z₂ (g .look h) ∙ g .need ∙ ap (λ (y : Scan). y .need) first ∙ found-need s rs measuringScan refl refl pipeMark lineMark;
     }

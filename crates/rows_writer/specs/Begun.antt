@@ -1,10 +1,10 @@
 -- A board that is to be written from rows: what is known before its calls are put, and what is put after them. (01: Writer; Eight refusals)
 use Prim.Native.Nat.{ℕ, _≤_}
-use Prim.Native.Char.{code}
 use mathlib.Core.Path.{_≡_}
 use mathlib.Core.Bool.{true, false}
 use mathlib.Core.List.{List, [], _++_}
 use lib.ListN.{length, take}
+use Rattle.lin_spec.specs.Writer.{pipeMark, lineMark}
 use Rattle.lin_spec.specs.Base.{pick}
 use Rattle.lin_spec.specs.Output.{Outcome, answerOf}
 use Rattle.lin_spec.specs.Lent.{badCards}
@@ -19,7 +19,7 @@ use Rattle.rows_walks.specs.Walks.{rowsBytes}
 
 -- "pipe to `/`, CR and LF each to a space"
 abbrev pub plainMarks : Marks
-plainMarks = record { pipe = code "/"; line = code " " }
+plainMarks = record { pipe = pipeMark; line = lineMark }
 
 -- what is put after the calls: nothing where the board is refused
 abbrev pub lastText : Begun → (cards : List ℕ) → List ℕ

@@ -16,7 +16,7 @@ use Rattle.lin_spec.specs.Letters.{handAt}
 use Rattle.lin_spec.specs.Writer.{heldIn, impliedEast}
 use Rattle.lin_spec.specs.declared.Seat.the-variants.{South, West, North, East}
 use Rattle.lin_spec.proofs.Records.{part-length}
-use Rattle.lin_spec.proofs.Cards.{remainder-at, remainder-length}
+use Rattle.lin_spec.proofs.Cards.{unheld-at, unheld-length}
 use Rattle.cards.proofs.HandLaws.{count-at}
 use Rattle.writer_cards.specs.Hands.{othersThirteen, restOf}
 
@@ -34,7 +34,7 @@ module _ (d : List ℕ) (l : length d ≡ 208) where
 
   pub rest-long : length (restOf d) ≡ 52
   unfolding restOf
-  rest-long = remainder-length 52 (handAt d South) (handAt d West) (handAt d North) south-long west-long north-long
+  rest-long = unheld-length 52 (handAt d South) (handAt d West) (handAt d North) south-long west-long north-long
 
   -- it holds the cards that the counts of the three hands are 0 for
   pub rest-at : (c : ℕ) → c < 52
@@ -44,7 +44,7 @@ module _ (d : List ℕ) (l : length d ≡ 208) where
       let s : getD (handAt d South) c 0 ≡ getD d c 0 = sym (count-at d (0 * 52) 52 c h) ∙ ap (λ (j : ℕ). getD d j 0) (zero-add c) in
       let w : getD (handAt d West) c 0 ≡ getD d (52 + c) 0 = sym (count-at d (1 * 52) 52 c h) in
       let n : getD (handAt d North) c 0 ≡ getD d (104 + c) 0 = sym (count-at d (2 * 52) 52 c h) in
-      remainder-at 52 (handAt d South) (handAt d West) (handAt d North) south-long west-long north-long c h ∙ rw (s, w, n)
+      unheld-at 52 (handAt d South) (handAt d West) (handAt d North) south-long west-long north-long c h ∙ rw (s, w, n)
 
   module _ (c : ℕ) (h : c < 52) where
     pub rest-free : (eqb (getD d c 0) 0 && (eqb (getD d (52 + c) 0) 0 && eqb (getD d (104 + c) 0) 0)) ≡ true → 1 ≡ getD (restOf d) c 0

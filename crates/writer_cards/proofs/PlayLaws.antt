@@ -13,27 +13,27 @@ use Rattle.lin_spec.specs.Base.{ascii, joinBy}
 use Rattle.lin_spec.specs.Writer.{cardLetters, tricks}
 use Rattle.lin_spec.specs.Play.{trickWords, playText}
 use Rattle.lin_spec.proofs.Base.{picked}
-use Rattle.writer_cards.specs.Tricks.{between}
+use Rattle.writer_cards.specs.Tricks.{beforeCard}
 
 -- the cards after `played` ones, each after what stands before it
 unfoldable pub wordsFrom : (played : ℕ) → List ℕ → List ℕ
 wordsFrom k [] = []
-wordsFrom k (c ∷ cs) = between k ++ (cardLetters c ++ wordsFrom (suc k) cs)
+wordsFrom k (c ∷ cs) = beforeCard k ++ (cardLetters c ++ wordsFrom (suc k) cs)
 
 module _ (k : ℕ) (h : k ≡ 0 → ⊥) where
   -- between two tricks
-  pub pipe-between : k % 4 ≡ 0 → between k ≡ ascii "|"
-  unfolding between
+  pub pipe-between : k % 4 ≡ 0 → beforeCard k ≡ ascii "|"
+  unfolding beforeCard
   pipe-between e = simp (ne-eqb k 0 h, eq-eqb (k % 4) 0 e)
 
   -- within a trick
-  pub space-between : (k % 4 ≡ 0 → ⊥) → between k ≡ ascii " "
-  unfolding between
+  pub space-between : (k % 4 ≡ 0 → ⊥) → beforeCard k ≡ ascii " "
+  unfolding beforeCard
   space-between e = simp (ne-eqb k 0 h, ne-eqb (k % 4) 0 e)
 
 -- before the first card
-pub none-between : (k : ℕ) → k ≡ 0 → between k ≡ []
-unfolding between
+pub none-between : (k : ℕ) → k ≡ 0 → beforeCard k ≡ []
+unfolding beforeCard
 none-between k e = simp (eq-eqb k 0 e)
 
 -- tricks with a pipe before each
@@ -61,7 +61,7 @@ further k (a ∷ b ∷ c ∷ d ∷ r) n h =
 
 -- all cards
 pub play-from : (cs : List ℕ) → wordsFrom 0 cs ≡ playText cs
-unfolding wordsFrom playText tricks joinBy between
+unfolding wordsFrom playText tricks joinBy beforeCard
 play-from [] = refl
 play-from (a ∷ []) = refl
 play-from (a ∷ b ∷ []) = refl
@@ -70,7 +70,7 @@ play-from (a ∷ b ∷ c ∷ d ∷ r) = rw (join-piped (trickWords (a ∷ b ∷ 
 
 -- one card off the front
 pub words-cons : (cs : List ℕ) (i : ℕ) → i < length cs
-    → wordsFrom i (drop i cs) ≡ between i ++ (cardLetters (getD cs i 0) ++ wordsFrom (i + 1) (drop (i + 1) cs))
+    → wordsFrom i (drop i cs) ≡ beforeCard i ++ (cardLetters (getD cs i 0) ++ wordsFrom (i + 1) (drop (i + 1) cs))
 unfolding wordsFrom
 words-cons cs i h = rw (add-one, drop-cons cs i 0 h)
 
@@ -81,7 +81,7 @@ words-end cs i h = rw (drop-of-length-le cs h)
 
 -- three bytes for each card after the first
 words-long : (k : ℕ) (cs : List ℕ) → (k ≡ 0 → ⊥) → length (wordsFrom k cs) ≡ 3 * length cs
-unfolding wordsFrom between
+unfolding wordsFrom beforeCard
 words-long k [] h = refl
 words-long k (c ∷ cs) h =
     let ih = words-long (suc k) cs (λ p. omega arith) in
@@ -93,4 +93,4 @@ play-long cs = ap length (sym (play-from cs)) ∙ go cs
   where
     go : (cs : List ℕ) → length (wordsFrom 0 cs) ≡ 3 * length cs - 1
     go [] = unfold wordsFrom in refl
-    go (c ∷ cs) = let l = words-long 1 cs (λ p. omega arith) in unfold wordsFrom in unfold between in omega arith
+    go (c ∷ cs) = let l = words-long 1 cs (λ p. omega arith) in unfold wordsFrom in unfold beforeCard in omega arith

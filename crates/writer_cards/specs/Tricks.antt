@@ -10,5 +10,5 @@ unfoldable pub trickEnd : (played all : ℕ) → List ℕ
 trickEnd k n = pick (eqb (k % 4) 0 || eqb k n) (ascii "pg||\n") []
 
 -- before a card, after so many: nothing before the first, a pipe between tricks, a space within one
-unfoldable pub between : (played : ℕ) → List ℕ
-between k = pick (eqb k 0) [] (pick (eqb (k % 4) 0) (ascii "|") (ascii " "))
+unfoldable pub beforeCard : (played : ℕ) → List ℕ
+beforeCard k = pick (eqb k 0) [] (pick (eqb (k % 4) 0) (ascii "|") (ascii " "))

@@ -13,12 +13,12 @@ ghost use Rattle.lin_spec.specs.Output.{Outcome, answerOf};
 ghost use Rattle.lin_spec.specs.Lent.{badCards};
 ghost use Rattle.lin_spec.specs.Play.{playText, formatCardplay};
 ghost use Rattle.output.specs.Put.{Room, Put};
-ghost use Rattle.writer_cards.specs.Tricks.{between};
+ghost use Rattle.writer_cards.specs.Tricks.{beforeCard};
 
 // Puts what stands before a card: nothing before the first, a pipe before the first of another trick, else a space.
 fn put_between(out: &mut [u8], at: usize, played: usize) -> usize
-    requires { ⌜ Room (now out) at (between played) ⌝ }
-    ensures { λ r. ⌜ Put (now (out .entry)) at (between played) (now (out .exit)) r ⌝ }
+    requires { ⌜ Room (now out) at (beforeCard played) ⌝ }
+    ensures { λ r. ⌜ Put (now (out .entry)) at (beforeCard played) (now (out .exit)) r ⌝ }
 {
     if played == 0 {
         return at;

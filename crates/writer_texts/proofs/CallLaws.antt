@@ -16,7 +16,7 @@ use Rattle.output.proofs.Laws.{Left}
 use Rattle.board_lent.specs.Calls.{callAt}
 use Rattle.board_lent.proofs.LentLaws.{rows-cons, rows-end}
 use Rattle.writer_texts.specs.Texts.{afterText}
-use Rattle.writer_texts.specs.Calls.{alertText, annotationText, callPieces, callBytes, callsBytes}
+use Rattle.writer_texts.specs.Calls.{alertText, anText, callPieces, callBytes, callsBytes}
 use Rattle.writer_texts.proofs.TextLaws.{clean-length}
 
 pub alert-none : (t : ℕ) → t ≡ 0 → alertText t ≡ []
@@ -26,10 +26,10 @@ pub alert-set : (t : ℕ) → (t ≡ 0 → ⊥) → alertText t ≡ ascii "!"
 alert-set t e = simp (ne-eqb t 0 e)
 
 module _ (p q : ℕ) (s : List ℕ) (c : Call) where
-  pub annotation-none : c .annotated ≡ 0 → annotationText p q s c ≡ []
+  pub annotation-none : c .annotated ≡ 0 → anText p q s c ≡ []
   annotation-none e = simp (eq-eqb (c .annotated) 0 e)
 
-  pub annotation-some : (c .annotated ≡ 0 → ⊥) → annotationText p q s c ≡ afterText p q (ascii "an|") (bytesAt s (c .annotation))
+  pub annotation-some : (c .annotated ≡ 0 → ⊥) → anText p q s c ≡ afterText p q (ascii "an|") (bytesAt s (c .annotation))
   unfolding afterText
   annotation-some e = simp (ne-eqb (c .annotated) 0 e, append-nil)
 
@@ -37,7 +37,7 @@ module _ (p q : ℕ) (s : List ℕ) (c : Call) where
   unfolding callBytes callText
   call-is = simp append-nil
 
-  pub call-long : length (callBytes p q s c) ≡ 4 + length (bytesAt s (c .bid)) + length (alertText (c .alerted)) + length (annotationText p q s c)
+  pub call-long : length (callBytes p q s c) ≡ 4 + length (bytesAt s (c .bid)) + length (alertText (c .alerted)) + length (anText p q s c)
   call-long = ap length call-is ∙ simp (length-append, clean-length, append-nil) (omega arith)
 
 -- The calls from word i on: its call, and the others; past the last row, none

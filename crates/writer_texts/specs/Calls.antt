@@ -15,11 +15,11 @@ abbrev pub alertText : (alerted : ℕ) → List ℕ
 alertText t = pick (not (eqb t 0)) (ascii "!") []
 
 -- "annotation span or absent"
-abbrev pub annotationText : (p q : ℕ) (text : List ℕ) → Call → List ℕ
-annotationText p q s c = optional (ascii "an|") (mapOption (clean p q) (mapOption (bytesAt s) (callIn c .annotation)))
+abbrev pub anText : (p q : ℕ) (text : List ℕ) → Call → List ℕ
+anText p q s c = optional (ascii "an|") (mapOption (clean p q) (mapOption (bytesAt s) (callIn c .annotation)))
 
 abbrev pub callPieces : (p q : ℕ) (text : List ℕ) → Call → List (List ℕ)
-callPieces p q s c = ascii "mb|" ∷ clean p q (bytesAt s (c .bid)) ∷ alertText (c .alerted) ∷ ascii "|" ∷ annotationText p q s c ∷ []
+callPieces p q s c = ascii "mb|" ∷ clean p q (bytesAt s (c .bid)) ∷ alertText (c .alerted) ∷ ascii "|" ∷ anText p q s c ∷ []
 
 unfoldable pub callBytes : (p q : ℕ) (text : List ℕ) → Call → List ℕ
 callBytes p q s c = callText p q (mapCall (bytesAt s) (callIn c))

@@ -13,7 +13,7 @@ ghost use Prim.Native.Nat.{ℕ};
 ghost use lib.ListN.{length};
 ghost use Rattle.lin_spec.specs.Refusals.{sat};
 ghost use Rattle.output.specs.Put.{Room, Put};
-ghost use Rattle.writer_texts.specs.Calls.{alertText, annotationText, callBytes, callsBytes};
+ghost use Rattle.writer_texts.specs.Calls.{alertText, anText, callBytes, callsBytes};
 
 const MB_TEXT: [u8; 3] = *b"mb|";
 
@@ -41,8 +41,8 @@ fn alert_len(alerted: u32) -> u64
 
 // Puts the annotation of a call, nothing where it is absent.
 fn put_an(out: &mut [u8], at: usize, text: &[u8], c: Call, marks: Marks) -> usize
-    requires { ⌜ Room (now out) at (annotationText (marks .pipe) (marks .line) (now text) c) ⌝ }
-    ensures { λ r. ⌜ Put (now (out .entry)) at (annotationText (marks .pipe) (marks .line) (now (text .entry)) c) (now (out .exit)) r ⌝ }
+    requires { ⌜ Room (now out) at (anText (marks .pipe) (marks .line) (now text) c) ⌝ }
+    ensures { λ r. ⌜ Put (now (out .entry)) at (anText (marks .pipe) (marks .line) (now (text .entry)) c) (now (out .exit)) r ⌝ }
 {
     if c.annotated == 0 {
         return at;
@@ -51,7 +51,7 @@ fn put_an(out: &mut [u8], at: usize, text: &[u8], c: Call, marks: Marks) -> usiz
 }
 
 fn an_len(text: &[u8], c: Call) -> u64
-    ensures { λ r. ⌜ ((p q : ℕ) → r ≡ sat (length (annotationText p q (now (text .entry)) c))) ⌝ }
+    ensures { λ r. ⌜ ((p q : ℕ) → r ≡ sat (length (anText p q (now (text .entry)) c))) ⌝ }
 {
     if c.annotated == 0 {
         return 0;

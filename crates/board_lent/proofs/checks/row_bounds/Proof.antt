@@ -8,7 +8,7 @@ use lib.ListN.{length, drop}
 use Rattle.lin_spec.specs.Base.{any}
 use Rattle.lin_spec.specs.Refusals.{passesEnd}
 use Rattle.lin_spec.specs.Lent.{callRow, callRows, badFlag}
-use Rattle.board_lent.specs.Calls.{spansOf}
+use Rattle.board_lent.specs.Calls.{spansOfCall}
 use Rattle.board_lent.proofs.LentLaws.{all-rows, or-row}
 use Rattle.board_lent.proofs.checks.row_bounds.Statement.{statement}
 use Rattle.board_lent.proofs.checks.row_bounds.Tie as tie
@@ -16,7 +16,7 @@ use Rattle.board_lent.proofs.checks.row_bounds.Tie as tie
 abbrev Inv-loop : tie.InvT-loop
 Inv-loop text rows number₀ past₀ i₀ number past i =
     (i ≤ length rows) × ((number || any badFlag (callRows (drop i rows))) ≡ any badFlag (callRows rows))
-    × ((past || any (λ c. any (passesEnd text) (spansOf c)) (callRows (drop i rows))) ≡ any (λ c. any (passesEnd text) (spansOf c)) (callRows rows))
+    × ((past || any (λ c. any (passesEnd text) (spansOfCall c)) (callRows (drop i rows))) ≡ any (λ c. any (passesEnd text) (spansOfCall c)) (callRows rows))
 
 abbrev μ-loop : tie.MeasureT-loop
 μ-loop text rows number₀ past₀ i₀ number past i = length rows - i

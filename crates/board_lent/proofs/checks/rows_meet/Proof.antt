@@ -7,7 +7,7 @@ use mathlib.Core.Bool.{_||_}
 use lib.ListN.{length, drop}
 use Rattle.lin_spec.specs.Base.{any}
 use Rattle.lin_spec.specs.Lent.{callRow, callRows}
-use Rattle.board_lent.specs.Calls.{spansOf}
+use Rattle.board_lent.specs.Calls.{spansOfCall}
 use Rattle.board_lent.specs.Checks.{amiss}
 use Rattle.board_lent.proofs.LentLaws.{all-rows, or-row}
 use Rattle.board_lent.proofs.checks.rows_meet.Statement.{statement}
@@ -16,7 +16,7 @@ use Rattle.board_lent.proofs.checks.rows_meet.Tie as tie
 abbrev Inv-loop : tie.InvT-loop
 Inv-loop text next rows found₀ i₀ found i =
     (i ≤ length rows)
-    × ((found || any (λ c. any (amiss text) (spansOf c)) (callRows (drop i rows))) ≡ any (λ c. any (amiss text) (spansOf c)) (callRows rows))
+    × ((found || any (λ c. any (amiss text) (spansOfCall c)) (callRows (drop i rows))) ≡ any (λ c. any (amiss text) (spansOfCall c)) (callRows rows))
 
 abbrev μ-loop : tie.MeasureT-loop
 μ-loop text next rows found₀ i₀ found i = length rows - i

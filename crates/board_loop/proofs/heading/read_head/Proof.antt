@@ -29,14 +29,14 @@ board-token-requires c κs = (unfold table in refl, c .before .before .before .b
 enum-known-next : tie.Need-enum-known-next Inv-loop μ-loop
 enum-known-next c = search needs
 
-on-count-requires : tie.Need-on-count-requires Inv-loop μ-loop
-on-count-requires c κs = let i = c .before .before .before .before .before .loop .inv in omega (arith, i .cards, i .within, c .before .before .before .before .before .before .before .before .pre .1)
+add-h : tie.Need-add-h Inv-loop μ-loop
+add-h c = let i = c .before .before .before .before .before .before .loop .inv in omega (arith, i .cards, i .within, c .before .before .before .before .before .before .before .before .before .pre .1)
 
 loop-less : tie.Need-loop-less Inv-loop μ-loop
 loop-less c = let t = (tokened _ _ _ _ (c .before .before .before .before .board-token .ensures) (c .before .before .next .given .1)) .token in omega (arith, t .later, t .within)
 
 loop-again : tie.Need-loop-again Inv-loop μ-loop
-loop-again c = let t = tokened _ _ _ _ (c .before .before .before .before .board-token .ensures) (c .before .before .next .given .1) in turn _ _ _ _ (c .before .before .before .before .before .before .loop .inv) _ _ _ (t .token) _ (stepped-card _ _ _ _ refl _ (card-more _ _ _ _ (t .card) (c .on-count .ensures)))
+loop-again c = let t = tokened _ _ _ _ (c .before .before .before .before .board-token .ensures) (c .before .before .next .given .1) in turn _ _ _ _ (c .before .before .before .before .before .before .loop .inv) _ _ _ (t .token) _ (stepped-card _ _ _ _ refl _ (card-more _ _ _ _ (t .card) refl))
 
 enum-known-k : tie.Need-enum-known-k Inv-loop μ-loop
 enum-known-k c = search needs
@@ -44,11 +44,11 @@ enum-known-k c = search needs
 on-card-requires : tie.Need-on-card-requires Inv-loop μ-loop
 on-card-requires c κs = let i = c .before .before .before .before .before .before .loop .inv in omega (arith, i .cards, i .within, c .before .before .before .before .before .before .before .before .before .pre .1)
 
-on-count-requires-2 : tie.Need-on-count-requires-2 Inv-loop μ-loop
-on-count-requires-2 c κs = let i = c .before .before .before .before .before .before .before .loop .inv in omega (arith, i .calls, i .within, c .before .before .before .before .before .before .before .before .before .before .pre .1)
+add-h-2 : tie.Need-add-h-2 Inv-loop μ-loop
+add-h-2 c = let i = c .before .before .before .before .before .before .before .before .loop .inv in omega (arith, i .calls, i .within, c .before .before .before .before .before .before .before .before .before .before .before .pre .1)
 
 step-requires : tie.Need-step-requires Inv-loop μ-loop
-step-requires c κs = let i = c .before .before .before .before .before .before .before .loop .inv in ((tokened _ _ _ _ (c .before .before .before .before .before .board-token .ensures) (c .before .before .before .k .given .1)) .value, c .before .before .before .before .before .before .before .before .before .before .pre .1, omega (arith, i .calls, i .within, c .before .before .before .before .before .before .before .before .before .before .pre .1), omega (arith, i .cards, i .within, c .before .before .before .before .before .before .before .before .before .before .pre .1))
+step-requires c κs = ((tokened _ _ _ _ (c .before .before .before .before .before .board-token .ensures) (c .before .before .before .k .given .1)) .value, c .before .before .before .before .before .before .before .before .before .before .pre .1, c .before .if1 .left, c .if2 .left)
 
 loop-less-2 : tie.Need-loop-less-2 Inv-loop μ-loop
 loop-less-2 c = let t = (tokened _ _ _ _ (c .before .before .before .before .before .board-token .ensures) (c .before .before .before .k .given .1)) in omega (arith, t .later, t .within)
@@ -60,7 +60,7 @@ loop-less-3 : tie.Need-loop-less-3 Inv-loop μ-loop
 loop-less-3 c = let t = (tokened _ _ _ _ (c .before .before .before .before .before .before .board-token .ensures) (c .before .before .before .before .k .given .1)) in omega (arith, t .later, t .within)
 
 loop-again-3 : tie.Need-loop-again-3 Inv-loop μ-loop
-loop-again-3 c = turn _ _ _ _ (c .before .before .before .before .before .before .before .before .loop .inv) _ _ _ (tokened _ _ _ _ (c .before .before .before .before .before .before .board-token .ensures) (c .before .before .before .before .k .given .1)) _ (stepped-call _ _ _ _ (c .before .if2 .taken) _ (c .on-count2 .ensures))
+loop-again-3 c = turn _ _ _ _ (c .before .before .before .before .before .before .before .before .loop .inv) _ _ _ (tokened _ _ _ _ (c .before .before .before .before .before .before .board-token .ensures) (c .before .before .before .before .k .given .1)) _ (stepped-call _ _ _ _ (c .before .if2 .taken) _ refl)
 
 loop-less-4 : tie.Need-loop-less-4 Inv-loop μ-loop
 loop-less-4 c = let t = (tokened _ _ _ _ (c .before .before .before .before .before .before .board-token .ensures) (c .before .before .before .before .k .given .1)) in omega (arith, t .later, t .within)
@@ -93,12 +93,12 @@ read-head-spec =
     loop-holds
     board-token-requires
     enum-known-next
-    on-count-requires
+    add-h
     loop-less
     loop-again
     enum-known-k
     on-card-requires
-    on-count-requires-2
+    add-h-2
     step-requires
     loop-less-2
     loop-again-2

@@ -1,6 +1,8 @@
--- `board_loop::heading::step` meets its contract: each field by its own function. (01: Board)
+-- `board_loop::step` meets its contract: each field by its own function, and calls and cards as they were.
 -- Assumes nothing.
+use mathlib.Core.Path.{refl}
 use borrow.Author.Needs.{needs}
+use borrow.Author.Tests.{ne-eqb}
 use Rattle.board_loop.proofs.heading.step.Statement.{statement}
 use Rattle.board_loop.proofs.heading.step.Tie as tie
 
@@ -25,14 +27,19 @@ on-present-requires c κs = search needs
 on-claim-requires : tie.Need-on-claim-requires
 on-claim-requires c κs = search needs
 
-on-count-requires : tie.Need-on-count-requires
-on-count-requires c κs = search needs
-
-on-card-requires : tie.Need-on-card-requires
-on-card-requires c κs = search needs
-
 returns : tie.Need-returns
-returns c = search needs
+returns c =
+    record {
+      names = c .before .before .before .before .before .before .on-names .ensures;
+      md = c .before .before .before .before .before .on-md .ensures;
+      vulnerability = c .before .before .before .before .on-sv .ensures;
+      title = c .before .before .before .on-value .ensures;
+      room = c .before .before .on-value2 .ensures;
+      header = c .before .on-present .ensures;
+      claim = c .on-claim .ensures;
+      calls = rw (ne-eqb _ 1 (c .before .before .before .before .before .before .before .before .before .pre .3)) refl;
+      cards = rw (ne-eqb _ 0 (c .before .before .before .before .before .before .before .before .before .pre .2)) refl;
+    }
 
 pub step-spec : {M : Type 1} → statement M
 step-spec =
@@ -45,6 +52,4 @@ step-spec =
     on-value-requires-2
     on-present-requires
     on-claim-requires
-    on-count-requires
-    on-card-requires
     returns)

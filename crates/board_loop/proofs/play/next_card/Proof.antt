@@ -2,7 +2,7 @@
 -- Assumes nothing.
 use Rattle.board_loop.proofs.PlayLaws.{no-card, card-here}
 use Rattle.board_loop.specs.Play.{cardsFrom}
-use Rattle.cards.specs.Letters.{maybeOf}
+use Rattle.cards.specs.Letters.{maybeCard}
 use Rattle.lin_spec.specs.Reading.{stream}
 use Rattle.document_commands.proofs.StepLaws.{commanded, spanned, value-short}
 use lib.ListN.{length}
@@ -38,7 +38,7 @@ enum-known-card : tie.Need-enum-known-card Inv-loop μ-loop
 enum-known-card c = search needs
 
 returns : tie.Need-returns Inv-loop μ-loop
-returns c = sym ((c .before .before .before .before .before .before .before .before .before .loop) .inv) ∙ card-here _ _ _ _ _ (spanned _ _ _ _ _ _ ((c .before .before .before .before .span-of) .ensures) (commanded _ _ _ _ ((c .before .before .before .before .before .before .before .before .next-command) .ensures) ((c .before .before .before .before .before .before .k) .given .1))) _ (sym (ap maybeOf ((c .before .card) .given .1)) ∙ (c .before .before .before .card-at) .ensures)
+returns c = sym ((c .before .before .before .before .before .before .before .before .before .loop) .inv) ∙ card-here _ _ _ _ _ (spanned _ _ _ _ _ _ ((c .before .before .before .before .span-of) .ensures) (commanded _ _ _ _ ((c .before .before .before .before .before .before .before .before .next-command) .ensures) ((c .before .before .before .before .before .before .k) .given .1))) _ (sym (ap maybeCard ((c .before .card) .given .1)) ∙ (c .before .before .before .card-at) .ensures)
 
 enum-told : tie.Need-enum-told Inv-loop μ-loop
 enum-told c = search needs
@@ -47,7 +47,7 @@ loop-less : tie.Need-loop-less Inv-loop μ-loop
 loop-less c = let t = (commanded _ _ _ _ ((c .before .before .before .before .before .before .before .next-command) .ensures) ((c .before .before .before .before .before .k) .given .1)) in omega (arith, t .later, t .within)
 
 loop-again : tie.Need-loop-again Inv-loop μ-loop
-loop-again c = sym (card-here _ _ _ _ _ (spanned _ _ _ _ _ _ ((c .before .before .before .span-of) .ensures) (commanded _ _ _ _ ((c .before .before .before .before .before .before .before .next-command) .ensures) ((c .before .before .before .before .before .k) .given .1))) _ (sym (ap maybeOf ((c .enum-told) .given .1)) ∙ (c .before .before .card-at) .ensures)) ∙ (c .before .before .before .before .before .before .before .before .loop) .inv
+loop-again c = sym (card-here _ _ _ _ _ (spanned _ _ _ _ _ _ ((c .before .before .before .span-of) .ensures) (commanded _ _ _ _ ((c .before .before .before .before .before .before .before .next-command) .ensures) ((c .before .before .before .before .before .k) .given .1))) _ (sym (ap maybeCard ((c .enum-told) .given .1)) ∙ (c .before .before .card-at) .ensures)) ∙ (c .before .before .before .before .before .before .before .before .loop) .inv
 
 enum-told-2 : tie.Need-enum-told-2 Inv-loop μ-loop
 enum-told-2 c = search needs

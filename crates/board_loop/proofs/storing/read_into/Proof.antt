@@ -52,7 +52,7 @@ store-last-requires : tie.Need-store-last-requires Inv-loop μ-loop
 store-last-requires c κs = rows-most _ _ _ _ (c .before .before .before .before .before .before .before .before .before .before .before .before .before .before .pre) _ _ _ _ (c .before .before .before .before .before .before .before .before .before .loop .inv)
 
 step-requires : tie.Need-step-requires Inv-loop μ-loop
-step-requires c κs = let i = c .before .before .before .before .before .before .before .before .loop .inv .reads in ((tokened _ _ _ _ (c .before .before .before .before .before .before .board-token .ensures) (c .before .before .before .before .k .given .1)) .value, c .before .before .before .before .before .before .before .before .before .before .before .before .before .pre .short, omega (arith, i .calls, i .within, c .before .before .before .before .before .before .before .before .before .before .before .before .before .pre .short), omega (arith, i .cards, i .within, c .before .before .before .before .before .before .before .before .before .before .before .before .before .pre .short))
+step-requires c κs = ((tokened _ _ _ _ (c .before .before .before .before .before .before .board-token .ensures) (c .before .before .before .before .k .given .1)) .value, c .before .before .before .before .before .before .before .before .before .before .before .before .before .pre .short, c .before .before .if1 .left, c .before .if2 .left)
 
 loop-less-2 : tie.Need-loop-less-2 Inv-loop μ-loop
 loop-less-2 c = let t = (tokened _ _ _ _ (c .before .before .before .before .before .before .before .before .board-token .ensures) (c .before .before .before .before .before .before .k .given .1)) in omega (arith, t .later, t .within)

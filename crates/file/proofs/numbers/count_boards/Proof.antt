@@ -1,6 +1,7 @@
 -- `file::count_boards` meets its contract.
 -- Assumes nothing.
-use Rattle.file.proofs.NumberLaws.{ready, counted, count-refused}
+use Rattle.file.proofs.NumberLaws.{counted, count-refused}
+use Rattle.file_sections.proofs.WayLaws.{at-first}
 use borrow.Author.Needs.{needs}
 use Rattle.file.proofs.numbers.count_boards.Statement.{statement}
 use Rattle.file.proofs.numbers.count_boards.Tie as tie
@@ -12,7 +13,7 @@ enum-known-c : tie.Need-enum-known-c
 enum-known-c c = search needs
 
 count-from-requires : tie.Need-count-from-requires
-count-from-requires c κs = ready _ _ (c .before .before .before .open-boards .ensures) _ (c .before .c .given .1)
+count-from-requires c κs = at-first _ _ (c .before .before .before .open-boards .ensures) _ (c .before .c .given .1)
 
 enum-known-r : tie.Need-enum-known-r
 enum-known-r c = search needs

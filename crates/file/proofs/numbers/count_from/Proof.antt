@@ -1,7 +1,7 @@
 -- `file::count_from` meets its contract: a turn passes a section.
 -- Assumes nothing.
 use Rattle.file_sections.proofs.SectionLaws.{seen}
-use Rattle.file.proofs.NumberLaws.{Way, way-begin, way-on, way-end}
+use Rattle.file_sections.proofs.WayLaws.{Way, way-begin, way-on, way-end}
 use Rattle.file_sections.specs.Sections.{standingOf}
 use lib.ListN.{length}
 use borrow.Author.Needs.{needs}

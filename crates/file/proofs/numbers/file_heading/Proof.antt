@@ -1,6 +1,7 @@
 -- `file::file_heading` meets its contract.
 -- Assumes nothing.
-use Rattle.file.proofs.NumberLaws.{ready, given, heading-refused, heading-found, heading-missing}
+use Rattle.file.proofs.NumberLaws.{given, heading-refused, heading-found, heading-missing}
+use Rattle.file_sections.proofs.WayLaws.{at-first}
 use Rattle.file_sections.proofs.SectionLaws.{inside-long, inside-within}
 use native.Mathlib.Omega.{arith}
 use borrow.Author.Needs.{needs}
@@ -23,7 +24,7 @@ returns : tie.Need-returns
 returns c = heading-refused _ _ (c .before .before .before .before .open-boards .ensures) _ (c .before .before .r .given .1) _ _ (c .refused .ensures)
 
 find-board-requires : tie.Need-find-board-requires
-find-board-requires c κs = ready _ _ (c .before .before .before .open-boards .ensures) _ (c .before .c .given .1)
+find-board-requires c κs = at-first _ _ (c .before .before .before .open-boards .ensures) _ (c .before .c .given .1)
 
 enum-known-p : tie.Need-enum-known-p
 enum-known-p c = search needs

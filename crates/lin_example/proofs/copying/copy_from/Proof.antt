@@ -1,6 +1,6 @@
-use borrow.Author.Needs.{needs}
 -- `lin_example::copy_from` is safe and ends: a step that reads leads further on. The invariant keeps the lengths of what is lent.
 -- Assumes nothing.
+use borrow.Author.Needs.{needs}
 use Rattle.file_reader.proofs.StepLaws.{step-later}
 use Prim.Native.Nat.{_+_, _-_}
 use native.Mathlib.Omega.{arith}

@@ -1,3 +1,5 @@
+-- `lin_example::rows_of` is safe: it takes no more words than there are.
+-- Assumes nothing.
 use borrow.Author.Needs.{needs}
 use lib.ListN.{length-take}
 use native.Mathlib.Omega.{arith}

@@ -1,6 +1,6 @@
 -- `lin_host_numbers::coded_head` meets its contract: each field is that of its own numbers.
 -- Assumes nothing.
-use Rattle.lin_host_numbers.specs.Codes.{boardOf}
+use Rattle.lin_host_numbers.specs.Codes.{codedBoard}
 use borrow.Author.Needs.{needs}
 use Rattle.lin_host_numbers.proofs.codes.coded_head.Statement.{statement}
 use Rattle.lin_host_numbers.proofs.codes.coded_head.Tie as tie
@@ -30,7 +30,7 @@ claim-of-requires : tie.Need-claim-of-requires
 claim-of-requires c κs = search needs
 
 returns : tie.Need-returns
-unfolding boardOf
+unfolding codedBoard
 returns c = cc
 
 pub coded-head-spec : {M : Type 1} → statement M

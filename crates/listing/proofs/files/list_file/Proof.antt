@@ -1,7 +1,7 @@
 -- `listing::list_file` meets its contract: its answer by the tests that led there.
 -- Assumes nothing.
 use Rattle.listing.proofs.FileLaws.{as-listed, list-over, list-refused, list-boards}
-use Rattle.file.proofs.NumberLaws.{ready}
+use Rattle.file_sections.proofs.WayLaws.{at-first}
 use borrow.Author.Needs.{needs}
 use Rattle.listing.proofs.files.list_file.Statement.{statement}
 use Rattle.listing.proofs.files.list_file.Tie as tie
@@ -22,7 +22,7 @@ enum-known-c : tie.Need-enum-known-c
 enum-known-c c = search needs
 
 list-from-requires : tie.Need-list-from-requires
-list-from-requires c κs = ready _ _ (c .before .before .before .before .open-boards .ensures) _ (c .before .before .c .given .1)
+list-from-requires c κs = at-first _ _ (c .before .before .before .before .open-boards .ensures) _ (c .before .before .c .given .1)
 
 enum-known-r : tie.Need-enum-known-r
 enum-known-r c = search needs

@@ -2,7 +2,7 @@
 -- Assumes nothing.
 use Rattle.file_sections.proofs.SectionLaws.{seen}
 use Rattle.listing.proofs.FileLaws.{Listed, listed-begin, listed-room, listed-on, listed-end}
-use Rattle.file.proofs.NumberLaws.{found-inside}
+use Rattle.file_sections.proofs.WayLaws.{found-inside}
 use Rattle.file_sections.specs.Sections.{standingOf}
 use lib.ListN.{length}
 use borrow.Author.Needs.{needs}

@@ -54,7 +54,7 @@ use Rattle.lin_spec.specs.Lent.{callIn}
 use Rattle.board_lent.specs.Calls.{callAt}
 use Rattle.rows.specs.declared.CallRow.{CallRow}
 use Rattle.rows.specs.declared.Moved.{Moved}
-use Rattle.rows.specs.Rows.{emptyRow, rowIn, laid, movedOf, turnsOf, Moving, rowsIn, fillAnswer, fillOf}
+use Rattle.rows.specs.Rows.{emptyRow, rowIn, laidOver, movedOf, turnsOf, Moving, structsIn, fillAnswer, fillOf}
 use Rattle.rows.proofs.Laws.{Filling, fill-start, fill-more, fill-end, fill-fits, fill-done}
 use Rattle.rows.proofs.Walking.{vals, sole, fits-place, fits-six, fits-next, before, step-on}
 use Rattle.rows.proofs.CallRow as T
@@ -276,7 +276,7 @@ module _ {M : Type 1} (𝓤 : URA M) (H : Heap 𝓤) (A : Atoms 𝓤) (W : Given
     turn-at zero i zs fs =
         let all = sym (add-zero i) ∙ fs .0 in
         ends i zs (Below zero) (omega (arith, all)) (fs .1)
-        (fill-done ys (w .now) (movedOf m) answers zs (fill-end (w .now) ys n i zs (fs .2) (omega (arith, all)) ∙ ap (λ (k : ℕ). laid (take k (rowsIn (w .now))) ys) many))
+        (fill-done ys (w .now) (movedOf m) answers zs (fill-end (w .now) ys n i zs (fs .2) (omega (arith, all)) ∙ ap (λ (k : ℕ). laidOver (take k (structsIn (w .now))) ys) many))
     turn-at (suc t) i zs fs =
         let l = before i t n (fs .0) in
         more i zs (Below (suc t)) l (fs .1) (λ r e.

@@ -54,7 +54,7 @@ use Rattle.lin_spec.specs.Output.{overlay}
 use Rattle.lin_spec.specs.Reading.{callWords}
 use Rattle.rows.specs.declared.CallRow.{CallRow}
 use Rattle.rows.specs.declared.Moved.{Moved}
-use Rattle.rows.specs.Rows.{emptyRow, called, wordsOf, movedOf, turnsOf, Moving, spillAnswer, spillOf}
+use Rattle.rows.specs.Rows.{emptyRow, called, structWords, movedOf, turnsOf, Moving, spillAnswer, spillOf}
 use Rattle.output.specs.Put.{Room as Fits, Put}
 use Rattle.output.proofs.Laws.{roomy}
 use Rattle.rows.proofs.Laws.{Spilling, spill-start, spill-next, spill-more, spill-end, spill-fits, spill-done}
@@ -185,7 +185,7 @@ module _ {M : Type 1} (𝓤 : URA M) (H : Heap 𝓤) (A : Atoms 𝓤) (W : Given
   said-turns : (m : Moved) (n : ℕ) → ent 𝓤 (ensured 𝓤 H A turns-of.ended (turns-of.clauses 𝓤 H A at-mem run) tt (m, tt) tt n) (fact 𝓤 (n ≡ turnsOf (movedOf m)))
   said-turns m n = exE 𝓤 _ (λ ws. snd∗ 𝓤 (sem 𝓤 H A (lasts turns-of.ended tt (m, tt) ws)) (fact 𝓤 (n ≡ turnsOf (movedOf m))))
 
-  asked : (ν : ℕ) (δ : GName) (l : List ℕ) (at : ℕ) (r : CallRow) → at < 2 ^ 64 → Fits l at (wordsOf r) → Is T.the-row r (mach r ∷ []) → ent 𝓤 (sep 𝓤 (A .lft (ν ∷ []) fullShare) (sem 𝓤 H A (Lent ν δ l))) (PutWords 𝓤 H A at-mem run .pre (to ν δ l at r))
+  asked : (ν : ℕ) (δ : GName) (l : List ℕ) (at : ℕ) (r : CallRow) → at < 2 ^ 64 → Fits l at (structWords r) → Is T.the-row r (mach r ∷ []) → ent 𝓤 (sep 𝓤 (A .lft (ν ∷ []) fullShare) (sem 𝓤 H A (Lent ν δ l))) (PutWords 𝓤 H A at-mem run .pre (to ν δ l at r))
   asked ν δ l at r fits fit g =
       qed W (‵ (flft (ν ∷ []) fullShare) ∷ ‵ (Lent ν δ l) ∷ []) ∵ says ! fit $ nothing ! $ move ! (1 ∷ 0 ∷ []) $ join ! $ frame ! $
       nothing ! $ owned ! T.the-row (Is T.the-row) (LL.makes T.the-type T′.the-plain 𝓤 H A) r _ g $ fjoin ! $ owned ! usize (Is usize) (uint-makes 𝓤 H A W w64) at _ (refl, fits) $ fjoin ! $ move ! (1 ∷ 0 ∷ []) $ fjoin ! $ done !
@@ -238,8 +238,8 @@ module _ {M : Type 1} (𝓤 : URA M) (H : Heap 𝓤) (A : Atoms 𝓤) (W : Given
     in-rows i h = let l = fit-in .0 in omega arith
 
     -- a turn that spills one row: it is copied out of the rows, the words are lent again for the call, and come back
-    more : (i : ℕ) (ws : List ℕ) (j : ℕ) (X : SProp 𝓤) → i < n → length ws ≡ length vs → j < 2 ^ 64 → Fits ws j (wordsOf (getD rs i emptyRow))
-        → ((zs : List ℕ) (t : ℕ) → Put ws j (wordsOf (getD rs i emptyRow)) zs t → t < 2 ^ 64 → ent 𝓤 (⋆ 𝓤 H A (At (i + 1) zs t)) X)
+    more : (i : ℕ) (ws : List ℕ) (j : ℕ) (X : SProp 𝓤) → i < n → length ws ≡ length vs → j < 2 ^ 64 → Fits ws j (structWords (getD rs i emptyRow))
+        → ((zs : List ℕ) (t : ℕ) → Put ws j (structWords (getD rs i emptyRow)) zs t → t < 2 ^ 64 → ent 𝓤 (⋆ 𝓤 H A (At (i + 1) zs t)) X)
         → ent 𝓤 (⋆ 𝓤 H A (At i ws j)) (Wp 𝓤 H C Λ En mir.turn-1 (afterTurn 𝓤 H X Left))
     unfolding afterTurn
     more i ws j X small len gj fit k =
@@ -270,8 +270,8 @@ module _ {M : Type 1} (𝓤 : URA M) (H : Heap 𝓤) (A : Atoms 𝓤) (W : Given
         calls-at ! (fmOf 𝓤 H (W .laws) 𝓣) (PutWords 𝓤 H A at-mem run) known (to ν δ ws j r) (and-then ! (load ! (from ! (stop !)) (look ! 8 refl)) (and-then ! (load ! (from ! (stop !)) (look ! 5 refl)) (and-then ! (load ! (from ! (stop !)) (look ! 11 refl)) (no-more !)))) (λ u.
         use1 W (later (some (λ (t : ℕ). ((‵ (flft (ν ∷ []) fullShare) ⊛ ‵ ftrue) ⊛ ‵ (usize .own t (u ∷ []))) ⊛ raw (ensured 𝓤 H A put-row-words.ended (put-row-words.clauses 𝓤 H A at-mem run) (ν ∷ [], tt) (y δ ws, (j, (r, tt))) tt t)))) (id⊢ 𝓤 _) $ await ! tt $ pick ! (λ t.
         split ! $ move ! (1 ∷ []) $
-        use1 W (some (λ (zs : List ℕ × (Unit {0} × (Unit {0} × Unit {0}))). ‵ (lasts put-row-words.ended (ν ∷ [], tt) (y δ ws, (j, (r, tt))) zs) ⊛ raw (fact 𝓤 (Put ws j (wordsOf r) (zs .0) t)))) (id⊢ 𝓤 _) $ pick ! (λ zs. split ! $
-        move ! (1 ∷ []) $ heard ! (Put ws j (wordsOf r) (zs .0) t) (λ e. fsplit ! $ fsplit ! $ move ! (1 ∷ []) $ feqL ! (λ l. move ! (2 ∷ []) $ split ! $ move ! (1 ∷ []) $
+        use1 W (some (λ (zs : List ℕ × (Unit {0} × (Unit {0} × Unit {0}))). ‵ (lasts put-row-words.ended (ν ∷ [], tt) (y δ ws, (j, (r, tt))) zs) ⊛ raw (fact 𝓤 (Put ws j (structWords r) (zs .0) t)))) (id⊢ 𝓤 _) $ pick ! (λ zs. split ! $
+        move ! (1 ∷ []) $ heard ! (Put ws j (structWords r) (zs .0) t) (λ e. fsplit ! $ fsplit ! $ move ! (1 ∷ []) $ feqL ! (λ l. move ! (2 ∷ []) $ split ! $ move ! (1 ∷ []) $
         -- [0 own; 1 νt; 2 finally; 3 more; 4 again; 5 tok; 6 shr; 7 _5; 8 _6; 9 _9; 10 _10; 11 _11; 12 _12; 13 _13; 14 _14; 15 _1; 16 _2; 17 _0; 18 _4; 19 _7; 20 _8; 21 fact; 22 res; 23 _3]
         peeks ! usize (Is usize) (shows 𝓤 H A usize) t (u ∷ []) (λ is. land ! (from ! (stop !)) (store ! 8 refl (uint-lawful 𝓤 H A W w64 .typed t _ is .0)) $
         rewrite ! 8 (λ (v : Val). ‵ (fat fullShare word l₆ 0 v)) (sole u (vint w64 t) (is .0)) refl $

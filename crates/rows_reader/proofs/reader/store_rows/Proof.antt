@@ -54,8 +54,8 @@ use Rattle.lin_spec.specs.Board.{CallOf}
 use Rattle.board_loop.specs.Head.{boardAt}
 use Rattle.rows.specs.declared.CallRow.{CallRow}
 use Rattle.rows_steps.specs.declared.steps.RowStep.{RowStep}
-use Rattle.rows.specs.Rows.{emptyRow, rowIn, laid}
-use Rattle.rows_steps.specs.Steps.{Steps}
+use Rattle.rows.specs.Rows.{emptyRow, rowIn, laidOver}
+use Rattle.rows_steps.specs.Steps.{StepsTo}
 use Rattle.rows_reader.proofs.ReaderLaws.{Storing, store-start, store-more, store-end}
 use Rattle.rows.proofs.Walking.{vals, mach, sole, fits-place, fits-next, before, step-on}
 use Rattle.rows.proofs.CallRow as T
@@ -138,7 +138,7 @@ module _ {M : Type 1} (𝓤 : URA M) (H : Heap 𝓤) (A : Atoms 𝓤) (W : Given
   Asks = (n ≤ length ys) × (n ≤ length calls) × (0 < n → (until ≤ length (w .now)) × (length (w .now) < 2 ^ 32))
 
   abbrev All : List CallRow
-  All = laid (map rowIn (take n calls)) ys
+  All = laidOver (map rowIn (take n calls)) ys
 
   -- what the callee's triple binds outside, what it asks, and of its `ensured` the clause alone
   abbrev to : ℕ → NextRow 𝓤 H A at-mem run .Ghost
@@ -149,8 +149,8 @@ module _ {M : Type 1} (𝓤 : URA M) (H : Heap 𝓤) (A : Atoms 𝓤) (W : Given
       qed W (‵ (flft κ′ q′) ∷ ‵ Text ∷ []) ∵ says ! short $ nothing ! $ move ! (1 ∷ 0 ∷ []) $ join ! $ frame ! $
       nothing ! $ owned ! usize (Is usize) (uint-makes 𝓤 H A W w64) at _ (refl, fits) $ fjoin ! $ owned ! usize (Is usize) (uint-makes 𝓤 H A W w64) until _ (refl, gt) $ fjoin ! $ move ! (1 ∷ 0 ∷ []) $ fjoin ! $ done !
 
-  said : (at : ℕ) (r : RowStep) → ent 𝓤 (ensured 𝓤 H A next-row.ended (next-row.clauses 𝓤 H A at-mem run) (κ′, tt) (w, (until, (at, tt))) tt r) (fact 𝓤 (Steps (take until (w .now)) at r))
-  said at r = exE 𝓤 _ (λ ws. snd∗ 𝓤 (sem 𝓤 H A (lasts next-row.ended (κ′, tt) (w, (until, (at, tt))) ws)) (fact 𝓤 (Steps (take until (w .now)) at r)))
+  said : (at : ℕ) (r : RowStep) → ent 𝓤 (ensured 𝓤 H A next-row.ended (next-row.clauses 𝓤 H A at-mem run) (κ′, tt) (w, (until, (at, tt))) tt r) (fact 𝓤 (StepsTo (take until (w .now)) at r))
+  said at r = exE 𝓤 _ (λ ws. snd∗ 𝓤 (sem 𝓤 H A (lasts next-row.ended (κ′, tt) (w, (until, (at, tt))) ws)) (fact 𝓤 (StepsTo (take until (w .now)) at r)))
 
   exits : (zs : List CallRow) → length zs ≡ length ys → zs ≡ All → Room T.the-row (length ys) → n < 2 ^ 64 → start < 2 ^ 64 → until < 2 ^ 64
       → ent 𝓤 (⋆ 𝓤 H A (‵ (fobs γ (codedHoleys T.the-row .code (heres T.the-row zs))) ∷ ‵ (fbor κ (Held T.the-row (length zs) b o γ)) ∷ ‵ (flft κ q) ∷ ‵ (flft κ′ q′) ∷ ‵ Text ∷ [])) (Post vunit)
@@ -196,7 +196,7 @@ module _ {M : Type 1} (𝓤 : URA M) (H : Heap 𝓤) (A : Atoms 𝓤) (W : Given
 
     -- a turn that stores one call
     more : (i : ℕ) (zs : List CallRow) (j : ℕ) (X : SProp 𝓤) → i < n → length zs ≡ length ys → j < 2 ^ 64
-        → ((r : RowStep) → Steps (take until (w .now)) j r → r .at < 2 ^ 64 → ent 𝓤 (⋆ 𝓤 H A (At (i + 1) (set zs i (r .row)) (r .at))) X)
+        → ((r : RowStep) → StepsTo (take until (w .now)) j r → r .at < 2 ^ 64 → ent 𝓤 (⋆ 𝓤 H A (At (i + 1) (set zs i (r .row)) (r .at))) X)
         → ent 𝓤 (⋆ 𝓤 H A (At i zs j)) (Wp 𝓤 H C Λ En mir.turn-1 (afterTurn 𝓤 H X Left))
     unfolding afterTurn
     more i zs j X small len gj k =
@@ -212,7 +212,7 @@ module _ {M : Type 1} (𝓤 : URA M) (H : Heap 𝓤) (A : Atoms 𝓤) (W : Given
         -- [0 pre; 1 text2; 2 rows; 3 _6; 4 _7; 5 _8; 6 _9; 7 _10; 8 _11; 9 _1; 10 _2; 11 _0; 12 bor; 13 obs; 14 auth; 15 _3; 16 _4; 17 _5]
         calls-at ! (fmOf 𝓤 H (W .laws) 𝓣) (NextRow 𝓤 H A at-mem run) known (to j) (and-then ! (load ! (from ! (stop !)) (look ! 10 refl)) (and-then ! (load ! (from ! (stop !)) (look ! 17 refl)) (and-then ! (load ! (from ! (stop !)) (look ! 4 refl)) (no-more !)))) (λ u.
         use1 W (later (some (λ (r : RowStep). ((‵ (flft κ′ q′) ⊛ ‵ ftrue) ⊛ ‵ (S.the-row .own r (u ∷ []))) ⊛ raw (ensured 𝓤 H A next-row.ended (next-row.clauses 𝓤 H A at-mem run) (κ′, tt) (w, (until, (j, tt))) tt r)))) (id⊢ 𝓤 _) $ await ! tt $ pick ! (λ r.
-        split ! $ move ! (1 ∷ []) $ use1 W (raw (fact 𝓤 (Steps (take until (w .now)) j r))) (said j r) $ heard ! (Steps (take until (w .now)) j r) (λ e. split ! $ move ! (1 ∷ []) $
+        split ! $ move ! (1 ∷ []) $ use1 W (raw (fact 𝓤 (StepsTo (take until (w .now)) j r))) (said j r) $ heard ! (StepsTo (take until (w .now)) j r) (λ e. split ! $ move ! (1 ∷ []) $
         -- [0 own; 1 tok'; 2 text2; 3 rows; 4 _6; 5 _7; 6 _8; 7 _9; 8 _10; 9 _11; 10 _1; 11 _2; 12 _0; 13 bor; 14 obs; 15 auth; 16 _3; 17 _4; 18 _5]
         peeks ! S.the-row (Is S.the-row) (shows 𝓤 H A S.the-row) r (u ∷ []) (λ is. land ! (from ! (stop !)) (init ! 6 refl (LL.lawful S.the-type S′.the-laws 𝓤 H A W .typed r _ is .0)) $
         rewrite ! 6 (λ (v : Val). ‵ (fat fullShare S′.mir l₈ 0 v)) (sole u (mach-step r) (LL.tells S.the-type S′.the-laws r _ is)) refl $ drop ! $

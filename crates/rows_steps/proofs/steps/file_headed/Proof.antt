@@ -1,6 +1,7 @@
 -- `rows_steps::file_headed` meets its contract. Assumes nothing.
 use borrow.Author.Needs.{needs}
-use Rattle.file.proofs.NumberLaws.{ready, given}
+use Rattle.file.proofs.NumberLaws.{given}
+use Rattle.file_sections.proofs.WayLaws.{at-first}
 use Rattle.rows_steps.proofs.FileLaws.{section-within, file-refused, file-missing, file-read}
 use Rattle.rows_steps.proofs.steps.file_headed.Statement.{statement}
 use Rattle.rows_steps.proofs.steps.file_headed.Tie as tie
@@ -21,7 +22,7 @@ returns : tie.Need-returns
 returns c = file-refused _ _ (c .before .before .before .before .open-boards .ensures) _ _ _ _ _ (c .before .before .r .given .1) (c .headed-refused .ensures)
 
 find-board-requires : tie.Need-find-board-requires
-find-board-requires c κs = ready _ _ (c .before .before .before .open-boards .ensures) _ (c .before .c .given .1)
+find-board-requires c κs = at-first _ _ (c .before .before .before .open-boards .ensures) _ (c .before .c .given .1)
 
 enum-known-p : tie.Need-enum-known-p
 enum-known-p c = search needs

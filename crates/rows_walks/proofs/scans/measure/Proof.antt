@@ -1,6 +1,6 @@
 -- `rows_walks::measure` meets its contract. Assumes nothing.
-use Prim.Native.Char.{code}
 use borrow.Author.Needs.{needs}
+use Rattle.lin_spec.specs.Writer.{pipeMark, lineMark}
 use Rattle.rows_walks.proofs.ScanLaws.{measured-is}
 use Rattle.rows_walks.proofs.scans.measure.Statement.{statement}
 use Rattle.rows_walks.proofs.scans.measure.Tie as tie
@@ -23,7 +23,7 @@ sat-add-requires-2 c κs = search needs
 returns : tie.Need-returns
 returns c =
     measured-is _ (c .before .before .before .before .before .before .before .args .c) (c .before .before .before .before .before .before .before .args .scan) _ (c .before .before .before .before .before .call-past .ensures) _ _ (c .before .before .before .call-bytes .ensures) (c .before .before .sat-add .ensures) _ _
-    (c .before .call-len .ensures (code "/") (code " ")) (c .sat-add2 .ensures)
+    (c .before .call-len .ensures pipeMark lineMark) (c .sat-add2 .ensures)
 
 pub measure-spec : {M : Type 1} → statement M
 measure-spec =

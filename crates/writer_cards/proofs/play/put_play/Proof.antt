@@ -9,7 +9,7 @@ use borrow.Author.Needs.{needs}
 use Rattle.lin_spec.specs.Writer.{cardLetters}
 use Rattle.lin_spec.specs.Play.{playText}
 use Rattle.output.proofs.Laws.{Left, start, roomy, step, finish}
-use Rattle.writer_cards.specs.Tricks.{between}
+use Rattle.writer_cards.specs.Tricks.{beforeCard}
 use Rattle.writer_cards.proofs.TrickLaws.{good-card}
 use Rattle.writer_cards.proofs.PlayLaws.{wordsFrom, play-from, words-cons, words-end}
 use Rattle.writer_cards.proofs.play.put_play.Statement.{statement}
@@ -25,7 +25,7 @@ abbrev μ-loop : tie.MeasureT-loop
 turn : (c : tie.In-loop Inv-loop μ-loop)
     → (let cs = now (c .before .before .before .before .args .cards) in
     let i = c .before .loop .i in
-    Left (c .before .loop .out) (c .before .loop .o) (between i ++ (cardLetters (getD cs i 0) ++ wordsFrom (i + 1) (drop (i + 1) cs))) (now (c .before .before .before .before .args .out)) 0 (playText cs))
+    Left (c .before .loop .out) (c .before .loop .o) (beforeCard i ++ (cardLetters (getD cs i 0) ++ wordsFrom (i + 1) (drop (i + 1) cs))) (now (c .before .before .before .before .args .out)) 0 (playText cs))
 turn c = rw (words-cons _ _ (c .loop-test .taken)) at (c .before .loop .inv .1)
 
 loop-holds : tie.Need-loop-holds Inv-loop μ-loop
