@@ -1,6 +1,7 @@
 //! Comparisons of the exports with the oracle and with the model. Each gives
 //! what differs.
 
+mod auction;
 mod boards;
 mod files;
 mod guards;
@@ -8,6 +9,7 @@ mod pbn;
 mod reader;
 mod writer;
 
+pub use auction::{auction, bids};
 pub use boards::{as_upstream as fields_of, board, read};
 pub use files::{file, name, visit, visits};
 pub use pbn::{annotation, annotations, converted, record, Sizes};

@@ -45,6 +45,8 @@ pub enum Kind {
     Annotations,
     /// PBN records.
     Records,
+    /// Auctions.
+    Auctions,
     /// Texts with one scalar value.
     Scalars,
     /// Short words.
@@ -53,7 +55,7 @@ pub enum Kind {
 
 impl Kind {
     /// Every kind, with its line of a report.
-    pub const ALL: [(Kind, &'static str); 17] = [
+    pub const ALL: [(Kind, &'static str); 18] = [
         (Kind::Texts, "texts, by tokens"),
         (Kind::Bytes, "runs of bytes, opened"),
         (Kind::Places, "places that a cursor steps from"),
@@ -69,6 +71,7 @@ impl Kind {
         (Kind::Appends, "appends in them"),
         (Kind::Annotations, "annotations"),
         (Kind::Records, "PBN records"),
+        (Kind::Auctions, "auctions"),
         (Kind::Scalars, "texts with one scalar value"),
         (Kind::Words, "short words"),
     ];

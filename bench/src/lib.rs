@@ -1,13 +1,13 @@
 //! The exports of the crate `lin_host`, reached through `lin_host_rust`, compared
-//! with the upstream Rust and with document 01 in plain Rust.
+//! with the upstream Rust and with documents 01 and 02 in plain Rust.
 //!
 //! | module | what it holds |
 //! |---|---|
 //! | [`upstream`] | boards and records between upstream's form and the host's |
-//! | [`model`] | document 01 in plain Rust, for what upstream can't take |
+//! | [`model`] | documents 01 and 02 in plain Rust, for what upstream has not or can't take |
 //! | [`log`] | document 01's plain book of appends |
 //! | [`compare`] | the comparisons, each of which gives what differs |
-//! | [`samples`] | random records, files, boards and PBN records, and hostile ones |
+//! | [`samples`] | random records, files, boards, PBN records and auctions, and hostile ones |
 //! | [`differential`] | random cases of every kind, compared for a time that is given |
 //! | [`clock`] | processor time |
 //!

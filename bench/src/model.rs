@@ -1,6 +1,7 @@
-//! Document 01 in plain Rust, for the inputs that upstream can't take: bytes
-//! that are no text, any place, any span, any output.
+//! Documents 01 and 02 in plain Rust, for what upstream has not and for the inputs
+//! that it can't take: bytes that are no text, any place, any span, any output.
 
+pub mod auction;
 pub mod pbn;
 mod reader;
 

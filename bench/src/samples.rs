@@ -1,6 +1,7 @@
 //! Random records of one board, and files of them: commands in any dress, with
 //! values that are read, nearly read or skipped.
 
+pub mod auctions;
 pub mod built;
 pub mod hostile;
 pub mod lent;

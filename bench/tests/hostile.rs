@@ -4,7 +4,8 @@
 use lin_bench::{
     clock::milliseconds,
     samples::hostile::{
-        board, document_rows, notes, record, span, whole, Asked, Hostile, ALL, BY_NATURE, CONTINUE,
+        board, call_rows, document_rows, notes, record, span, whole, Asked, Hostile, ALL,
+        BY_NATURE, CONTINUE,
     },
 };
 use lin_host_rust::{tokens::Span, LIMIT};
@@ -78,10 +79,15 @@ fn answers_that_take_all_bytes() {
 #[test]
 fn rows_about_as_long_as_the_text() {
     for calls in [43_690, 43_691] {
-        let asked = Asked::Append(board(whole(LIMIT), calls, span(0, LIMIT)));
-        let took = once(&asked);
-        assert!(took < 500.0, "{calls}: {took}");
-        assert_eq!(told(&asked).0, 7, "{calls}");
+        let all = span(0, LIMIT);
+        for (asked, refusal) in [
+            (Asked::Append(board(whole(LIMIT), calls, all)), 7),
+            (Asked::Auction(whole(LIMIT), call_rows(calls, all)), 9),
+        ] {
+            let took = once(&asked);
+            assert!(took < 500.0, "{calls}: {took}");
+            assert_eq!(told(&asked).0, refusal, "{calls}");
+        }
     }
 }
 
@@ -135,8 +141,9 @@ fn times(text: &[u8], x: Span) -> usize {
 }
 
 /// The name of every call, its answer where this span is named so often, or by
-/// all notes, and the answer that follows from the standard library's.
-fn answers(text: &[u8], x: Span) -> [(&'static str, Told, Told); 5] {
+/// all notes, and the answer that follows from the standard library's. No such bid is a
+/// call.
+fn answers(text: &[u8], x: Span) -> [(&'static str, Told, Told); 6] {
     let ill = std::str::from_utf8(x.of(text)).is_err();
     let rows = times(text, x);
     let copy = || text.to_vec();
@@ -158,6 +165,11 @@ fn answers(text: &[u8], x: Span) -> [(&'static str, Told, Told); 5] {
             "annotation_text",
             Asked::Annotation(copy(), notes(x)),
             (0, 0),
+        ),
+        (
+            "check_auction",
+            Asked::Auction(copy(), call_rows(rows, x)),
+            (9, 0),
         ),
     ]
     .map(|(name, asked, well)| (name, told(&asked), if ill { (6, 0) } else { well }))

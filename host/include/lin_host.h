@@ -17,10 +17,10 @@
  *     3. the output
  *     4. the rows and the cards that are filled
  *
- * Numbers stand behind the list that they belong to: a place, or the number of a
- * board, behind the text; the trailing span of a document behind its rows; the
- * used count behind the output. lin_same_board takes all of the first board and
- * then all of the second.
+ * Numbers stand behind the list that they belong to: a place, the number of a
+ * board, or a dealer, behind the text; the trailing span of a document behind its
+ * rows; the used count behind the output. lin_same_board takes all of the first
+ * board and then all of the second.
  *
  * What the caller owes, which the proof of the library takes as given:
  *
@@ -77,12 +77,12 @@ extern "C" {
 #define LIN_GAP 255
 
 /*
- * The refusals, by the numbers of document 01. A refused call changes nothing
- * that was lent to it. Behind each: the value that comes with it.
+ * The refusals, by the numbers of documents 01 and 02. A refused call changes
+ * nothing that was lent to it. Behind each: the value that comes with it.
  *
- * Calls that read a text check 1, 2, 4, 3; all other calls check 1, 8, 5, 6, 3,
- * 7. Each is checked over the whole input before the next, and the first that is
- * met is the answer.
+ * Calls that read a text check 1, 2, 4, 3; all other calls check 1, 8, 5, 6, 9, 3,
+ * 7, of which 9 meets lin_check_auction alone. Each is checked over the whole
+ * input before the next, and the first that is met is the answer.
  */
 enum {
     /* No refusal. */
@@ -106,13 +106,30 @@ enum {
     LIN_OUTPUT_TOO_SMALL = 7,
     /* A card, a level, a flag or another number is outside its range, or the used
      * bytes are beyond the room. Nothing. */
-    LIN_OUT_OF_RANGE = 8
+    LIN_OUT_OF_RANGE = 8,
+    /* A bid of an auction, such as pass or 8C, is none of p, d, r and the bids 1C
+     * to 7N. The least index of such a bid, from 0 on. */
+    LIN_BID_UNKNOWN = 9
 };
 
 /* The kinds of LIN_TOO_FEW_ROWS. */
 enum {
     LIN_CALLS = 0,
     LIN_CARDS = 1
+};
+
+/* The outcomes of lin_check_auction. */
+enum {
+    /* The call was refused. */
+    LIN_AUCTION_REFUSED = 0,
+    /* Lawful, and ended by four opening passes. */
+    LIN_AUCTION_PASSED_OUT = 1,
+    /* Lawful, and ended with a contract. */
+    LIN_AUCTION_ENDED = 2,
+    /* Lawful, and not ended. */
+    LIN_AUCTION_OPEN = 3,
+    /* A call is unlawful. */
+    LIN_AUCTION_UNLAWFUL = 4
 };
 
 /* An answer or a refusal. */
@@ -237,6 +254,24 @@ typedef struct LinRead {
     uint64_t calls;
     uint64_t cards;
 } LinRead;
+
+/* What an auction is. The last four numbers are those of the contract of
+ * LIN_AUCTION_ENDED, and otherwise 0. */
+typedef struct LinAuction {
+    /* The value is the index of the first unlawful call, from 0 on, where the
+     * outcome is LIN_AUCTION_UNLAWFUL, and otherwise 0 where nothing is refused. */
+    LinAnswer answer;
+    /* One of the outcomes. */
+    uint32_t outcome;
+    /* 1 to 7. */
+    uint32_t level;
+    /* 0 to 4 for C, D, H, S, N. */
+    uint32_t strain;
+    /* 0 neither, 1 doubled, 2 redoubled. */
+    uint32_t doubling;
+    /* A seat. */
+    uint32_t declarer;
+} LinAuction;
 
 /* What becomes of a raw annotation. */
 typedef struct LinAnnotation {
@@ -400,6 +435,17 @@ LinAnswer lin_same_board(const uint8_t *text, size_t text_len, LinBoard board,
                          const uint8_t *text2, size_t text2_len, LinBoard board2,
                          const uint32_t *rows2, size_t rows2_len,
                          const uint8_t *cards2, size_t cards2_len);
+
+/* ---- The auction ---- */
+
+/* Whether the calls of the rows, of which the dealer makes the first, are lawful
+ * by the Laws of Duplicate Bridge 2017; whether they end the auction; and the
+ * contract. A bid is p, d, r, or a level 1 to 7 and C, D, H, S, N or NT, in either
+ * case. The dealer is a seat, and another number is refused by 8, as is a flag of a
+ * row that is neither 0 nor 1. The place of an absent annotation is not looked at.
+ * Refusals 1, 8, 5, 6 and 9. */
+LinAuction lin_check_auction(const uint8_t *text, size_t text_len, uint32_t dealer,
+                             const uint32_t *rows, size_t rows_len);
 
 /* ---- From PBN ----
  *

@@ -8,7 +8,7 @@ mod header;
 #[repr(C)]
 #[derive(Debug, Clone, Copy, PartialEq, Eq)]
 pub struct LinAnswer {
-    /// 0 for an answer, or document 01's number of the refusal.
+    /// 0 for an answer, or the number of the refusal.
     pub refusal: u32,
     /// For refusal 3: 0 calls, 1 cards. Otherwise 0.
     pub kind: u32,
@@ -158,6 +158,26 @@ pub struct LinRead {
     pub calls: u64,
     /// How many cards its play has.
     pub cards: u64,
+}
+
+/// What an auction is. The last four numbers are those of a contract, and 0
+/// where there is none.
+#[repr(C)]
+#[derive(Debug, Clone, Copy, PartialEq, Eq)]
+pub struct LinAuction {
+    /// The value is the index of the first unlawful call where the outcome is 4,
+    /// and 0 where nothing is refused otherwise.
+    pub answer: LinAnswer,
+    /// 0 refused, 1 passed out, 2 ended with a contract, 3 open, 4 unlawful.
+    pub outcome: u32,
+    /// 1 to 7.
+    pub level: u32,
+    /// 0 to 4 for C, D, H, S, N.
+    pub strain: u32,
+    /// 0 neither, 1 doubled, 2 redoubled.
+    pub doubling: u32,
+    /// 0 to 3 for S, W, N, E.
+    pub declarer: u32,
 }
 
 /// What becomes of a raw annotation.
@@ -322,6 +342,13 @@ extern "C" {
         cards2: *const u8,
         cards2_len: usize,
     ) -> LinAnswer;
+    pub fn lin_check_auction(
+        text: *const u8,
+        text_len: usize,
+        dealer: u32,
+        rows: *const u32,
+        rows_len: usize,
+    ) -> LinAuction;
     pub fn lin_annotation_text(
         text: *const u8,
         text_len: usize,

@@ -8,6 +8,7 @@
 //! | [`cards`] | cards, and hands as counts of them |
 //! | [`files`] | the boards of a file, one after another or by number; the name finder |
 //! | [`writer`] | boards written and appended; the play as a text; equality |
+//! | [`auction`] | whether an auction is lawful, how it ends, and its contract |
 //! | [`pbn`] | boards made of PBN records, and annotations as text |
 //!
 //! An entry answers a value or a [`Refusal`], and a refusal changes nothing. A
@@ -41,6 +42,7 @@
 #![deny(missing_docs)]
 #![deny(rustdoc::broken_intra_doc_links)]
 
+pub mod auction;
 pub mod boards;
 pub mod cards;
 mod ffi;
@@ -66,7 +68,8 @@ pub enum RowKind {
     Cards,
 }
 
-/// Document 01's refusals, in its order, with what each carries.
+/// The refusals of document 01, and those that the requests of document 02 add,
+/// by their numbers, with what each carries.
 #[derive(Debug, Clone, Copy, PartialEq, Eq)]
 pub enum Refusal {
     /// A lent text is too long.
@@ -89,10 +92,13 @@ pub enum Refusal {
     /// A card, level or number is outside its range, or the used bytes are beyond
     /// the room.
     OutOfRange,
+    /// A bid of an auction is none of p, d, r and the bids 1C to 7N: the least index
+    /// of such a bid.
+    BidUnknown(u64),
 }
 
 impl Refusal {
-    /// The number that document 01 gives it.
+    /// The number that document 01 or 02 gives it.
     pub fn number(self) -> u32 {
         match self {
             Refusal::TextTooLong => 1,
@@ -103,16 +109,18 @@ impl Refusal {
             Refusal::SpanNotUtf8 => 6,
             Refusal::OutputTooSmall(_) => 7,
             Refusal::OutOfRange => 8,
+            Refusal::BidUnknown(_) => 9,
         }
     }
 
-    /// The place, the length or the count that it carries.
+    /// The place, the length, the count or the index that it carries.
     pub fn carried(self) -> Option<u64> {
         match self {
             Refusal::NotUtf8(n)
             | Refusal::TooFewRows(_, n)
             | Refusal::NoBoard(n)
-            | Refusal::OutputTooSmall(n) => Some(n),
+            | Refusal::OutputTooSmall(n)
+            | Refusal::BidUnknown(n) => Some(n),
             _ => None,
         }
     }
@@ -130,6 +138,7 @@ impl fmt::Display for Refusal {
             Refusal::SpanNotUtf8 => write!(f, "the bytes of a span are not UTF-8"),
             Refusal::OutputTooSmall(n) => write!(f, "the output is too small for {n} bytes"),
             Refusal::OutOfRange => write!(f, "a card, a level or a number is outside its range"),
+            Refusal::BidUnknown(n) => write!(f, "call {n} is none of p, d, r and 1C to 7N"),
         }
     }
 }
@@ -160,6 +169,7 @@ impl LinAnswer {
             (6, 0, 0) => Err(Refusal::SpanNotUtf8),
             (7, 0, n) => Err(Refusal::OutputTooSmall(n)),
             (8, 0, 0) => Err(Refusal::OutOfRange),
+            (9, 0, n) => Err(Refusal::BidUnknown(n)),
             _ => panic!("neither an answer nor a refusal: {self:?}"),
         }
     }

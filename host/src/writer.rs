@@ -193,6 +193,12 @@ fn gather_call(text: &mut Vec<u8>, call: &Call) -> [u32; ROW] {
     ]
 }
 
+/// The rows of these calls, six words for each; their texts are added to the text.
+pub(crate) fn gather_calls(text: &mut Vec<u8>, calls: &[Call]) -> Vec<u32> {
+    let rows = calls.iter().flat_map(|call| gather_call(text, call));
+    rows.collect()
+}
+
 impl From<&Board<'_>> for Gathered {
     /// The calls and the play are those of the lists: the heading's two
     /// numbers are not looked at.
@@ -211,10 +217,7 @@ impl From<&Board<'_>> for Gathered {
             claim: heading.claim.unwrap_or(0).into(),
             counts: *heading.deal.counts(),
         };
-        let calls = from.calls.iter();
-        let rows = calls
-            .flat_map(|call| gather_call(&mut text, call))
-            .collect();
+        let rows = gather_calls(&mut text, &from.calls);
         Gathered {
             text,
             board,

@@ -263,8 +263,9 @@ fn refusals_by_number_and_value() {
         Refusal::SpanNotUtf8,
         Refusal::OutputTooSmall(u64::MAX),
         Refusal::OutOfRange,
+        Refusal::BidUnknown(5),
     ];
-    assert_eq!(all.map(Refusal::number), [1, 2, 3, 4, 5, 6, 7, 8]);
+    assert_eq!(all.map(Refusal::number), [1, 2, 3, 4, 5, 6, 7, 8, 9]);
     let carried = [
         None,
         Some(7),
@@ -274,6 +275,7 @@ fn refusals_by_number_and_value() {
         None,
         Some(u64::MAX),
         None,
+        Some(5),
     ];
     assert_eq!(all.map(Refusal::carried), carried);
     let cards = Refusal::TooFewRows(RowKind::Cards, 1);
@@ -294,7 +296,8 @@ fn numbers_that_are_no_answer() {
         [5, 0, 1],
         [6, 1, 0],
         [8, 0, 1],
-        [9, 0, 0],
+        [9, 1, 0],
+        [10, 0, 0],
         [u32::MAX, 0, 0],
     ] {
         let answer = LinAnswer {

@@ -1,9 +1,11 @@
-//! Cases by hand, from document 01 and not from upstream, which refuses nothing:
-//! the refusals with what each carries, beside the nearest input that is accepted;
-//! their order; places of spans; outputs longer than their room. A module for each
-//! subject makes its cases; the file is `by_hand.bin`.
+//! Cases by hand, from documents 01 and 02 and not from upstream, which refuses nothing
+//! and checks no auction: the refusals with what each carries, beside the nearest input
+//! that is accepted; their order; places of spans; outputs longer than their room; the
+//! laws of an auction. A module for each subject makes its cases; the file is
+//! `by_hand.bin`.
 
 mod annotation;
+mod auction;
 mod boards;
 mod equality;
 mod files;
@@ -99,5 +101,6 @@ pub fn vectors() -> Vectors {
     equality::put(&mut s);
     annotation::put(&mut s);
     pbn::put(&mut s);
+    auction::put(&mut s);
     s.done()
 }

@@ -66,7 +66,7 @@ const SUBJECTS: &[Subject] = &[
     },
     Subject {
         name: "by_hand",
-        about: "no answers of upstream: refusals and places, by hand from document 01",
+        about: "no answers of upstream: refusals, places and auctions, by hand from the documents",
         vectors: by_hand::vectors,
     },
 ];

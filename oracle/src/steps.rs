@@ -56,6 +56,9 @@ pub enum Call {
     /// The next board from the board cursor on, with its calls and its play, and the
     /// cursor's step to it.
     ReadBoard,
+    /// Whether the calls of the rows are a lawful auction, with the dealer of the lent
+    /// board.
+    CheckAuction,
 }
 
 /// A file of steps that is being made.

@@ -3,7 +3,7 @@
 use super::{Kind, Report};
 use crate::{
     compare::{self, Same},
-    samples::{self, built, lent, pbn},
+    samples::{self, auctions, built, lent, pbn},
 };
 use lin_host_rust::{tokens::Span, writer::Gathered, LIMIT};
 use oracle::{random::Rng, records, texts};
@@ -22,6 +22,7 @@ pub fn round(rng: &mut Rng, report: &mut Report) {
         annotation(rng, report);
         record(rng, report);
         play(rng, report);
+        auction(rng, report);
     }
     written(rng, report);
     pair(rng, report);
@@ -85,6 +86,16 @@ fn record(rng: &mut Rng, report: &mut Report) {
     }
     let outcome = compare::record(lent.lent());
     report.add(Kind::Records, outcome, || format!("{lent:?}"));
+}
+
+/// An auction, at times with faults.
+fn auction(rng: &mut Rng, report: &mut Report) {
+    let mut lent = auctions::lent(rng);
+    if rng.once_in(4) {
+        (0..1 + rng.below(2)).for_each(|_| auctions::fault(rng, &mut lent));
+    }
+    let outcome = compare::auction(&lent.text, lent.dealer, &lent.rows);
+    report.add(Kind::Auctions, outcome, || format!("{lent:?}"));
 }
 
 fn any_text(rng: &mut Rng) -> String {

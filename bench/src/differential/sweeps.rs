@@ -57,6 +57,10 @@ fn one(c: char, report: &mut Report) {
         let outcome = file(&text);
         report.add(Kind::Scalars, outcome, || format!("file {text:?}"));
     }
+    for bid in bid_texts(c) {
+        let outcome = compare::auction(bid.as_bytes(), 0, &[0, bid.len() as u32, 0, 0, 0, 0]);
+        report.add(Kind::Scalars, outcome, || format!("bid {bid:?}"));
+    }
     for raw in annotation_texts(c) {
         let outcome = annotation(&raw);
         report.add(Kind::Scalars, outcome, || format!("annotation {raw:?}"));
@@ -88,6 +92,18 @@ fn file_texts(c: char) -> [String; 2] {
 /// For the number of a note, for marks and for runs.
 fn annotation_texts(c: char) -> [String; 1] {
     [format!("={c}1=${c}!{c}?$1{c}=1{c}={c}==")]
+}
+
+/// For a call, its level, its strain and the last letter of notrump, and around one.
+fn bid_texts(c: char) -> [String; 6] {
+    [
+        format!("{c}"),
+        format!("{c}C"),
+        format!("1{c}"),
+        format!("1N{c}"),
+        format!("{c}p"),
+        format!("1C{c}"),
+    ]
 }
 
 /// The boards of a file that opens, by the cursor, against upstream's.
@@ -184,7 +200,33 @@ const LETTERS: &[Letters] = &[
         around: ["", ""],
         compared: annotation,
     },
+    Letters {
+        letters: &["p ", "d ", "r ", "1C ", "1N ", "2C "],
+        longest: 6,
+        around: ["", ""],
+        compared: auction,
+    },
+    Letters {
+        letters: &[
+            "p", "P", "d", "D", "r", "0", "1", "7", "8", "c", "H", "s", "N", "n", "T", "t", "!",
+            " ", "é", "\u{17F}",
+        ],
+        longest: 3,
+        around: ["", ""],
+        compared: bid_alone,
+    },
 ];
+
+/// The auction of a word's bids, with a space after each.
+fn auction(text: &str) -> Same {
+    let bids: Vec<&str> = text.split_terminator(' ').collect();
+    compare::bids(&bids)
+}
+
+/// A word as the one bid of an auction, and after a pass.
+fn bid_alone(bid: &str) -> Same {
+    compare::bids(&[bid]).and_then(|()| compare::bids(&["p", bid]))
+}
 
 fn board(text: &str) -> Same {
     compare::read(text.as_bytes())

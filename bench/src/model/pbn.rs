@@ -87,7 +87,7 @@ pub fn note_texts<'a>(text: &'a [u8], notes: &NoteWords) -> NoteTexts<'a> {
 }
 
 /// The first of the refusals 5 and 6 that meets these spans.
-fn spans_refused(text: &[u8], spans: &[Span]) -> Option<Refusal> {
+pub(super) fn spans_refused(text: &[u8], spans: &[Span]) -> Option<Refusal> {
     let past = |s: &Span| u64::from(s.start) + u64::from(s.len) > text.len() as u64;
     if spans.iter().any(past) {
         return Some(Refusal::SpanPastEnd);

@@ -3,6 +3,7 @@
 //! so many bytes, with rows in proportion.
 
 use lin_host_rust::{
+    auction::{check_auction_numbers, Auction},
     boards::{Board, ROW},
     pbn,
     tokens::{write_document, Span},
@@ -24,10 +25,13 @@ pub enum Asked {
     Convert(pbn::Gathered),
     /// A raw annotation, the text's, and its notes.
     Annotation(Vec<u8>, Box<pbn::NoteWords>),
+    /// An auction to check: its text and its rows.
+    Auction(Vec<u8>, Vec<u32>),
 }
 
 impl Asked {
-    /// The call's value, or its refusal. The output has one byte, and that of
+    /// The call's value, or its refusal; of an auction the index of the first
+    /// unlawful call, or 0. The output has one byte, and that of
     /// `from_board` one for each of `KEPT` bids. What would write more is refused
     /// by 7, also where the text is short.
     pub fn answer(&self) -> Result<u64, Refusal> {
@@ -45,6 +49,14 @@ impl Asked {
                 let raw = Span::new(0, 0);
                 let written = pbn::annotation_numbers(text, raw, notes, out);
                 written.read().map(|len| len.unwrap_or(0))
+            }
+            Asked::Auction(text, rows) => {
+                check_auction_numbers(text, 0, rows)
+                    .read()
+                    .map(|told| match told {
+                        Auction::Unlawful(n) => n as u64,
+                        _ => 0,
+                    })
             }
         }
     }
@@ -127,6 +139,41 @@ pub const ALL: &[Hostile] = &[
         made: |len| Asked::Annotation(ill_first(len), notes(but_first(len))),
         refusal: 0,
     },
+    Hostile {
+        name: "check_auction, every annotation the text",
+        made: |len| Asked::Auction(passing(whole(len), 0), passes(len / 24 - 1, 0, all(len))),
+        refusal: 0,
+    },
+    Hostile {
+        name: "check_auction, FF after every annotation",
+        made: |len| {
+            Asked::Auction(
+                passing(ill_last(len), 0),
+                passes(len / 16, 0, but_last(len)),
+            )
+        },
+        refusal: 0,
+    },
+    Hostile {
+        name: "check_auction, FF before every annotation",
+        made: |len| {
+            Asked::Auction(
+                passing(ill_first(len), 2),
+                passes(len / 16, 2, but_first(len)),
+            )
+        },
+        refusal: 0,
+    },
+    Hostile {
+        name: "check_auction, every byte FF",
+        made: |len| Asked::Auction(vec![0xFF; len], passes(len / 16, 0, but_first(len))),
+        refusal: 6,
+    },
+    Hostile {
+        name: "check_auction, every bid the text but FF",
+        made: |len| Asked::Auction(ill_first(len), call_rows(len / 16, but_first(len))),
+        refusal: 9,
+    },
 ];
 
 /// Those that take time in proportion to the bytes of all spans together. Bytes
@@ -204,14 +251,32 @@ fn but_first(len: usize) -> Span {
     span(1, len)
 }
 
+/// The rows of so many calls, the bid and the annotation of each this span.
+pub fn call_rows(calls: usize, x: Span) -> Vec<u32> {
+    let row: [u32; ROW] = [x.start, x.len, 0, 1, x.start, x.len];
+    row.repeat(calls)
+}
+
 /// A board of so many calls, the bid and the annotation of each this span.
 pub fn board(text: Vec<u8>, calls: usize, x: Span) -> Gathered {
-    let row: [u32; ROW] = [x.start, x.len, 0, 1, x.start, x.len];
     Gathered {
         text,
-        rows: row.repeat(calls),
+        rows: call_rows(calls, x),
         ..Gathered::from(&Board::default())
     }
+}
+
+/// The text with two passes for the character at this place.
+fn passing(mut text: Vec<u8>, at: usize) -> Vec<u8> {
+    text[at..at + 2].copy_from_slice(b"pp");
+    text
+}
+
+/// The rows of so many passes, which stand at this place, the annotation of each this
+/// span.
+fn passes(calls: usize, at: usize, x: Span) -> Vec<u32> {
+    let row: [u32; ROW] = [at as u32, 1, 0, 1, x.start, x.len];
+    row.repeat(calls)
 }
 
 /// Two equal boards.

@@ -65,6 +65,14 @@ pub use lin_spec::PbnCall;
 pub use pbn::from_board;
 pub use pbn_annotation::annotation_text;
 
+// The auction. (02: N1)
+pub use auction::CheckedAuction;
+pub use auction::check_auction;
+pub use bridge_auction::Auction;
+pub use bridge_auction::Contract;
+pub use bridge_auction::Doubling;
+pub use bridge_auction::Strain;
+
 // The lines of a listing. (01: Program linlist)
 pub use listing::list_file;
 pub use listing_lines::board_line;

@@ -19,7 +19,7 @@ use Rattle.lin_spec.specs.Log.{accepts, usedAfter, State, event}
 use Rattle.lin_spec.specs.ThirdDemand.{Typed}
 use Rattle.lin_spec.specs.declared.MaybeClaim.{MaybeClaim}
 use Rattle.lin_spec.specs.declared.Refusal.{Refusal}
-use Rattle.lin_spec.specs.declared.Refusal.the-variants.{TextTooLong, NotUtf8, TooFewRows, NoBoard, SpanPastEnd, SpanNotUtf8, OutputTooSmall, OutOfRange}
+use Rattle.lin_spec.specs.declared.Refusal.the-variants.{TextTooLong, NotUtf8, TooFewRows, NoBoard, SpanPastEnd, SpanNotUtf8, OutputTooSmall, OutOfRange, BidUnknown}
 use Rattle.lin_spec.proofs.Base.{picked, all-map}
 use Rattle.lin_spec.proofs.ThirdDemand.{Allowed, plain-fit, kept-walk}
 use Rattle.lin_host_numbers.specs.Answers.{numbersOf}
@@ -41,6 +41,7 @@ refusal-told SpanPastEnd = refl
 refusal-told SpanNotUtf8 = refl
 refusal-told (OutputTooSmall n) = refl
 refusal-told OutOfRange = refl
+refusal-told (BidUnknown n) = refl
 
 accepts-told : (a : Answer ℕ) → eqb (numbersOf a .refusal) 0 ≡ accepts a
 accepts-told (refused r) = refusal-told r

@@ -1,5 +1,6 @@
 // The entries as C functions on numbers and byte slices, for the Rust host. (01: "Entries on numbers and byte slices are exported ..")
 mod annotations;
+mod auctions;
 mod boards;
 mod converting;
 mod files;
@@ -8,6 +9,7 @@ mod writing;
 
 pub use annotations::LinAnnotation;
 pub use annotations::lin_annotation_text;
+pub use auctions::lin_check_auction;
 pub use boards::lin_parse_heading;
 pub use boards::lin_parse_lin;
 pub use converting::LinConverted;
@@ -23,6 +25,7 @@ pub use files::lin_next_board;
 pub use files::lin_open_boards;
 pub use files::lin_read_board;
 pub use lin_host_numbers::LinAnswer;
+pub use lin_host_numbers::LinAuction;
 pub use lin_host_numbers::LinBoard;
 pub use lin_host_numbers::LinHeading;
 pub use lin_host_numbers::LinPbn;

@@ -1,5 +1,7 @@
-// What the exports take and give, as plain numbers: answers, headings, boards and PBN records, and whether a code is outside its range. (01: Eight refusals; Records; From PBN)
+// What the exports take and give, as plain numbers: answers, headings, boards, auctions and PBN records, and whether a code is outside its range. (01: Eight
+// refusals; Records; From PBN; 02: N1)
 mod answers;
+mod auctions;
 mod boards;
 mod codes;
 mod records;
@@ -7,6 +9,8 @@ mod records;
 pub use answers::LinAnswer;
 pub use answers::refusal;
 pub use answers::written;
+pub use auctions::LinAuction;
+pub use auctions::auction_numbers;
 pub use boards::LinBoard;
 pub use boards::LinHeading;
 pub use boards::LinText;

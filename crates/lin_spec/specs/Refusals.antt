@@ -1,4 +1,4 @@
--- The eight refusals, what each carries, and the order of the checks. (01: Eight refusals)
+-- The refusals, what each carries, and the order of the checks. (01: Eight refusals; 02: N1, "it joins demand 1's eight, 01's table and its order of checks")
 use Prim.Native.Nat.{ℕ, _-_, _^_, min}
 use mathlib.Core.Bool.{Bool, not}
 use mathlib.Core.List.{List, [], _∷_}
@@ -12,7 +12,7 @@ use Rattle.lin_spec.specs.declared.Span.{Span}
 use Rattle.lin_spec.specs.declared.RowKind.{RowKind}
 use Rattle.lin_spec.specs.declared.RowKind.the-variants.{Calls, Cards}
 use Rattle.lin_spec.specs.declared.Refusal.{Refusal}
-use Rattle.lin_spec.specs.declared.Refusal.the-variants.{TextTooLong, NotUtf8, TooFewRows, NoBoard, SpanPastEnd, SpanNotUtf8, OutputTooSmall, OutOfRange}
+use Rattle.lin_spec.specs.declared.Refusal.the-variants.{TextTooLong, NotUtf8, TooFewRows, NoBoard, SpanPastEnd, SpanNotUtf8, OutputTooSmall, OutOfRange, BidUnknown}
 
 -- "calls or cards"
 abbrev pub kindNumber : RowKind → ℕ
@@ -29,6 +29,7 @@ numberOf SpanPastEnd = 5
 numberOf SpanNotUtf8 = 6
 numberOf (OutputTooSmall n) = 7
 numberOf OutOfRange = 8
+numberOf (BidUnknown n) = 9
 
 -- the column "With it": the kind of rows, 0 where it carries none
 abbrev pub kindOf : Refusal → ℕ
@@ -40,8 +41,9 @@ kindOf SpanPastEnd = 0
 kindOf SpanNotUtf8 = 0
 kindOf (OutputTooSmall n) = 0
 kindOf OutOfRange = 0
+kindOf (BidUnknown n) = 0
 
--- and the length or count, 0 where it carries none
+-- and the length, count or index, 0 where it carries none
 abbrev pub carriedOf : Refusal → ℕ
 carriedOf TextTooLong = 0
 carriedOf (NotUtf8 n) = n
@@ -51,6 +53,7 @@ carriedOf SpanPastEnd = 0
 carriedOf SpanNotUtf8 = 0
 carriedOf (OutputTooSmall n) = n
 carriedOf OutOfRange = 0
+carriedOf (BidUnknown n) = n
 
 -- what a call answers: one of the refusals, or its result
 pub data Answer (A : Type 0) : Type 0 where

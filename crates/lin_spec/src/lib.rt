@@ -1,4 +1,4 @@
-// The types that the entries share: spans, boards, refusals and what a writer answers. (01: Records, Eight refusals)
+// The types that the entries share: spans, boards, refusals and what a writer answers. (01: Records, Eight refusals; 02: N1)
 ghost use mathlib.Core.Path.{_≡_};
 ghost use Rattle.lin_spec.specs.Fresh.{freshDeal, freshBoard, refusedHeading};
 ghost use Prim.Native.Nat.{_<_, min};
@@ -28,7 +28,7 @@ pub enum RowKind {
     Cards,
 }
 
-// The eight refusals, with what each carries.
+// The refusals, with what each carries: the eight of 01, and those that the requests of 02 add.
 pub enum Refusal {
     TextTooLong,
     NotUtf8(u64),
@@ -38,10 +38,11 @@ pub enum Refusal {
     SpanNotUtf8,
     OutputTooSmall(u64),
     OutOfRange,
+    BidUnknown(u64),
 }
 
 impl Refusal {
-    // The number that 01 gives it.
+    // The number that 01 or 02 gives it.
     pub fn number(self) -> u32
         ensures { λ r. ⌜ r ≡ numberOf self ⌝ }
     {
@@ -54,6 +55,7 @@ impl Refusal {
             Refusal::SpanNotUtf8 => 6,
             Refusal::OutputTooSmall(_) => 7,
             Refusal::OutOfRange => 8,
+            Refusal::BidUnknown(_) => 9,
         }
     }
 
@@ -73,10 +75,11 @@ impl Refusal {
             Refusal::SpanNotUtf8 => 0,
             Refusal::OutputTooSmall(_) => 0,
             Refusal::OutOfRange => 0,
+            Refusal::BidUnknown(_) => 0,
         }
     }
 
-    // The length or count that it carries, 0 where it carries none.
+    // The length, count or index that it carries, 0 where it carries none.
     pub fn carried(self) -> u64
         ensures { λ r. ⌜ r ≡ carriedOf self ⌝ }
     {
@@ -85,6 +88,7 @@ impl Refusal {
             Refusal::TooFewRows(_, n) => n,
             Refusal::NoBoard(n) => n,
             Refusal::OutputTooSmall(n) => n,
+            Refusal::BidUnknown(n) => n,
             Refusal::TextTooLong => 0,
             Refusal::SpanPastEnd => 0,
             Refusal::SpanNotUtf8 => 0,

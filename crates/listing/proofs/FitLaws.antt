@@ -31,7 +31,7 @@ use Rattle.lin_spec.specs.declared.Span.{Span}
 use Rattle.lin_spec.specs.declared.Seat.{Seat}
 use Rattle.lin_spec.specs.declared.Seat.the-variants.{South, West, North, East}
 use Rattle.lin_spec.specs.declared.Refusal.{Refusal}
-use Rattle.lin_spec.specs.declared.Refusal.the-variants.{TextTooLong, NotUtf8, TooFewRows, NoBoard, SpanPastEnd, SpanNotUtf8, OutputTooSmall, OutOfRange}
+use Rattle.lin_spec.specs.declared.Refusal.the-variants.{TextTooLong, NotUtf8, TooFewRows, NoBoard, SpanPastEnd, SpanNotUtf8, OutputTooSmall, OutOfRange, BidUnknown}
 use Rattle.lin_spec.specs.declared.Written.{Written}
 use Rattle.lin_spec.specs.declared.Written.the-variants.{Length, Refused}
 use Rattle.lin_spec.proofs.Base.{picked, split}
@@ -345,6 +345,7 @@ refusal-most r = let l = refusal-long r in let d = digits-1 (numberOf r) (small 
     small SpanNotUtf8 = omega arith
     small (OutputTooSmall n) = omega arith
     small OutOfRange = omega arith
+    small (BidUnknown n) = omega arith
 
 whole-most : (s : List ℕ) → length s ≤ 65536 → length (header ++ boardLines 0 (fileSpans s)) ≤ 1048576
 whole-most s l =

@@ -1,5 +1,6 @@
-// The answers of the exports, laid into the memory: eight numbers, and a board where there is one. (01: Eight refusals, "With it"; Records)
+// The answers of the exports, laid into the memory: eight numbers, and a board where there is one. (01: Eight refusals, "With it"; Records; 02: N1)
 use lin_host::LinAnswer;
+use lin_host::LinAuction;
 use lin_host::LinBoard;
 use lin_host::LinBoards;
 use lin_host::LinHeading;
@@ -40,6 +41,24 @@ pub fn lay_with(m: &mut [u32; WORDS], a: LinAnswer, d: u64, e: u64, f: u64) {
 
 pub fn lay_answer(m: &mut [u32; WORDS], a: LinAnswer) {
     lay_with(m, a, 0, 0, 0);
+}
+
+// An answer, and the five numbers of the auction.
+pub fn lay_auction(m: &mut [u32; WORDS], a: LinAuction) {
+    let answer = a.answer;
+    lay(
+        m,
+        [
+            answer.refusal as u64,
+            answer.kind as u64,
+            answer.value,
+            a.outcome as u64,
+            a.level as u64,
+            a.strain as u64,
+            a.doubling as u64,
+            a.declarer as u64,
+        ],
+    );
 }
 
 pub fn lay_step(m: &mut [u32; WORDS], s: LinStep) {

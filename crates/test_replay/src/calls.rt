@@ -1,5 +1,6 @@
-// The exports, called with what the memory says is lent, and their answers laid into it. (01: Tokens; Board; File; Writer; From PBN)
+// The exports, called with what the memory says is lent, and their answers laid into it. (01: Tokens; Board; File; Writer; From PBN; 02: N1)
 use crate::answers::lay_answer;
+use crate::answers::lay_auction;
 use crate::answers::lay_boards;
 use crate::answers::lay_heading;
 use crate::answers::lay_part;
@@ -11,6 +12,7 @@ use crate::boards::board_words;
 use crate::boards::record_at;
 use lin_host::lin_annotation_text;
 use lin_host::lin_append;
+use lin_host::lin_check_auction;
 use lin_host::lin_count_boards;
 use lin_host::lin_file_board;
 use lin_host::lin_file_heading;
@@ -204,6 +206,14 @@ fn call_same_board(m: &mut [u32; WORDS], text: &[u8], cards: &[u8], text2: &[u8]
     lay_answer(m, a);
 }
 
+// The auction of the rows, by the dealer of the lent board.
+fn call_check_auction(m: &mut [u32; WORDS], text: &[u8]) {
+    let rows = rows_at(m, ROWS);
+    let n = place(m, ROWS + 1);
+    let dealer = get(m, LENT_BOARD + 8);
+    lay_auction(m, lin_check_auction(text, dealer, some(&rows, n)));
+}
+
 // A board of the record, into an output and into marked rows and places.
 fn call_from_board(m: &mut [u32; WORDS], text: &[u8], plays: &[u8], out: &mut [u8]) {
     let mut rows = [WORD; CALLS];
@@ -254,6 +264,7 @@ pub fn called(call: usize, m: &mut [u32; WORDS], bytes: &[u8; BYTES], out: &mut 
         9 => call_file_board(m, text),
         17 => call_same_board(m, text, cards, text2, cards2),
         18 => call_read_board(m, text),
+        19 => call_check_auction(m, text),
         _ => writing(call, m, text, cards, out),
     }
 }

@@ -1,6 +1,6 @@
-// Replays the stored vectors: the oracle's answers, and the cases by hand from document 01. The steps of a file lend texts, rows and boards, call the exports
-// of `lin_host`, and compare the answers and all that was lent; each group of cases prints a line. (01: "Entries on numbers and byte slices are exported ..";
-// Eight refusals, "All lent memory stays")
+// Replays the stored vectors: the oracle's answers, and the cases by hand from documents 01 and 02. The steps of a file lend texts, rows and boards, call the
+// exports of `lin_host`, and compare the answers and all that was lent; each group of cases prints a line. (01: "Entries on numbers and byte slices are
+// exported .."; Eight refusals, "All lent memory stays")
 mod answers;
 mod boards;
 mod calls;

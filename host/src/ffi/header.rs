@@ -3,7 +3,7 @@
 //! the C compiler accepts it.
 
 use super::*;
-use crate::{boards, pbn, Refusal, RowKind, LIMIT};
+use crate::{auction, boards, pbn, Refusal, RowKind, LIMIT};
 use std::{
     io::Write,
     mem::{align_of, offset_of, size_of},
@@ -150,6 +150,7 @@ layouts! {
     LinRead {
         answer, found, number, start, stop, next_at, next_number, board, calls, cards
     }
+    LinAuction { answer, outcome, level, strain, doubling, declarer }
     LinAnnotation { answer, present }
     LinPbn {
         south, west, north, east, event, date, id, number_given, number, dealer_given, dealer,
@@ -248,6 +249,7 @@ functions! {
     lin_write_lin(_, _, _, _, _, _, _, _, _)
     lin_play_text(_, _, _, _)
     lin_same_board(_, _, _, _, _, _, _, _, _, _, _, _, _, _)
+    lin_check_auction(_, _, _, _, _)
     lin_annotation_text(_, _, _, _, _, _, _)
     lin_from_board(_, _, _, _, _, _, _, _, _, _, _, _, _, _)
 }
@@ -265,6 +267,7 @@ fn constants() -> Vec<(&'static str, u64)> {
         ("LIN_SPAN_NOT_UTF8", Refusal::SpanNotUtf8),
         ("LIN_OUTPUT_TOO_SMALL", Refusal::OutputTooSmall(0)),
         ("LIN_OUT_OF_RANGE", Refusal::OutOfRange),
+        ("LIN_BID_UNKNOWN", Refusal::BidUnknown(0)),
     ];
     let kind = |kind| LinAnswer::from(Refusal::TooFewRows(kind, 0)).kind.into();
     let words = size_of::<pbn::NoteWords>() / size_of::<u32>();
@@ -276,6 +279,11 @@ fn constants() -> Vec<(&'static str, u64)> {
         ("LIN_ACCEPTED", 0),
         ("LIN_CALLS", kind(RowKind::Calls)),
         ("LIN_CARDS", kind(RowKind::Cards)),
+        ("LIN_AUCTION_REFUSED", auction::REFUSED.into()),
+        ("LIN_AUCTION_PASSED_OUT", auction::PASSED_OUT.into()),
+        ("LIN_AUCTION_ENDED", auction::ENDED.into()),
+        ("LIN_AUCTION_OPEN", auction::OPEN.into()),
+        ("LIN_AUCTION_UNLAWFUL", auction::UNLAWFUL.into()),
     ];
     all.extend(refusals.map(|(name, refusal)| (name, refusal.number().into())));
     all

@@ -42,7 +42,7 @@ pub const HIGH: usize = 72;
 /// length; the claim with a flag before it; from word 21 on the counts of the cards
 /// held. A flag is 1 for what is there and 0 for what is absent.
 pub const BOARD: usize = 80;
-/// The board that is lent, laid out as `BOARD`.
+/// The board that is lent, laid out as `BOARD`. Its dealer is that of an auction.
 pub const LENT_BOARD: usize = 320;
 /// The second board that is lent, which the first is compared with.
 pub const LENT_BOARD2: usize = 576;

@@ -1,15 +1,20 @@
 //! Times upstream's calls against the exports, interleaved in one run of one
 //! driver: `bench [RUNS [WORD]]`, over all inputs or those whose name has the
-//! word; and the exports alone over hostile records, for the word `hostile`.
-//! docs/BENCHMARKS.md says what the rows are.
+//! word; the export of auctions against the model, for the word `auctions`; and the
+//! exports alone over hostile records, for the word `hostile`. docs/BENCHMARKS.md
+//! says what the rows are.
 
+mod auctions;
 mod inputs;
 mod works;
 
 use lin_bench::samples::hostile::{self, Hostile};
 use lin_host_rust::LIMIT;
 use std::env;
-use works::Work;
+use works::Times;
+
+/// The word for the calls that upstream has not.
+const AUCTIONS: &str = "auctions";
 
 /// The word for the records that have no match in upstream.
 const HOSTILE: &str = "hostile records";
@@ -20,25 +25,22 @@ fn main() {
     println!(
         "least of {runs} interleaved runs, processor time; growth from 256 KiB to 512 KiB to 1 MiB"
     );
-    line(
-        "",
-        [
-            "bytes",
-            "Rust ms",
-            "exports ms",
-            "ratio",
-            "from bytes",
-            "growth",
-            "",
-        ]
-        .map(str::to_string),
-    );
+    head("Rust ms", "from bytes");
     let word = env::args().nth(2).unwrap_or_default();
     for input in inputs::ALL.iter().filter(|i| i.name.contains(&word)) {
         println!("{}", input.name);
         let texts = [LIMIT / 4, LIMIT / 2, LIMIT].map(|n| input.text(n));
         for work in works::ALL {
-            report(work, &texts, runs);
+            let times = texts.each_ref().map(|text| (work.time)(text, runs));
+            report(work.name, times);
+        }
+    }
+    if AUCTIONS.contains(&word) {
+        println!("{AUCTIONS}");
+        head("model ms", "");
+        for all in auctions::ALL {
+            let times = [LIMIT / 4, LIMIT / 2, LIMIT].map(|len| all.time(len, runs));
+            report(all.name, times);
         }
     }
     if HOSTILE.contains(&word) {
@@ -49,10 +51,23 @@ fn main() {
     }
 }
 
-/// The row of a work: its times over the longest text, and how the exports'
-/// grow with the text.
-fn report(work: &Work, texts: &[String; 3], runs: usize) {
-    let [quarter, half, whole] = texts.each_ref().map(|text| (work.time)(text, runs));
+/// The heads of the columns, with what the exports are timed against.
+fn head(against: &str, from_bytes: &str) {
+    let cells = [
+        "bytes",
+        against,
+        "exports ms",
+        "ratio",
+        from_bytes,
+        "growth",
+        "",
+    ];
+    line("", cells.map(str::to_string));
+}
+
+/// The row of a work by its times over three texts: those over the longest, and how
+/// the exports' grow with the text.
+fn report(name: &str, [quarter, half, whole]: [Times; 3]) {
     let cells = [
         format!("{}", whole.bytes),
         format!("{:.3}", whole.rust),
@@ -64,7 +79,7 @@ fn report(work: &Work, texts: &[String; 3], runs: usize) {
         format!("{:.2}", half.exports / quarter.exports),
         format!("{:.2}", whole.exports / half.exports),
     ];
-    line(work.name, cells);
+    line(name, cells);
 }
 
 /// The row of a hostile record, which upstream's types can't hold.

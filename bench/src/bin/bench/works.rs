@@ -17,7 +17,8 @@ use oracle::{
 use std::hint::black_box;
 
 /// The least times in milliseconds, of upstream and of the exports, over so
-/// many bytes read or written.
+/// many bytes read or written; or of the model, in plain Rust, where upstream has no
+/// such call.
 pub struct Times {
     pub bytes: usize,
     pub rust: f64,
@@ -113,7 +114,7 @@ pub const ALL: &[Work] = &[
 
 /// Both timed in turn, after their answers were held to be the same. What they
 /// give is dropped within the clock.
-fn in_turn<A, B>(
+pub fn in_turn<A, B>(
     bytes: usize,
     runs: usize,
     mut rust: impl FnMut() -> A,

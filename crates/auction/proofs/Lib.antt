@@ -1,0 +1,7 @@
+pub mod BidLaws
+pub mod Cases
+pub mod CheckLaws
+pub mod FollowRowLaws
+pub mod NineLaws
+pub mod ReadingLaws
+pub mod SearchLaws

@@ -1,0 +1,3 @@
+pub mod Bids
+pub mod Check
+pub mod CheckMeaning
