@@ -4,7 +4,7 @@ use mathlib.Core.Bool.{Bool, _||_}
 use mathlib.Core.List.{List, [], _∷_, map}
 use mathlib.Core.Option.{Option, none, some}
 use Rattle.lin_spec.specs.Base.{any}
-use Rattle.lin_spec.specs.Records.{span, bytesAt}
+use Rattle.lin_spec.specs.Records.{bytesAt}
 use Rattle.lin_spec.specs.Refusals.{Answer, refuseIf, unless, tooLong, pastEnd, spanNotUtf8}
 use Rattle.lin_spec.specs.Refusals.Answer.{refused, accepted}
 use Rattle.lin_spec.specs.Board.{mapOption}
