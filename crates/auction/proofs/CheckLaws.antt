@@ -1,10 +1,9 @@
 -- The answer of the check: a fresh board's calls are put to 1, 8, 5 and 6, then 9 is looked for, then the laws of the auction. (02: N1) Assumes nothing.
 use Prim.Native.Nat.{ℕ}
 use native.Mathlib.Omega.{arith}
-use mathlib.Core.Path.{_≡_, refl, ap, sym, _∙_}
+use mathlib.Core.Path.{_≡_, refl, ap, sym}
 use mathlib.Core.Bool.{Bool, false, _||_}
 use mathlib.Core.List.{List, [], _∷_, map}
-use mathlib.Core.Option.{none, some}
 use lib.ListN.{length}
 use borrow.Author.Tests.{le-ltb}
 use Rattle.lin_spec.specs.Base.{any}
@@ -15,7 +14,6 @@ use Rattle.lin_spec.specs.Utf8.{utf8, utf}
 use Rattle.lin_spec.specs.Fresh.{freshBoard}
 use Rattle.lin_spec.specs.Lent.{callRows, callIn, Lent, lent, lentBoard, callSpans, lentSpans, badFlag, badNumber, lentChecks}
 use Rattle.lin_spec.specs.declared.Span.{Span}
-use Rattle.lin_spec.specs.declared.Call.{Call}
 use Rattle.lin_spec.specs.declared.Seat.{Seat}
 use Rattle.lin_spec.specs.declared.Verdict.{Verdict}
 use Rattle.lin_spec.specs.declared.Verdict.the-variants.{Accepted, Refused}

@@ -3,12 +3,11 @@ use Prim.Native.Nat.{ℕ, suc, _+_, _-_, _/_, _%_, _≤_, _<_}
 use native.Mathlib.Omega.{arith}
 use mathlib.Core.Path.{_≡_, refl, ap, sym, _∙_}
 use mathlib.Core.Bool.{Bool, true, false}
-use mathlib.Core.List.{List, [], _∷_, map}
-use mathlib.Core.Option.{Option, none, some}
+use mathlib.Core.List.{List, [], _∷_}
+use mathlib.Core.Option.{none, some}
 use lib.ListN.{length, drop}
 use Rattle.lin_spec.specs.Records.{bytesAt}
 use Rattle.lin_spec.specs.Lent.{callRows}
-use Rattle.lin_spec.specs.declared.Call.{Call}
 use Rattle.board_lent.specs.Calls.{callAt}
 use Rattle.board_lent.proofs.LentLaws.{rows-cons, rows-end}
 use Rattle.auction.specs.Bids.{readBid, known, unknownFrom}

@@ -2,9 +2,9 @@
 use Prim.Native.Nat.{ℕ, _+_, _≤_}
 use mathlib.Core.Path.{_≡_}
 use mathlib.Core.Bool.{Bool, true, false}
-use mathlib.Core.List.{List, _∷_, _++_, map}
+use mathlib.Core.List.{List, [], _∷_, _++_, map}
 use lib.ListN.{length}
-use Rattle.lin_spec.specs.Base.{All, any}
+use Rattle.lin_spec.specs.Base.{All, any, concat, ascii}
 use Rattle.lin_spec.specs.Records.{limit}
 use Rattle.lin_spec.specs.Refusals.{passesEnd, illSpan}
 use Rattle.lin_spec.specs.Lent.{callIn, callSpans, badFlag}
@@ -13,6 +13,16 @@ use Rattle.bridge_auction.specs.AuctionMeaning.{Real}
 use Rattle.auction.specs.Bids.{readBid, known}
 use Rattle.auction.specs.declared.bids.BidRead.{BidRead}
 use Rattle.auction.specs.declared.bids.BidRead.the-variants.{Call as Said, Unknown}
+
+-- "C, D, H, S, N or NT", and all forms, in small letters: "p, d, r, or a level 1 to 7 with" a strain
+unfoldable pub strainWords : List (List ℕ)
+strainWords = ascii "c" ∷ ascii "d" ∷ ascii "h" ∷ ascii "s" ∷ ascii "n" ∷ ascii "nt" ∷ []
+
+abbrev pub bidWords : (digits : List ℕ) → List (List ℕ)
+bidWords ls = concat (map (λ (l : ℕ). map (λ (t : List ℕ). l ∷ t) strainWords) ls)
+
+unfoldable pub forms : List (List ℕ)
+forms = ascii "p" ∷ ascii "d" ∷ ascii "r" ∷ bidWords (ascii "1234567")
 
 -- "a level 1 to 7", of what was read
 abbrev pub RealRead : BidRead → Type 0

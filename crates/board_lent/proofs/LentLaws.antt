@@ -185,7 +185,7 @@ module _ (c : Call) (m : ℕ) where
 
 -- All spans: the names, the texts that may be absent, and those of the calls
 
-any-append : {A : Type 0} (f : A → Bool) (x y : List A) → any f (x ++ y) ≡ (any f x || any f y)
+pub any-append : {A : Type 0} (f : A → Bool) (x y : List A) → any f (x ++ y) ≡ (any f x || any f y)
 unfolding any
 any-append f [] y = refl
 any-append f (a ∷ x) y = ap (λ (t : Bool). f a || t) (any-append f x y) ∙ sym (or-assoc (f a) (any f x) (any f y))

@@ -1,7 +1,6 @@
 -- `lin_host::lin_check_auction` meets its contract: the numbers of the entry's answer, for the seat of the dealer's code.
 -- Assumes nothing.
-use mathlib.Core.Path.{_≡_, sym, ap, _∙_}
-use mathlib.Core.Bool.{Bool}
+use mathlib.Core.Path.{ap, _∙_}
 use lib.Dec.{ltb}
 use denote.Ref.{now}
 use borrow.Author.Needs.{needs}
