@@ -16,7 +16,7 @@ use Rattle.bridge_auction.specs.declared.calls.AuctionCall.the-variants.{Bid}
 use Rattle.auction.specs.declared.bids.StrainRead.{StrainRead}
 use Rattle.auction.specs.declared.bids.StrainRead.the-variants.{Named, Unnamed}
 use Rattle.auction.specs.declared.bids.BidRead.{BidRead}
-use Rattle.auction.specs.declared.bids.BidRead.the-variants.{Call, Unknown}
+use Rattle.auction.specs.declared.bids.BidRead.the-variants.{Known, Unknown}
 
 -- A level with a strain
 
@@ -28,7 +28,7 @@ pub level-high : (b : ℕ) (n : StrainRead) (t : Strain) → n ≡ Named t → 4
 unfolding bidBy
 level-high b n t e l h = rw e (simp (le-leb 49 b l, lt-leb b 55 h))
 
-pub level-fits : (b : ℕ) (n : StrainRead) (t : Strain) → n ≡ Named t → 49 ≤ b → b ≤ 55 → Call (Bid (b - 48) t) ≡ bidBy b n
+pub level-fits : (b : ℕ) (n : StrainRead) (t : Strain) → n ≡ Named t → 49 ≤ b → b ≤ 55 → Known (Bid (b - 48) t) ≡ bidBy b n
 unfolding bidBy
 level-fits b n t e l h = rw e (simp (le-leb 49 b l, le-leb b 55 h))
 

@@ -1,4 +1,4 @@
--- Auctions as a narrator would write them, and what is answered, by computation. (02: N1) Assumes nothing.
+-- Auctions as texts of bids, and what is answered, by computation. (02: N1) Assumes nothing.
 use Prim.Native.Nat.{ℕ}
 use Prim.Native.String.{String}
 use mathlib.Core.Path.{_≡_, refl}
@@ -20,7 +20,7 @@ use Rattle.bridge_auction.specs.declared.calls.Doubling.the-variants.{Undoubled
 use Rattle.bridge_auction.specs.declared.calls.Auction.{Auction}
 use Rattle.bridge_auction.specs.declared.calls.Auction.the-variants.{PassedOut, Ended, Open, Unlawful}
 use Rattle.auction.specs.Bids.{strainBy, bidBy, levelAndStrain, readLower, readBid, known, unknownFrom, callBy, callsOf}
-use Rattle.auction.specs.Check.{judged}
+use Rattle.auction.specs.Judging.{judged}
 
 -- the words of a text, cut at each space
 unfoldable pub grow : ℕ → List (List ℕ) → List (List ℕ)
@@ -83,10 +83,10 @@ cases =
     ∷ ("" ⇏ 0)
     ∷ []
 
--- the traps, and 9 before any law: `d` is unlawful in `p d zz`, and `zz` comes after the end in `p p p p zz`
-pub traps : map (λ (k : Case). judged South (words (ascii (k .text)))) cases ≡ map (λ (k : Case). k .is) cases
+-- each is answered as it should be, and 9 comes before any law: `d` is unlawful in `p d zz`, and `zz` comes after the end in `p p p p zz`
+pub answers-right : map (λ (k : Case). judged South (words (ascii (k .text)))) cases ≡ map (λ (k : Case). k .is) cases
 unfolding cases _⇒_ _⇏_ in-contract judged unless callsOf words grow any all keep eqAll lower names rank lastBid latest passes opponents opened ended follows lawful lastBidAt namesFor hasNamed firstNamed declaring caller declarer contract outcome auctionAfter auction strainBy bidBy levelAndStrain readLower readBid unknownFrom
-traps = refl
+answers-right = refl
 
 -- "Starting from the dealer": North deals, and East was the first of the last bidder's side to name clubs
 pub north-deals : judged North (words (ascii "1C 2C p 3C p p p")) ≡ accepted (in-contract 3 Clubs Undoubled East)

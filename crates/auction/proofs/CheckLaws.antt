@@ -1,7 +1,7 @@
 -- The answer of the check: a fresh board's calls are put to 1, 8, 5 and 6, then 9 is looked for, then the laws of the auction. (02: N1) Assumes nothing.
 use Prim.Native.Nat.{ℕ}
 use native.Mathlib.Omega.{arith}
-use mathlib.Core.Path.{_≡_, refl, ap, sym}
+use mathlib.Core.Path.{_≡_, refl, sym}
 use mathlib.Core.Bool.{Bool, false, _||_}
 use mathlib.Core.List.{List, [], _∷_, map}
 use lib.ListN.{length}
@@ -26,7 +26,8 @@ use Rattle.board_lent.proofs.LentLaws.{check-refuses, check-passes}
 use Rattle.bridge_auction.specs.Auction.{auction}
 use Rattle.bridge_auction.specs.declared.calls.Auction.{Auction}
 use Rattle.auction.specs.Bids.{unknownFrom, callsOf}
-use Rattle.auction.specs.Check.{bidsOf, bidUnknown, judged, checkAuction, searchOf}
+use Rattle.auction.specs.Check.{bidsOf, bidUnknown, checkAuction}
+use Rattle.auction.specs.Judging.{searchOf, judged}
 use Rattle.auction.specs.declared.check.BidSearch.{BidSearch}
 use Rattle.auction.specs.declared.check.BidSearch.the-variants.{Found, AllKnown}
 

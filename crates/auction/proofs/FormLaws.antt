@@ -1,7 +1,7 @@
 -- A bid is read exactly where its bytes, in small letters, are one of the 45 forms. (02: N1, "Read each bid, ignoring ASCII case, ..") Assumes nothing.
 use Prim.Native.Nat.{ℕ, _≤_, _<_}
 use native.Mathlib.Omega.{arith}
-use mathlib.Core.Path.{_≡_, refl, ap, sym, _∙_}
+use mathlib.Core.Path.{_≡_, refl, sym, _∙_}
 use mathlib.Core.Bool.{Bool, true, false, _&&_, _||_, and-false, or-assoc}
 use mathlib.Core.List.{List, [], _∷_, map}
 use lib.Dec.{eqb, leb}
@@ -18,11 +18,11 @@ use Rattle.auction.specs.CheckMeaning.{strainWords, bidWords, forms}
 use Rattle.auction.specs.declared.bids.StrainRead.{StrainRead}
 use Rattle.auction.specs.declared.bids.StrainRead.the-variants.{Named, Unnamed}
 use Rattle.auction.specs.declared.bids.BidRead.{BidRead}
-use Rattle.auction.specs.declared.bids.BidRead.the-variants.{Call as Said, Unknown}
+use Rattle.auction.specs.declared.bids.BidRead.the-variants.{Known, Unknown}
 
 -- What is read, as a test
 
-known-pick : (t : Bool) (c : AuctionCall) (r : BidRead) → known (pick t (Said c) r) ≡ (t || known r)
+known-pick : (t : Bool) (c : AuctionCall) (r : BidRead) → known (pick t (Known c) r) ≡ (t || known r)
 known-pick true c r = refl
 known-pick false c r = refl
 
@@ -38,7 +38,7 @@ strain-words : (u : List ℕ) → isNamed (strainBy u) ≡ any (eqList u) strain
 unfolding strainBy strainWords any
 strain-words u = simp (named-pick, or-assoc)
 
-known-some : (t : Bool) (c : AuctionCall) → known (pick t (Said c) Unknown) ≡ t
+known-some : (t : Bool) (c : AuctionCall) → known (pick t (Known c) Unknown) ≡ t
 known-some true c = refl
 known-some false c = refl
 

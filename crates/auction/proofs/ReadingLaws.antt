@@ -1,6 +1,6 @@
 -- What is read of bids: levels 1 to 7, so that at most 35 bids are lawful, and the least index of what is none. (02: N1)
 -- Assumes nothing.
-use Prim.Native.Nat.{ℕ, suc, _+_, _-_, _≤_}
+use Prim.Native.Nat.{ℕ, suc, _+_, _≤_}
 use native.Mathlib.Omega.{arith}
 use mathlib.Core.Path.{_≡_, refl, ap}
 use mathlib.Core.Bool.{Bool, true, false, _&&_}
@@ -12,16 +12,19 @@ use borrow.Author.Tests.{leb-true}
 use Rattle.lin_spec.specs.Base.{All, countIf, eqList, ascii}
 use Rattle.lin_spec.specs.White.{lower}
 use Rattle.lin_spec.proofs.Base.{and-left, and-right, picked}
-use Rattle.bridge_auction.specs.Auction.{isBid}
+use Rattle.bridge_auction.specs.Auction.{isBid, auction}
 use Rattle.bridge_auction.specs.AuctionMeaning.{Real, NoneUnlawful}
 use Rattle.auction.specs.CheckMeaning.{RealRead, FirstUnknown, AllForms}
 use Rattle.auction.specs.Bids.{strainBy, bidBy, levelAndStrain, readLower, readBid, known, unknownFrom, callBy, callsOf}
 use Rattle.lin_spec.specs.declared.Seat.{Seat}
+use Rattle.bridge_auction.specs.declared.calls.Contract.{Contract}
+use Rattle.bridge_auction.specs.declared.calls.Auction.the-variants.{Ended}
 use Rattle.auction.specs.declared.bids.StrainRead.{StrainRead}
 use Rattle.auction.specs.declared.bids.StrainRead.the-variants.{Named, Unnamed}
 use Rattle.auction.specs.declared.bids.BidRead.{BidRead}
-use Rattle.auction.specs.declared.bids.BidRead.the-variants.{Call as Said, Unknown}
-use Rattle.bridge_auction.proofs.AuctionLaws.{auction-at-most-35}
+use Rattle.auction.specs.declared.bids.BidRead.the-variants.{Known, Unknown}
+use Rattle.bridge_auction.proofs.AuctionLaws.{auction-at-most-35, auction-level}
+use Rattle.bridge_auction.proofs.LengthLaws.{auction-at-most-319}
 
 -- "a level 1 to 7"
 bid-real : (b : ℕ) (n : StrainRead) → RealRead (bidBy b n)
@@ -46,7 +49,7 @@ read-real s =
     (λ _. level-real (map lower s))))
 
 call-real : (r : BidRead) → RealRead r → Real (callBy r)
-call-real (Said c) h = h
+call-real (Known c) h = h
 call-real Unknown h = tt
 
 pub calls-real : (ss : List (List ℕ)) → All Real (callsOf ss)
@@ -57,6 +60,19 @@ calls-real (s ∷ ss) = (call-real (readBid s) (read-real s), calls-real ss)
 -- so an auction without an unlawful call has at most 35 bids
 pub read-at-most-35 : (d : Seat) (ss : List (List ℕ)) → NoneUnlawful d (callsOf ss) → countIf isBid (callsOf ss) ≤ 35
 read-at-most-35 d ss l = auction-at-most-35 d (callsOf ss) l (calls-real ss)
+
+calls-long : (ss : List (List ℕ)) → length (callsOf ss) ≡ length ss
+unfolding callsOf
+calls-long [] = refl
+calls-long (s ∷ ss) = ap suc (calls-long ss)
+
+-- and at most 319 calls
+pub read-at-most-319 : (d : Seat) (ss : List (List ℕ)) → NoneUnlawful d (callsOf ss) → length ss ≤ 319
+read-at-most-319 d ss l = omega (arith, auction-at-most-319 d (callsOf ss) l (calls-real ss), calls-long ss)
+
+-- and its contract has a level 1 to 7
+pub read-level : (d : Seat) (ss : List (List ℕ)) (c : Contract) → auction d (callsOf ss) ≡ Ended c → (1 ≤ c .level) × (c .level ≤ 7)
+read-level d ss c e = auction-level d (callsOf ss) c (calls-real ss) e
 
 -- "with the least such index", and no other
 pub unknown-first : (i : ℕ) (ss : List (List ℕ)) (j : ℕ) → unknownFrom i ss ≡ some j → FirstUnknown i ss j

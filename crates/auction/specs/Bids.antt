@@ -13,7 +13,7 @@ use Rattle.bridge_auction.specs.declared.calls.AuctionCall.the-variants.{Pass, 
 use Rattle.auction.specs.declared.bids.StrainRead.{StrainRead}
 use Rattle.auction.specs.declared.bids.StrainRead.the-variants.{Named, Unnamed}
 use Rattle.auction.specs.declared.bids.BidRead.{BidRead}
-use Rattle.auction.specs.declared.bids.BidRead.the-variants.{Call, Unknown}
+use Rattle.auction.specs.declared.bids.BidRead.the-variants.{Known, Unknown}
 
 -- "C, D, H, S, N or NT", in small letters
 unfoldable pub strainBy : List ℕ → StrainRead
@@ -27,9 +27,10 @@ strainBy w =
 
 -- "a level 1 to 7 with" a strain
 unfoldable pub bidBy : (digit : ℕ) → StrainRead → BidRead
-bidBy b (Named t) = pick (leb (code "1") b && leb b (code "7")) (Call (Bid (b - code "0") t)) Unknown
+bidBy b (Named t) = pick (leb (code "1") b && leb b (code "7")) (Known (Bid (b - code "0") t)) Unknown
 bidBy b Unnamed = Unknown
 
+-- the digit of a level, and the rest as a strain
 unfoldable pub levelAndStrain : List ℕ → BidRead
 levelAndStrain [] = Unknown
 levelAndStrain (b ∷ w) = bidBy b (strainBy w)
@@ -37,9 +38,9 @@ levelAndStrain (b ∷ w) = bidBy b (strainBy w)
 -- "as p, d, r, or a level 1 to 7 with" a strain
 unfoldable pub readLower : List ℕ → BidRead
 readLower w =
-    pick (eqList w (ascii "p")) (Call Pass)
-    (pick (eqList w (ascii "d")) (Call Double)
-    (pick (eqList w (ascii "r")) (Call Redouble)
+    pick (eqList w (ascii "p")) (Known Pass)
+    (pick (eqList w (ascii "d")) (Known Double)
+    (pick (eqList w (ascii "r")) (Known Redouble)
     (levelAndStrain w)))
 
 -- "Read each bid, ignoring ASCII case"
@@ -48,7 +49,7 @@ readBid s = readLower (map lower s)
 
 -- the bid is of one of these forms
 abbrev pub known : BidRead → Bool
-known (Call c) = true
+known (Known c) = true
 known Unknown = false
 
 -- "9, a bid is none of these forms, with the least such index": of bids of which the first has the index i
@@ -56,9 +57,9 @@ unfoldable pub unknownFrom : (i : ℕ) → (bids : List (List ℕ)) → Option �
 unknownFrom i [] = none
 unknownFrom i (s ∷ ss) = pick (known (readBid s)) (unknownFrom (suc i) ss) (some i)
 
--- the calls of bids that are all of these forms
+-- the calls of bids that are all of these forms; one that is not would be a pass
 abbrev pub callBy : BidRead → AuctionCall
-callBy (Call c) = c
+callBy (Known c) = c
 callBy Unknown = Pass
 
 unfoldable pub callsOf : (bids : List (List ℕ)) → List AuctionCall

@@ -2,7 +2,7 @@
 use Prim.Native.Nat.{ℕ}
 use mathlib.Core.Bool.{Bool, _||_}
 use mathlib.Core.List.{List, [], _∷_, map}
-use mathlib.Core.Option.{Option, none, some}
+use mathlib.Core.Option.{Option}
 use Rattle.lin_spec.specs.Base.{any}
 use Rattle.lin_spec.specs.Records.{bytesAt}
 use Rattle.lin_spec.specs.Refusals.{Answer, refuseIf, unless, tooLong, pastEnd, spanNotUtf8}
@@ -16,8 +16,6 @@ use Rattle.lin_spec.specs.declared.Refusal.the-variants.{OutOfRange, BidUnknown
 use Rattle.bridge_auction.specs.Auction.{auction}
 use Rattle.bridge_auction.specs.declared.calls.Auction.{Auction}
 use Rattle.auction.specs.Bids.{unknownFrom, callsOf}
-use Rattle.auction.specs.declared.check.BidSearch.{BidSearch}
-use Rattle.auction.specs.declared.check.BidSearch.the-variants.{Found, AllKnown}
 use Rattle.auction.specs.declared.check.CheckedAuction.{CheckedAuction}
 use Rattle.auction.specs.declared.check.CheckedAuction.the-variants.{Checked, Refused}
 
@@ -34,8 +32,8 @@ abbrev pub checkedOf : CheckedAuction → Answer Auction
 checkedOf (Checked a) = accepted a
 checkedOf (Refused r) = refused r
 
--- 1, 8, 5, 6 and 9, "checked after 5 and 6", each over all calls: their flags, the texts of their bids and annotations. `other` says whether another
--- number of the call is outside its range. Only then are the laws of the auction looked at.
+-- 1, 8, 5, 6 and 9, "checked after 5 and 6", each over all calls: their flags, the texts of their bids and annotations. `other` says whether
+-- another number of the call, the dealer's code of the export, is outside its range; the entry has none. Only then are the laws of the auction looked at.
 unfoldable pub checkAuction : (other : Bool) (text : List ℕ) → (dealer : Seat) → List Call → Answer Auction
 checkAuction other s d cs =
     let xs = callSpans (map callIn cs) in
@@ -43,12 +41,3 @@ checkAuction other s d cs =
     unless
     (tooLong s ∷ refuseIf (other || any badFlag cs) OutOfRange ∷ pastEnd s xs ∷ spanNotUtf8 s xs ∷ bidUnknown bs ∷ [])
     (auction d (callsOf bs))
-
--- the answer where 1, 8, 5 and 6 are passed
-unfoldable pub judged : (dealer : Seat) (bids : List (List ℕ)) → Answer Auction
-judged d bs = unless (bidUnknown bs ∷ []) (auction d (callsOf bs))
-
--- what the search for such a bid gives
-abbrev pub searchOf : BidSearch → Option ℕ
-searchOf (Found k) = some k
-searchOf AllKnown = none

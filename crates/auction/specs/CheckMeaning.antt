@@ -12,7 +12,7 @@ use Rattle.lin_spec.specs.declared.Call.{Call}
 use Rattle.bridge_auction.specs.AuctionMeaning.{Real}
 use Rattle.auction.specs.Bids.{readBid, known}
 use Rattle.auction.specs.declared.bids.BidRead.{BidRead}
-use Rattle.auction.specs.declared.bids.BidRead.the-variants.{Call as Said, Unknown}
+use Rattle.auction.specs.declared.bids.BidRead.the-variants.{Known, Unknown}
 
 -- "C, D, H, S, N or NT", and all forms, in small letters: "p, d, r, or a level 1 to 7 with" a strain
 unfoldable pub strainWords : List (List ℕ)
@@ -26,7 +26,7 @@ forms = ascii "p" ∷ ascii "d" ∷ ascii "r" ∷ bidWords (ascii "1234567")
 
 -- "a level 1 to 7", of what was read
 abbrev pub RealRead : BidRead → Type 0
-RealRead (Said c) = Real c
+RealRead (Known c) = Real c
 RealRead Unknown = Unit
 
 -- "a bid is none of these forms, with the least such index": counted from i, those before j are of the forms, and j's is not

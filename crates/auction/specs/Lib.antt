@@ -1,3 +1,4 @@
 pub mod Bids
 pub mod Check
 pub mod CheckMeaning
+pub mod Judging

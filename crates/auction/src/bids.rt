@@ -14,7 +14,7 @@ pub enum StrainRead {
 
 // The call that a bid's bytes are, if they are one.
 pub enum BidRead {
-    Call(AuctionCall),
+    Known(AuctionCall),
     Unknown,
 }
 
@@ -23,13 +23,13 @@ fn read_letter(b: u8) -> BidRead
     ensures { λ r. ⌜ r ≡ readLower (b ∷ []) ⌝ }
 {
     if b == b'p' {
-        return BidRead::Call(AuctionCall::Pass);
+        return BidRead::Known(AuctionCall::Pass);
     }
     if b == b'd' {
-        return BidRead::Call(AuctionCall::Double);
+        return BidRead::Known(AuctionCall::Double);
     }
     if b == b'r' {
-        return BidRead::Call(AuctionCall::Redouble);
+        return BidRead::Known(AuctionCall::Redouble);
     }
     BidRead::Unknown
 }
@@ -68,7 +68,7 @@ fn bid_by(b: u8, n: StrainRead) -> BidRead
             if b'7' < b {
                 return BidRead::Unknown;
             }
-            BidRead::Call(AuctionCall::Bid(b - b'0', t))
+            BidRead::Known(AuctionCall::Bid(b - b'0', t))
         }
         StrainRead::Unnamed => BidRead::Unknown,
     }

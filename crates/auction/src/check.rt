@@ -24,7 +24,8 @@ ghost use Rattle.lin_spec.specs.Lent.{callRows};
 ghost use Rattle.board_lent.specs.Calls.{callAt};
 ghost use Rattle.bridge_auction.specs.Auction.{auction};
 ghost use Rattle.auction.specs.Bids.{readBid, known, callBy, unknownFrom, callsOf};
-ghost use Rattle.auction.specs.Check.{bidsOf, checkedOf, checkAuction, searchOf, judged};
+ghost use Rattle.auction.specs.Check.{bidsOf, checkedOf, checkAuction};
+ghost use Rattle.auction.specs.Judging.{searchOf, judged};
 
 // What the check of an auction answers: one of the four results, or why the call was refused.
 pub enum CheckedAuction {
@@ -51,7 +52,7 @@ fn is_known(b: BidRead) -> bool
     ensures { λ r. ⌜ r ≡ known b ⌝ }
 {
     match b {
-        BidRead::Call(_) => true,
+        BidRead::Known(_) => true,
         BidRead::Unknown => false,
     }
 }
@@ -61,7 +62,7 @@ fn call_by(b: BidRead) -> AuctionCall
     ensures { λ r. ⌜ r ≡ callBy b ⌝ }
 {
     match b {
-        BidRead::Call(c) => c,
+        BidRead::Known(c) => c,
         BidRead::Unknown => AuctionCall::Pass,
     }
 }

@@ -1,6 +1,6 @@
 -- What the answer about a list of calls means: the least index of an unlawful call, nothing lawful after the end, bids that rise and are at
 -- most 35, the doubling, the level. (02: N1, "lawful and ended, lawful and open, or the index of the first unlawful call") Assumes nothing.
-use Prim.Native.Nat.{ℕ, suc, _+_, _-_, _<_, _≤_}
+use Prim.Native.Nat.{ℕ, suc, _+_, _<_, _≤_}
 use native.Mathlib.Omega.{arith}
 use mathlib.Core.Path.{_≡_, refl, ap, sym, _∙_}
 use mathlib.Core.Bool.{Bool, true, false, false≢true}
@@ -18,8 +18,9 @@ use Rattle.bridge_auction.specs.declared.calls.Strain.{Strain}
 use Rattle.bridge_auction.specs.declared.calls.AuctionCall.{AuctionCall}
 use Rattle.bridge_auction.specs.declared.calls.AuctionCall.the-variants.{Pass, Double, Redouble, Bid}
 use Rattle.bridge_auction.specs.declared.calls.Doubling.the-variants.{Undoubled}
+use Rattle.bridge_auction.specs.declared.calls.Contract.{Contract}
 use Rattle.bridge_auction.specs.declared.calls.Auction.{Auction}
-use Rattle.bridge_auction.specs.declared.calls.Auction.the-variants.{Unlawful}
+use Rattle.bridge_auction.specs.declared.calls.Auction.the-variants.{PassedOut, Ended, Open, Unlawful}
 use Rattle.bridge_auction.proofs.NameLaws.{five}
 
 -- One call
@@ -217,7 +218,27 @@ contract-level d (Double ∷ h) a e = contract-level d h (a .1) e
 contract-level d (Redouble ∷ h) a e = contract-level d h (a .1) e
 contract-level d (Bid l t ∷ h) a e = a .0
 
--- "a double must follow an opponent's bid and a redouble an opponent's double"
+-- "An ended auction with a bid also gives the contract": that of its calls
+outcome-contract : (d : Seat) (h : List AuctionCall) (c : Contract) → outcome d h ≡ Ended c → (opened h ≡ true) × (c ≡ contract d h)
+unfolding outcome
+outcome-contract d h c e = go (ended h) refl (opened h) refl
+  where
+    go : (b : Bool) → ended h ≡ b → (a : Bool) → opened h ≡ a → (opened h ≡ true) × (c ≡ contract d h)
+    go true i true o = let z : Ended (contract d h) ≡ Ended c = simp (i, o) at e in let y : contract d h ≡ c = cc in (o, sym y)
+    go true i false o = let z : PassedOut ≡ Ended c = simp (i, o) at e in absurd (let y : _≡_ {A = ℕ} 0 1 = cc in omega arith)
+    go false i a o = let z : Open ≡ Ended c = simp i at e in absurd (let y : _≡_ {A = ℕ} 0 1 = cc in omega arith)
+
+pub auction-contract : (d : Seat) (s : List AuctionCall) (c : Contract) → auction d s ≡ Ended c → (opened (reverse s) ≡ true) × (c ≡ contract d (reverse s))
+auction-contract d s c e = outcome-contract d (reverse s) c (sym (auction-outcome d s none-unlawful) ∙ e)
+  where
+    none-unlawful : NoneUnlawful d s
+    none-unlawful i f = let z : Ended c ≡ Unlawful i = sym e ∙ f in let y : _≡_ {A = ℕ} 0 1 = cc in omega arith
+
+-- the level of a contract of an auction whose bids have levels 1 to 7
+pub auction-level : (d : Seat) (s : List AuctionCall) (c : Contract) → All Real s → auction d s ≡ Ended c → (1 ≤ c .level) × (c .level ≤ 7)
+auction-level d s c a e = let k = auction-contract d s c e in rw (k .1) (contract-level d (reverse s) (all-turned Real s [] a tt) (k .0))
+
+-- a lawful double has a bid, and a lawful redouble a double, for the latest call that is no pass
 pub double-follows : (h : List AuctionCall) → lawful h Double ≡ true → isBid (latest h) ≡ true
 unfolding follows
 double-follows h e = and-left _ _ (lawful-follows h Double e)
@@ -271,4 +292,8 @@ below-four n p k e = omega (arith, leb-false n p e)
 
 pub few-passes : (h : List AuctionCall) → ended h ≡ false → passes h ≤ 3
 unfolding ended
-few-passes h e = below-four _ _ (picked (λ (n : ℕ). n ≤ 4) (opened h) (λ _. omega arith) (λ _. omega arith)) e
+few-passes h e = go (opened h) refl
+  where
+    go : (b : Bool) → opened h ≡ b → passes h ≤ 3
+    go true i = below-four 3 (passes h) (omega arith) (simp i at e)
+    go false i = below-four 4 (passes h) (omega arith) (simp i at e)

@@ -1,6 +1,6 @@
--- The declarer is the first of the last bidder's side to name the strain, and an opponent's call is one of the other side.
+-- The declarer is the first of the last bidder's side to name the strain.
 -- (02: N1, "declarer, the first of the last bidder's side to name its strain") Assumes nothing.
-use Prim.Native.Nat.{ℕ, suc, _+_, _-_, _%_, _<_}
+use Prim.Native.Nat.{ℕ, _+_, _%_, _<_}
 use native.Mathlib.Omega.{arith}
 use mathlib.Core.Path.{_≡_, refl, ap, sym, _∙_}
 use mathlib.Core.Bool.{Bool, true, false, false≢true}
@@ -12,7 +12,7 @@ use Rattle.lin_spec.specs.Letters.{seatNumber}
 use Rattle.lin_spec.specs.declared.Seat.{Seat}
 use Rattle.lin_spec.proofs.Base.{and-left, and-right}
 use Rattle.lin_spec.proofs.Seats.{seat-number}
-use Rattle.bridge_auction.specs.Auction.{isPass, names, lastBid, latest, passes, opponents, opened, lastBidAt, strainOf, namesFor, hasNamed, firstNamed, declaring, caller, declarer, contract}
+use Rattle.bridge_auction.specs.Auction.{isBid, names, lastBid, latest, opened, lastBidAt, strainOf, namesFor, hasNamed, firstNamed, declaring, caller, declarer, contract}
 use Rattle.bridge_auction.specs.AuctionMeaning.{madeAt, FirstToName, SameSide, Declares}
 use Rattle.bridge_auction.specs.declared.calls.Strain.{Strain}
 use Rattle.bridge_auction.specs.declared.calls.AuctionCall.{AuctionCall}
@@ -20,14 +20,14 @@ use Rattle.bridge_auction.specs.declared.calls.AuctionCall.the-variants.
 use Rattle.bridge_auction.proofs.NameLaws.{last-named}
 
 -- the latest call, and an earlier one
-call-now : (c : AuctionCall) (h : List AuctionCall) → madeAt (length h) (c ∷ h) ≡ c
+pub call-now : (c : AuctionCall) (h : List AuctionCall) → madeAt (length h) (c ∷ h) ≡ c
 unfolding madeAt
 call-now c h = simp (eq-eqb (length h) (length h) refl)
 
-latest-now : (i : ℕ) (c : AuctionCall) (h : List AuctionCall) → i ≡ length h → madeAt i (c ∷ h) ≡ c
+pub latest-now : (i : ℕ) (c : AuctionCall) (h : List AuctionCall) → i ≡ length h → madeAt i (c ∷ h) ≡ c
 latest-now i c h e = rw e (call-now c h)
 
-call-before : (i : ℕ) (c : AuctionCall) (h : List AuctionCall) → i < length h → madeAt i (c ∷ h) ≡ madeAt i h
+pub call-before : (i : ℕ) (c : AuctionCall) (h : List AuctionCall) → i < length h → madeAt i (c ∷ h) ≡ madeAt i h
 unfolding madeAt
 call-before i c h k = simp (ne-eqb i (length h) (λ e. omega arith))
 
@@ -92,7 +92,15 @@ declarer-first h e = first-to-name _ _ h (last-named h e)
 later : (i : ℕ) (c d : AuctionCall) (h : List AuctionCall) → (i < length h) × (madeAt i h ≡ c) → (i < length (d ∷ h)) × (madeAt i (d ∷ h) ≡ c)
 later i c d h k = (omega (arith, k .0), call-before i d h (k .0) ∙ k .1)
 
--- and the last bid is the call of its index
+-- one call more that is no bid
+later-none : (i : ℕ) (c : AuctionCall) (h : List AuctionCall) → isBid c ≡ false → (i < length h → isBid (madeAt i h) ≡ false) → i < length (c ∷ h) → isBid (madeAt i (c ∷ h)) ≡ false
+later-none i c h n ih w = go (eqb i (length h)) refl
+  where
+    go : (b : Bool) → eqb i (length h) ≡ b → isBid (madeAt i (c ∷ h)) ≡ false
+    go true q = rw (latest-now i c h (eqb-true _ _ q)) n
+    go false q = let d : i ≡ length h → ⊥ = eqb-false _ _ q in let k : i < length h = omega arith in rw (call-before i c h k) (ih k)
+
+-- "the last bidder": the last bid is the call of its index
 pub last-there : (h : List AuctionCall) → opened h ≡ true → (lastBidAt h < length h) × (madeAt (lastBidAt h) h ≡ lastBid h)
 unfolding opened lastBid lastBidAt
 last-there [] e = absurd (false≢true e)
@@ -101,23 +109,14 @@ last-there (Double ∷ h) e = later _ _ Double h (last-there h e)
 last-there (Redouble ∷ h) e = later _ _ Redouble h (last-there h e)
 last-there (Bid l t ∷ h) e = (omega arith, call-now (Bid l t) h)
 
--- "passes apart": the latest call that is no pass stands before the running passes
-pub latest-there : (h : List AuctionCall) → isPass (latest h) ≡ false → (d : ℕ) → d + suc (passes h) ≡ length h → madeAt d h ≡ latest h
-unfolding latest passes
-latest-there [] e d k = absurd (false≢true (sym e))
-latest-there (Pass ∷ h) e d k = call-before d Pass h (omega arith) ∙ latest-there h e d (omega arith)
-latest-there (Double ∷ h) e d k = latest-now d Double h (omega arith)
-latest-there (Redouble ∷ h) e d k = latest-now d Redouble h (omega arith)
-latest-there (Bid l t ∷ h) e d k = latest-now d (Bid l t) h (omega arith)
-
--- "an opponent's": it is of the other side than the call to come, or else of the same
-pub opponents-other : (h : List AuctionCall) (d : ℕ) → d + suc (passes h) ≡ length h → opponents h ≡ true → d % 2 ≡ length h % 2 → ⊥
-unfolding opponents
-opponents-other h d k e i = let p : passes h % 2 ≡ 0 = eqb-true _ _ e in omega arith
-
-pub opponents-same : (h : List AuctionCall) (d : ℕ) → d + suc (passes h) ≡ length h → opponents h ≡ false → d % 2 ≡ length h % 2
-unfolding opponents
-opponents-same h d k e = let p : passes h % 2 ≡ 0 → ⊥ = eqb-false _ _ e in omega arith
+-- and no later call is a bid
+pub last-last : (h : List AuctionCall) (i : ℕ) → lastBidAt h < i → i < length h → isBid (madeAt i h) ≡ false
+unfolding lastBidAt
+last-last [] i k w = absurd (omega arith)
+last-last (Pass ∷ h) i k w = later-none i Pass h refl (last-last h i k) w
+last-last (Double ∷ h) i k w = later-none i Double h refl (last-last h i k) w
+last-last (Redouble ∷ h) i k w = later-none i Redouble h refl (last-last h i k) w
+last-last (Bid l t ∷ h) i k w = absurd (omega arith)
 
 -- The seats
 
@@ -152,7 +151,7 @@ declarer-declares d h e =
 -- and no other seat is
 pub declarer-only : (d : Seat) (h : List AuctionCall) (x : Seat) → opened h ≡ true → Declares d h x → x ≡ declarer d h
 unfolding declarer
-declarer-only d h x e r = sym (r .own) ∙ ap (caller d) (same)
+declarer-only d h x e r = sym (r .own) ∙ ap (caller d) same
   where
     f : FirstToName (lastBidAt h % 2) (strainOf (lastBid h)) h (declaring h)
     f = declarer-first h e

@@ -1,13 +1,13 @@
--- A lawful auction has at most 319 calls: three passes, 35 bids with at most eight calls after each, and one pass more.
+-- When a lawful auction ends, and that it has at most 319 calls: three passes, 35 bids with at most eight calls after each, and one pass more.
 -- (02: N1, "The auction ends at four opening passes, or three running passes once a bid is made.") Assumes nothing.
-use Prim.Native.Nat.{suc, _+_, _*_, _≤_}
+use Prim.Native.Nat.{ℕ, suc, _+_, _*_, _≤_}
 use native.Mathlib.Omega.{arith}
-use mathlib.Core.Path.{_≡_, refl, sym}
+use mathlib.Core.Path.{_≡_, refl, ap, sym, _∙_}
 use mathlib.Core.Bool.{Bool, true, false, false≢true}
 use mathlib.Core.List.{List, [], _∷_, reverseAux}
 use lib.Dec.{leb}
-use lib.ListN.{length}
-use borrow.Author.Tests.{leb-false}
+use lib.ListN.{length, replicate}
+use borrow.Author.Tests.{leb-true, leb-false}
 use Rattle.lin_spec.specs.Base.{All, keep, countIf}
 use Rattle.lin_spec.specs.declared.Seat.{Seat}
 use Rattle.bridge_auction.specs.Auction.{isPass, isBid, isDouble, lastBid, latest, passes, opened, ended}
@@ -59,6 +59,37 @@ all-passes (more {c = Pass} l e) o = (omega (arith, all-passes l o .0), all-pass
 all-passes (more {h = h} {c = Double} l e) o = absurd (bid-no-pass (latest h) (double-follows h e) (all-passes l o .1))
 all-passes (more {h = h} {c = Redouble} l e) o = absurd (double-no-pass (latest h) (redouble-follows h e) (all-passes l o .1))
 all-passes (more {c = Bid n t} l e) o = absurd (false≢true (sym o))
+
+-- calls of which all are running passes
+only-passes : (h : List AuctionCall) → length h ≡ passes h → h ≡ replicate (length h) Pass
+unfolding passes
+only-passes [] e = refl
+only-passes (Pass ∷ h) e = ap (λ (r : List AuctionCall). Pass ∷ r) (only-passes h (omega arith))
+only-passes (Double ∷ h) e = absurd (omega arith)
+only-passes (Redouble ∷ h) e = absurd (omega arith)
+only-passes (Bid l t ∷ h) e = absurd (omega arith)
+
+-- "The auction ends at four opening passes"
+pub ended-passed : {h : List AuctionCall} → LawfulHistory h → opened h ≡ false → ended h ≡ true → h ≡ Pass ∷ Pass ∷ Pass ∷ Pass ∷ []
+unfolding ended
+ended-passed {h} l o e =
+    let k : leb 4 (passes h) ≡ true = simp o at e in
+    let q = all-passes l o .0 in
+    let n : length h ≡ 4 = omega (arith, leb-true 4 (passes h) k, passes-all l) in
+    only-passes h q ∙ ap (λ (m : ℕ). replicate m Pass) n
+
+pub passed-ended : ended (Pass ∷ Pass ∷ Pass ∷ Pass ∷ []) ≡ true
+unfolding ended opened lastBid passes
+passed-ended = refl
+
+-- "or three running passes once a bid is made."
+pub ended-opened : {h : List AuctionCall} → LawfulHistory h → opened h ≡ true → ended h ≡ true → passes h ≡ 3
+unfolding ended
+ended-opened {h} l o e = let k : leb 3 (passes h) ≡ true = simp o at e in omega (arith, leb-true 3 (passes h) k, passes-opened l o)
+
+pub opened-ended : (h : List AuctionCall) → opened h ≡ true → passes h ≡ 3 → ended h ≡ true
+unfolding ended
+opened-ended h o e = simp (o, e)
 
 -- where there is one: nine calls for each bid but the last, three for each call since it that is no pass, and the running passes
 long-by : {h : List AuctionCall} → LawfulHistory h → opened h ≡ true → length h + 5 ≤ 9 * countIf isBid h + 3 * sinceBid h + passes h

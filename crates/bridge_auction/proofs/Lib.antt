@@ -4,4 +4,5 @@ pub mod DeclarerLaws
 pub mod FollowLaws
 pub mod LengthLaws
 pub mod NameLaws
+pub mod OpponentLaws
 pub mod StateLaws

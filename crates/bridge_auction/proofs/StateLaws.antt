@@ -32,7 +32,7 @@ rank-bid c l a b u e i j = rw e (omega arith)
 
 -- "The auction ends at four opening passes, or three running passes once a bid is made."
 abbrev pub over : AuctionState → Bool
-over m = leb (pick (isBid (m .last)) 3 4) (m .passes)
+over m = pick (isBid (m .last)) (leb 3 (m .passes)) (leb 4 (m .passes))
 
 pub over-ended : (m : AuctionState) (h : List AuctionCall) → Ties m h → over m ≡ ended h
 unfolding ended opened

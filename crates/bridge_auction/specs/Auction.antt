@@ -1,7 +1,7 @@
 -- The auction of bridge. A call is judged by its history, the calls before it with the latest first. Nothing of LIN but the seats.
 -- (02: N1, "Starting from the dealer, apply the Laws of Duplicate Bridge 2017")
 use Prim.Native.Nat.{ℕ, suc, _+_, _*_, _-_, _%_}
-use mathlib.Core.Bool.{Bool, true, false, _&&_, not}
+use mathlib.Core.Bool.{Bool, true, false, _&&_, _||_, not}
 use mathlib.Core.List.{List, [], _∷_}
 use lib.Dec.{eqb, ltb, leb}
 use lib.ListN.{length}
@@ -49,75 +49,6 @@ isDouble Double = true
 isDouble Redouble = false
 isDouble (Bid l t) = false
 
--- "to name its strain": the call is a bid that names the strain
-unfoldable pub names : Strain → AuctionCall → Bool
-names t Pass = false
-names t Double = false
-names t Redouble = false
-names t (Bid l u) = eqb (strainNumber u) (strainNumber t)
-
--- "outrank": a bid's rank, from 1 of one club to 35 of seven no trump; 0 of a call that is none
-unfoldable pub rank : AuctionCall → ℕ
-rank Pass = 0
-rank Double = 0
-rank Redouble = 0
-rank (Bid l t) = (l - 1) * 5 + strainNumber t + 1
-
--- The history
-
--- "the last one": the last bid; a pass where there is none
-unfoldable pub lastBid : List AuctionCall → AuctionCall
-lastBid [] = Pass
-lastBid (c ∷ h) = pick (isBid c) c (lastBid h)
-
--- "passes apart": the latest call that is no pass; a pass where there is none
-unfoldable pub latest : List AuctionCall → AuctionCall
-latest [] = Pass
-latest (c ∷ h) = pick (isPass c) (latest h) c
-
--- "running passes": those after it
-unfoldable pub passes : List AuctionCall → ℕ
-passes [] = 0
-passes (c ∷ h) = pick (isPass c) (suc (passes h)) 0
-
--- "an opponent's": the latest call that is no pass was made an odd number of calls ago, so that the passes after it are even
-unfoldable pub opponents : List AuctionCall → Bool
-opponents h = eqb (passes h % 2) 0
-
--- "once a bid is made"
-unfoldable pub opened : List AuctionCall → Bool
-opened h = isBid (lastBid h)
-
--- "The auction ends at four opening passes, or three running passes once a bid is made."
-unfoldable pub ended : List AuctionCall → Bool
-ended h = leb (pick (opened h) 3 4) (passes h)
-
--- "a bid must outrank the last one; passes apart, a double must follow an opponent's bid and a redouble an opponent's double"
-unfoldable pub follows : List AuctionCall → AuctionCall → Bool
-follows h Pass = true
-follows h Double = isBid (latest h) && opponents h
-follows h Redouble = isDouble (latest h) && opponents h
-follows h (Bid l t) = ltb (rank (lastBid h)) (rank (Bid l t))
-
--- "a call after the end is unlawful"
-unfoldable pub lawful : List AuctionCall → AuctionCall → Bool
-lawful h c = not (ended h) && follows h c
-
--- The contract
-
--- "doubling included": by the latest call that is no pass
-abbrev pub doublingOf : AuctionCall → Doubling
-doublingOf Pass = Undoubled
-doublingOf Double = Doubled
-doublingOf Redouble = Redoubled
-doublingOf (Bid l t) = Undoubled
-
--- "doubling included", as a number
-abbrev pub doublingNumber : Doubling → ℕ
-doublingNumber Undoubled = 0
-doublingNumber Doubled = 1
-doublingNumber Redoubled = 2
-
 -- "a level 1 to 7": a bid's; 0 of a call that is none
 abbrev pub levelOf : AuctionCall → ℕ
 levelOf Pass = 0
@@ -131,6 +62,75 @@ strainOf Pass = Clubs
 strainOf Double = Clubs
 strainOf Redouble = Clubs
 strainOf (Bid l t) = t
+
+-- "to name its strain": the call is a bid that names the strain
+unfoldable pub names : Strain → AuctionCall → Bool
+names t Pass = false
+names t Double = false
+names t Redouble = false
+names t (Bid l u) = eqb (strainNumber u) (strainNumber t)
+
+-- "outrank": a bid's rank, for levels 1 to 7 from 1 of one club to 35 of seven no trump; 0 of a call that is none
+unfoldable pub rank : AuctionCall → ℕ
+rank Pass = 0
+rank Double = 0
+rank Redouble = 0
+rank (Bid l t) = (l - 1) * 5 + strainNumber t + 1
+
+-- "doubling included": what the latest call that is no pass makes of the contract
+abbrev pub doublingOf : AuctionCall → Doubling
+doublingOf Pass = Undoubled
+doublingOf Double = Doubled
+doublingOf Redouble = Redoubled
+doublingOf (Bid l t) = Undoubled
+
+-- "doubling included", as a number
+abbrev pub doublingNumber : Doubling → ℕ
+doublingNumber Undoubled = 0
+doublingNumber Doubled = 1
+doublingNumber Redoubled = 2
+
+-- The history
+
+-- "the last one": the last bid; a pass where there is none
+unfoldable pub lastBid : List AuctionCall → AuctionCall
+lastBid [] = Pass
+lastBid (c ∷ h) = pick (isBid c) c (lastBid h)
+
+-- "passes apart": the latest call that is no pass; a pass where there is none
+unfoldable pub latest : List AuctionCall → AuctionCall
+latest [] = Pass
+latest (c ∷ h) = pick (isPass c) (latest h) c
+
+-- "running passes": the passes after the latest call that is no pass
+unfoldable pub passes : List AuctionCall → ℕ
+passes [] = 0
+passes (c ∷ h) = pick (isPass c) (suc (passes h)) 0
+
+-- "an opponent's": the latest call that is no pass was made an odd number of calls ago, so that the passes after it are even
+unfoldable pub opponents : List AuctionCall → Bool
+opponents h = eqb (passes h % 2) 0
+
+-- "once a bid is made"
+unfoldable pub opened : List AuctionCall → Bool
+opened h = isBid (lastBid h)
+
+-- "The auction ends at four opening passes, or three running passes once a bid is made.": without a bid the lawful calls are passes all
+unfoldable pub ended : List AuctionCall → Bool
+ended h = pick (opened h) (leb 3 (passes h)) (leb 4 (passes h))
+
+-- "a bid must outrank the last one; passes apart, a double must follow an opponent's bid and a redouble an opponent's double"
+unfoldable pub follows : List AuctionCall → AuctionCall → Bool
+follows h Pass = true
+follows h Double = isBid (latest h) && opponents h
+follows h Redouble = isDouble (latest h) && opponents h
+follows h (Bid l t) = ltb (rank (lastBid h)) (rank (Bid l t))
+
+-- "a call after the end is unlawful"
+unfoldable pub lawful : List AuctionCall → AuctionCall → Bool
+lawful h c = not (ended h) && follows h c
+
+-- The contract
 
 -- A call's index is how many are before it: the dealer's is 0. The sides take turns, so an index is even or odd by its side.
 
@@ -146,9 +146,9 @@ namesFor side t h c = eqb (length h % 2) side && names t c
 -- "to name its strain": the side has named the strain
 unfoldable pub hasNamed : (side : ℕ) → Strain → List AuctionCall → Bool
 hasNamed side t [] = false
-hasNamed side t (c ∷ h) = pick (hasNamed side t h) true (namesFor side t h c)
+hasNamed side t (c ∷ h) = hasNamed side t h || namesFor side t h c
 
--- "the first": the index of the call by which it first did
+-- "the first": the index of the call by which it first did; where none did this is looked at by nothing
 unfoldable pub firstNamed : (side : ℕ) → Strain → List AuctionCall → ℕ
 firstNamed side t [] = 0
 firstNamed side t (c ∷ h) = pick (hasNamed side t h) (firstNamed side t h) (length h)

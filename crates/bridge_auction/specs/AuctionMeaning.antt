@@ -1,7 +1,7 @@
 -- What the definitions of the auction are shown to mean. (02: N1, "the first unlawful call", "the first of the last bidder's side")
 use Prim.Native.Nat.{ℕ, suc, _%_, _<_, _≤_}
 use mathlib.Core.Path.{_≡_}
-use mathlib.Core.Bool.{true, false}
+use mathlib.Core.Bool.{Bool, true, false}
 use mathlib.Core.List.{List, [], _∷_, _++_, reverse}
 use lib.Dec.{eqb}
 use lib.ListN.{length}
@@ -60,6 +60,15 @@ pub record FirstToName (side : ℕ) (t : Strain) (h : List AuctionCall) (d : ℕ
 -- "side": North and South are one, East and West the other
 abbrev pub SameSide : Seat → Seat → Type 0
 SameSide x y = seatNumber x % 2 ≡ seatNumber y % 2
+
+-- "passes apart, .. must follow an opponent's": a call that passes the test was made by the other side than the call to come, and all calls
+-- after it are passes
+pub record FollowsOpponent (dealer : Seat) (test : AuctionCall → Bool) (h : List AuctionCall) : Type 0 where
+  pub index : ℕ
+  pub inside : index < length h
+  pub does : test (madeAt index h) ≡ true
+  pub passed : (i : ℕ) → index < i → i < length h → isPass (madeAt i h) ≡ true
+  pub other : SameSide (caller dealer index) (caller dealer (length h)) → ⊥
 
 -- "declarer, the first of the last bidder's side to name its strain", by seats: x made a call that names the strain of the last bid, is of
 -- the last bidder's side, and no call of that side before it names the strain

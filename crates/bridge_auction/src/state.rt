@@ -89,7 +89,7 @@ fn mark(named: [u8; 10], k: usize, seat: u8) -> [u8; 10]
 
 // "The auction ends at four opening passes, or three running passes once a bid is made."
 fn is_over(state: AuctionState) -> bool
-    ensures { λ r. ⌜ r ≡ leb (pick (aBid (state .last)) 3 4) (state .passes) ⌝ }
+    ensures { λ r. ⌜ r ≡ pick (aBid (state .last)) (leb 3 (state .passes)) (leb 4 (state .passes)) ⌝ }
 {
     let last = state.last;
     if is_bid(last) {
