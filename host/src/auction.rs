@@ -94,7 +94,7 @@ impl LinAuction {
     /// # Panics
     ///
     /// If a number has no meaning, see [`LinAnswer::read`](crate::LinAnswer::read),
-    /// or stands beside an outcome that has none.
+    /// or if there is a contract or a value where the outcome has none.
     pub fn read(self) -> Result<Auction, Refusal> {
         let contract = [self.level, self.strain, self.doubling, self.declarer];
         let told = self.answer.read();

@@ -165,8 +165,8 @@ pub struct LinRead {
 #[repr(C)]
 #[derive(Debug, Clone, Copy, PartialEq, Eq)]
 pub struct LinAuction {
-    /// The value is the index of the first unlawful call where the outcome is 4,
-    /// and 0 where nothing is refused otherwise.
+    /// The value is the index of the first unlawful call, from 0 on, where the
+    /// outcome is 4, and otherwise 0 where nothing is refused.
     pub answer: LinAnswer,
     /// 0 refused, 1 passed out, 2 ended with a contract, 3 open, 4 unlawful.
     pub outcome: u32,

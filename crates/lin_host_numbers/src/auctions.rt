@@ -11,8 +11,8 @@ ghost use mathlib.Core.Path.{_≡_};
 ghost use Rattle.auction.specs.Check.{checkedOf};
 ghost use Rattle.lin_host_numbers.specs.Auctions.{withoutContract, contractNumbers, resultNumbers, auctionNumbers};
 
-// outcome 0: refused. 1: ended without a bid. 2: ended with a contract: its level, its strain 0 to 4 for C D H S N, its doubling 0 to 2, its declarer 0 to 3 for
-// S W N E; these are 0 else. 3: open. 4: unlawful, with the index of the first unlawful call as the answer's value, which is 0 in 1, 2 and 3.
+// outcome 0: refused. 1: ended without a bid. 2: ended with a contract: its level, its strain 0 to 4 for C D H S N, its doubling 0 to 2, its declarer 0 to 3
+// for S W N E; these are 0 else. 3: open. 4: unlawful, with the index of the first unlawful call as the answer's value, which is 0 in 1, 2 and 3.
 #[repr(C)]
 pub struct LinAuction {
     pub answer: LinAnswer,

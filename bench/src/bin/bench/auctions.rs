@@ -84,7 +84,9 @@ fn tally(all: &[Lent], check: impl Fn(&Lent) -> LinAuction) -> [u64; 6] {
 
 /// The boards of the file of that name, each as it is lent to append.
 fn realistic(len: usize) -> Vec<Lent> {
-    let text = inputs::ALL[0].text(len);
+    let mut inputs = inputs::ALL.iter();
+    let input = inputs.find(|i| i.name == "realistic");
+    let text = input.expect("an input of that name").text(len);
     let boards = parse_lin_file(&text).expect("no error");
     let boards = boards.iter().map(|b| Gathered::from(&upstream::board(b)));
     let lent = boards.map(|board| Lent {
