@@ -1,5 +1,5 @@
-//! Comparisons of the exports with the oracle and with the model. Each gives
-//! what differs.
+//! Comparisons of the exports with upstream and the model, by the rule of the module
+//! `expected`. Each gives what differs.
 
 mod auction;
 mod boards;
@@ -10,13 +10,13 @@ mod reader;
 mod writer;
 
 pub use auction::{auction, bids};
-pub use boards::{as_upstream as fields_of, board, read};
+pub use boards::{board, fields_of, read, same_boards};
 pub use files::{file, name, visit, visits};
 pub use pbn::{annotation, annotations, converted, record, Sizes};
 pub use reader::{read_board, reads, walk, Standing};
 pub use writer::{append, appends, equality, play_text, written};
 
-use crate::model;
+use crate::{expected, model};
 use guards::held;
 use lin_host_rust::{
     tokens::{self, Cursor, Span},
@@ -27,31 +27,29 @@ use std::fmt::Debug;
 /// Nothing, or what differs.
 pub type Same = Result<(), String>;
 
-fn same<T: PartialEq + Debug>(what: &str, got: T, want: T) -> Same {
+/// Whether both are the same.
+pub fn same<T: PartialEq + Debug>(what: &str, got: T, want: T) -> Same {
     if got == want {
         return Ok(());
     }
     Err(format!("{what}: {got:?}, not {want:?}"))
 }
 
-/// Tokens and trailing text as upstream's; written back, the text again, in an
+/// Tokens and trailing text as expected; written back, the text again, in an
 /// output that just fits, and in none that is smaller.
 pub fn text(text: &str) -> Same {
     let bytes = text.as_bytes();
     let (got, trailing) = tokens::tokens(bytes).map_err(|r| format!("refused: {r:?}"))?;
-    let (want, rest) = oracle::tokens(text);
+    let pairs = expected::tokens(text)?;
+    let (want, rest) = &pairs;
     same("tokens", got.len(), want.len())?;
-    for (k, (token, (command, value))) in got.iter().zip(&want).enumerate() {
+    for (k, (token, (command, value))) in got.iter().zip(want).enumerate() {
         let what = format!("token {k}");
         same(&what, token.command.of(bytes), command.as_bytes())?;
         same(&what, token.value.of(bytes), value.as_bytes())?;
     }
     same("trailing", trailing.of(bytes), rest.as_bytes())?;
-    same(
-        "upstream's text",
-        oracle::write(&want, &rest).as_str(),
-        text,
-    )?;
+    expected::document(&pairs, text)?;
 
     let rows = tokens::rows(&got).ok_or("a place passes 32 bits")?;
     let span = Span::try_from(trailing).map_err(|e| e.to_string())?;
@@ -100,7 +98,7 @@ pub fn steps(bytes: &[u8]) -> Same {
 }
 
 /// A document of any rows into an output of `len` bytes: answer and output as
-/// the model has them, and what is accepted as upstream writes it.
+/// the model has them, and what is accepted as expected.
 pub fn document(text: &[u8], rows: &[u32], trailing: Span, len: usize) -> Same {
     let mut want = held(len);
     let mut out = guards::bytes("output", &want);
@@ -108,17 +106,15 @@ pub fn document(text: &[u8], rows: &[u32], trailing: Span, len: usize) -> Same {
     let wanted = model::write_document(text, rows, trailing, &mut want);
     same("answer", answer, wanted)?;
     out.holds(&want)?;
-    if let Ok(n) = answer {
-        let string = |start, len| {
-            let bytes = Span::new(start, len).of(text).to_vec();
-            String::from_utf8(bytes).map_err(|e| e.to_string())
-        };
-        let mut pairs = Vec::new();
-        for row in rows.chunks_exact(4) {
-            pairs.push((string(row[0], row[1])?, string(row[2], row[3])?));
-        }
-        let written = oracle::write(&pairs, &string(trailing.start, trailing.len)?);
-        same("written", want.get(..n as usize), Some(written.as_bytes()))?;
+    let Ok(n) = wanted else {
+        return Ok(());
+    };
+    let string = |bytes: &[u8]| String::from_utf8(bytes.to_vec()).map_err(|e| e.to_string());
+    let part = |start, len| string(Span::new(start, len).of(text));
+    let mut pairs = Vec::new();
+    for row in rows.chunks_exact(4) {
+        pairs.push((part(row[0], row[1])?, part(row[2], row[3])?));
     }
-    Ok(())
+    let pairs = (pairs, part(trailing.start, trailing.len)?);
+    expected::document(&pairs, &string(&want[..n as usize])?)
 }

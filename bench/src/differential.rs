@@ -1,16 +1,18 @@
-//! Differential runs: fresh cases of every kind, compared with the oracle and
-//! with the model for a time that is given.
+//! Differential runs: fresh cases of every kind, compared with what is expected, by
+//! upstream and the model, for a time that is given.
 
 mod random;
-mod sweeps;
+mod scalars;
+mod words;
 
-use crate::compare::Same;
+use crate::{compare::Same, model::has_mark};
 use oracle::random::Rng;
+use scalars::Scalars;
 use std::{
     fmt,
     time::{Duration, Instant},
 };
-use sweeps::{Scalars, Words};
+use words::Words;
 
 /// What is compared.
 #[derive(Debug, Clone, Copy, PartialEq, Eq)]
@@ -81,6 +83,7 @@ impl Kind {
 #[derive(Debug, Clone, Default)]
 pub struct Report {
     counts: [u64; Kind::ALL.len()],
+    marks: [u64; Kind::ALL.len()],
     /// How many scalar values had their turn, and how many there are.
     pub scalars: (u64, u64),
     /// The same of short words.
@@ -95,31 +98,44 @@ impl Report {
         self.counts[kind as usize]
     }
 
+    /// How many of them had a byte order mark.
+    pub fn marks(&self, kind: Kind) -> u64 {
+        self.marks[kind as usize]
+    }
+
     /// How many cases were compared.
     pub fn cases(&self) -> u64 {
         self.counts.iter().sum()
     }
 
-    /// Counts a case, and keeps what differs.
-    fn add(&mut self, kind: Kind, outcome: Same, subject: impl FnOnce() -> String) {
-        self.counts[kind as usize] += 1;
+    /// Counts a case of this text, and keeps what differs.
+    fn add(&mut self, kind: Kind, text: &[u8], outcome: Same, subject: impl FnOnce() -> String) {
+        self.add_many(kind, text, 1);
         if let Err(difference) = outcome {
             self.differences
                 .push(format!("{difference}\n{}", subject()));
         }
     }
 
-    fn add_many(&mut self, kind: Kind, many: usize) {
+    /// Counts so many cases of this text.
+    fn add_many(&mut self, kind: Kind, text: &[u8], many: usize) {
         self.counts[kind as usize] += many as u64;
+        if has_mark(text) {
+            self.marks[kind as usize] += many as u64;
+        }
     }
 }
 
 impl fmt::Display for Report {
     fn fmt(&self, f: &mut fmt::Formatter) -> fmt::Result {
+        let line = |count, name, marks| {
+            format!("{count:>10} {name}, {marks} of them with a byte order mark")
+        };
         for (kind, name) in Kind::ALL {
-            writeln!(f, "{:>10} {name}", self.count(kind))?;
+            writeln!(f, "{}", line(self.count(kind), name, self.marks(kind)))?;
         }
-        writeln!(f, "{:>10} cases", self.cases())?;
+        let marks = self.marks.iter().sum();
+        writeln!(f, "{}", line(self.cases(), "cases", marks))?;
         let swept = |(done, all): (u64, u64)| format!("{} of {all}", done.min(all));
         writeln!(f, "scalar values: {}", swept(self.scalars))?;
         writeln!(f, "short words: {}", swept(self.words))?;

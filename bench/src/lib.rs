@@ -1,10 +1,13 @@
 //! The exports of the crate `lin_host`, reached through `lin_host_rust`, compared
-//! with the upstream Rust and with documents 01 and 02 in plain Rust.
+//! with the upstream Rust and with documents 01 and 02 in plain Rust. Trimming removes
+//! byte order marks (document 02, N2), and upstream's leaves them: upstream is asked
+//! only about texts without one.
 //!
 //! | module | what it holds |
 //! |---|---|
 //! | [`upstream`] | boards and records between upstream's form and the host's |
-//! | [`model`] | documents 01 and 02 in plain Rust, for what upstream has not or can't take |
+//! | [`model`] | documents 01 and 02 in plain Rust |
+//! | [`expected`] | upstream's answer, which the model's must equal, or the model's alone where a byte order mark stands |
 //! | [`log`] | document 01's plain book of appends |
 //! | [`compare`] | the comparisons, each of which gives what differs |
 //! | [`samples`] | random records, files, boards, PBN records and auctions, and hostile ones |
@@ -26,6 +29,7 @@
 pub mod clock;
 pub mod compare;
 pub mod differential;
+pub mod expected;
 pub mod log;
 pub mod model;
 pub mod samples;

@@ -1,12 +1,16 @@
 //! Document 01's append and its plain book, in plain Rust: the refusals that
-//! meet a call which is lent boards, the written form as upstream's `write_lin`
-//! gives it, and the settled form.
+//! meet a call which is lent boards, and the settled form. The written form is that
+//! of the module `expected`.
 
-use crate::upstream;
+use crate::{
+    expected::{self, Expected},
+    model::{clean, clean_name, implied_east},
+    upstream,
+};
 use lin_host_rust::{boards::ROW, tokens::Span, writer::Lent, Refusal, LIMIT};
 use oracle::{
-    bridge_types::{Direction, Hand},
-    lin::{write_lin, BidWithAnnotation, LinData},
+    bridge_types::Direction,
+    lin::{BidWithAnnotation, LinData},
 };
 
 /// The first of the refusals 1, 8, 5 and 6 that meets a call, each over all
@@ -67,30 +71,30 @@ fn not_utf8(text: &[u8], span: Span) -> bool {
 }
 
 /// An append in plain Rust.
-pub fn append(lent: Lent, out: &mut [u8], used: u64) -> Result<u64, Refusal> {
+pub fn append(lent: Lent, out: &mut [u8], used: u64) -> Expected<Result<u64, Refusal>> {
     let room = out.len().min(LIMIT);
     if let Some(refusal) = refusal(&[lent], used > room as u64) {
-        return Err(refusal);
+        return Ok(Err(refusal));
     }
-    let written = write_lin(&upstream::data(lent));
+    let written = expected::written(&upstream::data(lent))?;
     let after = used as usize + written.len();
     if after > room {
-        return Err(Refusal::OutputTooSmall(written.len() as u64));
+        return Ok(Err(Refusal::OutputTooSmall(written.len() as u64)));
     }
     out[used as usize..after].copy_from_slice(written.as_bytes());
-    Ok(after as u64)
+    Ok(Ok(after as u64))
 }
 
 /// A board as it is read after it was written.
 pub fn settled(board: &LinData) -> LinData {
-    let clean = |text: &String| text.replace('|', "/").replace(['\r', '\n'], " ");
-    let filled = |text: String| Some(text).filter(|t| !t.is_empty());
+    let cleaned = |text: &Option<String>| text.as_deref().map(clean);
+    let filled = |text: &Option<String>| cleaned(text).filter(|t| !t.is_empty());
     let bid = |call: &BidWithAnnotation| {
         let bid = clean(&call.bid);
         BidWithAnnotation {
             alert: call.alert || bid.ends_with('!'),
             bid: bid.trim_end_matches('!').to_string(),
-            annotation: call.annotation.as_ref().map(clean),
+            annotation: cleaned(&call.annotation),
         }
     };
     let mut deal = board.deal.clone();
@@ -98,32 +102,14 @@ pub fn settled(board: &LinData) -> LinData {
         deal.set_hand(Direction::East, east);
     }
     LinData {
-        player_names: [0, 1, 2, 3].map(|n| clean(&board.player_names[n]).replace(',', "")),
+        player_names: board.player_names.each_ref().map(|name| clean_name(name)),
         deal,
-        title: board.title.as_ref().map(clean).and_then(filled),
-        room_board: board.room_board.as_ref().map(clean).and_then(filled),
-        board_header: board.board_header.as_ref().map(clean),
+        title: filled(&board.title),
+        room_board: filled(&board.room_board),
+        board_header: cleaned(&board.board_header),
         auction: board.auction.iter().map(bid).collect(),
         ..board.clone()
     }
-}
-
-/// The cards that three hands of 13 leave, if East holds none, or as many of
-/// no others.
-fn implied_east(board: &LinData) -> Option<Hand> {
-    let others = [Direction::South, Direction::West, Direction::North].map(|d| board.deal.hand(d));
-    if others.iter().any(|hand| hand.len() != 13) {
-        return None;
-    }
-    let mut rest = Hand::new();
-    for card in (0..52).map(upstream::card_of) {
-        if !others.iter().any(|hand| hand.has_card(card)) {
-            rest.add_card(card);
-        }
-    }
-    let east = board.deal.hand(Direction::East);
-    let as_many = east.len() == rest.len() && east.cards().iter().all(|c| rest.has_card(*c));
-    (east.is_empty() || as_many).then_some(rest)
 }
 
 /// The bytes and the boards of the accepted calls.
@@ -147,17 +133,17 @@ impl Log {
     }
 
     /// Enters a call, or says which refusal meets it.
-    pub fn enter(&mut self, lent: Lent) -> Result<u64, Refusal> {
+    pub fn enter(&mut self, lent: Lent) -> Expected<Result<u64, Refusal>> {
         if let Some(refusal) = refusal(&[lent], false) {
-            return Err(refusal);
+            return Ok(Err(refusal));
         }
         let board = upstream::data(lent);
-        let written = write_lin(&board);
+        let written = expected::written(&board)?;
         if self.bytes.len() + written.len() > self.room {
-            return Err(Refusal::OutputTooSmall(written.len() as u64));
+            return Ok(Err(Refusal::OutputTooSmall(written.len() as u64)));
         }
         self.bytes.extend(written.as_bytes());
         self.boards.push(settled(&board));
-        Ok(self.bytes.len() as u64)
+        Ok(Ok(self.bytes.len() as u64))
     }
 }

@@ -1,19 +1,36 @@
-//! Documents 01 and 02 in plain Rust, for what upstream has not and for the inputs
-//! that it can't take: bytes that are no text, any place, any span, any output.
+//! Documents 01 and 02 in plain Rust, written apart from the library and from
+//! upstream: what is read, written, made and refused, over any bytes, any place,
+//! any span and any output. A board stands in upstream's plain record, `LinData`;
+//! of upstream's functions none is asked.
 
 pub mod auction;
+mod boards;
+mod files;
 pub mod pbn;
 mod reader;
+mod records;
+mod writer;
 
+pub use boards::{equal, parse_lin};
+pub use files::{parse_lin_file, visit};
 pub use reader::read_board;
+pub use records::made;
+pub use writer::{clean, clean_name, implied_east, written};
 
 use lin_host_rust::{
     boards::{LinBoard, LinText},
-    files::LinSection,
     tokens::{Part, Span, Step},
     Refusal, LIMIT,
 };
 use oracle::texts::WHITE;
+
+/// The byte order mark.
+pub const MARK: char = '\u{FEFF}';
+
+/// Whether a byte order mark stands in these bytes.
+pub fn has_mark(bytes: &[u8]) -> bool {
+    bytes.windows(3).any(|three| three == [0xEF, 0xBB, 0xBF])
+}
 
 /// Opening a text: 0, or refusal 1 or 2.
 pub fn open(text: &[u8]) -> Result<u64, Refusal> {
@@ -83,94 +100,88 @@ pub fn trailing(text: &[u8], at: u64) -> Part {
     }
 }
 
-/// The first of what a white space leaves.
-fn without_white<'a>(strip: impl Fn(&[u8]) -> Option<&'a [u8]>) -> Option<&'a [u8]> {
-    let mut buffer = [0; 4];
-    let white = WHITE.iter();
-    white
-        .map(|w| strip(w.encode_utf8(&mut buffer).as_bytes()))
-        .find_map(|less| less)
+/// Whether these bytes are one of the characters that are trimmed: white space
+/// (document 01, Records) or the byte order mark (document 02, N2).
+fn trimmed(bytes: &[u8]) -> bool {
+    let mut all = std::str::from_utf8(bytes).unwrap_or_default().chars();
+    let first = all.next().filter(|_| all.next().is_none());
+    first.is_some_and(|c| WHITE.contains(&c) || c == MARK)
 }
 
-fn trim(mut bytes: &[u8]) -> &[u8] {
-    while let Some(less) = without_white(|white| bytes.strip_prefix(white)) {
-        bytes = less;
-    }
-    while let Some(less) = without_white(|white| bytes.strip_suffix(white)) {
-        bytes = less;
+fn trim_start(mut bytes: &[u8]) -> &[u8] {
+    while let Some(n) = (1..=bytes.len().min(3)).find(|n| trimmed(&bytes[..*n])) {
+        bytes = &bytes[n..];
     }
     bytes
 }
 
-/// The step of a board cursor of any numbers, over any bytes.
-pub fn visit(text: &[u8], at: u64, number: u64, lines: u32) -> LinSection {
-    let section = if lines == 0 {
-        part(text, at)
-    } else {
-        line(text, at)
-    };
-    let Some((stop, board, next_at)) = section else {
-        return LinSection {
-            found: 0,
-            number: 0,
-            start: 0,
-            stop: 0,
-            board: 0,
-            next_at: at,
-            next_number: number,
-        };
-    };
-    LinSection {
-        found: 1,
-        number,
-        start: at,
-        stop,
-        board: board.into(),
-        next_at,
-        next_number: number.saturating_add(board.into()),
+fn trim_end(mut bytes: &[u8]) -> &[u8] {
+    let ends = |bytes: &[u8]| bytes.len().saturating_sub(3)..bytes.len();
+    while let Some(n) = ends(bytes).find(|n| trimmed(&bytes[*n..])) {
+        bytes = &bytes[..n];
+    }
+    bytes
+}
+
+/// Without white space and byte order marks at both ends, in any order and number.
+/// (Document 01, Records; document 02, N2)
+pub fn trim(bytes: &[u8]) -> &[u8] {
+    trim_end(trim_start(bytes))
+}
+
+/// A token of a text.
+#[derive(Debug, Clone, PartialEq, Eq)]
+pub struct Token<'a> {
+    /// Where its command begins.
+    pub at: usize,
+    /// The command as it stands.
+    pub command: &'a [u8],
+    /// The command as it is compared: trimmed, in lower case.
+    pub name: Vec<u8>,
+    /// The value.
+    pub value: &'a [u8],
+}
+
+impl Token<'_> {
+    /// Where the value begins.
+    pub fn value_at(&self) -> usize {
+        self.at + self.command.len() + 1
+    }
+
+    /// Where the next token begins.
+    pub fn end(&self) -> usize {
+        self.value_at() + self.value.len() + 1
     }
 }
 
-/// Where the line at a place ends, whether it is a board, and the next place.
-fn line(text: &[u8], at: u64) -> Option<(u64, bool, u64)> {
-    if at > text.len() as u64 {
-        return None;
-    }
-    let line = rest(text, at).split(|b| *b == b'\n').next()?;
-    let stop = at + line.len() as u64;
-    Some((stop, !trim(line).is_empty(), stop + 1))
-}
-
-/// The same of the part at a place.
-fn part(text: &[u8], at: u64) -> Option<(u64, bool, u64)> {
-    let mut tokens = Vec::new();
-    let mut end = at;
+/// The tokens from a place on.
+pub fn tokens(text: &[u8], mut at: u64) -> Vec<Token<'_>> {
+    let mut all = Vec::new();
     loop {
-        let found = step(text, end);
+        let found = step(text, at);
         if found.found == 0 {
-            break;
+            return all;
         }
-        let command = Part {
-            start: end,
-            len: found.command_len,
-        };
-        let command = trim(command.of(text));
-        tokens.push((end, command.to_ascii_lowercase()));
-        end = found.next;
+        let part = |start, len| Part { start, len }.of(text);
+        let command = part(found.command_start, found.command_len);
+        all.push(Token {
+            at: at as usize,
+            command,
+            name: trim(command).to_ascii_lowercase(),
+            value: part(found.value_start, found.value_len),
+        });
+        at = found.next;
     }
-    if tokens.is_empty() {
+}
+
+/// A number: an optional `+`, then digits, 255 at most. (Document 01, Board, mc)
+fn number(text: &[u8]) -> Option<u8> {
+    let digits = text.strip_prefix(b"+").unwrap_or(text);
+    if digits.is_empty() || !digits.iter().all(u8::is_ascii_digit) {
         return None;
     }
-    let is = |k: usize, commands: &[&[u8]]| commands.contains(&tokens[k].1.as_slice());
-    let moved_back = |qx: usize| {
-        let led = (0..qx).rev().take_while(|k| is(*k, &[b"mn", b"pn"]));
-        qx - led.count()
-    };
-    let beginnings = (0..tokens.len()).filter(|k| is(*k, &[b"qx"]));
-    let next = beginnings.map(moved_back).find(|begin| *begin > 0);
-    let stop = next.map_or(end, |begin| tokens[begin].0);
-    let board = (0..next.unwrap_or(tokens.len())).any(|k| is(k, &[b"md"]));
-    Some((stop, board, stop))
+    let more = |n: u32, digit: &u8| (10 * n + u32::from(digit - b'0')).min(1_000);
+    u8::try_from(digits.iter().fold(0, more)).ok()
 }
 
 /// A document of any rows written into any output.

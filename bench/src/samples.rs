@@ -1,10 +1,12 @@
 //! Random records of one board, and files of them: commands in any dress, with
-//! values that are read, nearly read or skipped.
+//! values that are read, nearly read or skipped; about one in three with byte order
+//! marks.
 
 pub mod auctions;
 pub mod built;
 pub mod hostile;
 pub mod lent;
+pub mod marks;
 pub mod pbn;
 
 use oracle::{
@@ -13,7 +15,7 @@ use oracle::{
 };
 
 const BLANKS: &[&str] = &[
-    "", "", "", " ", "\n", "\r\n", "\t", "\u{85}", "\u{A0}", "\u{2028}", "\u{3000}", "\u{FEFF}",
+    "", "", "", " ", "\n", "\r\n", "\t", "\u{85}", "\u{A0}", "\u{2028}", "\u{3000}", "\u{FFFE}",
     "\u{200B}",
 ];
 const NAMES: &[&str] = &["", "", " ", "Alice", "José", "Jose\u{301}", "~~M1", "李雷"];
@@ -63,7 +65,19 @@ const CARDS: &[&str] = &[
     "",
     "é",
     "S A",
-    "SA\u{FEFF}",
+    "SA\u{FFFE}",
+];
+const EASTS: &[&str] = &[
+    "",
+    "",
+    " ",
+    "\u{3000}\t",
+    "x",
+    "S",
+    "\u{FEFF}",
+    " \u{FEFF}\u{A0}",
+    "\u{FFFE}",
+    "SA",
 ];
 const CLAIMS: &[&str] = &[
     "9",
@@ -98,7 +112,7 @@ const SKIPPED: &[&str] = &[
     "at",
     "m d",
     "mdx",
-    "\u{FEFF}md",
+    "\u{FFFE}md",
     "Ｍd",
     "",
 ];
@@ -115,7 +129,7 @@ pub fn record(rng: &mut Rng, tokens: usize) -> String {
     if rng.once_in(4) {
         text += *rng.pick(&["\n", "mb", "mc|7", "é"]);
     }
-    text
+    marks::text(rng, text)
 }
 
 /// Some records one after another: parts about qx tokens, or lines.
@@ -137,7 +151,7 @@ pub fn file(rng: &mut Rng, tokens: usize) -> String {
         // no qx token is left
         text = text.replace(['q', 'Q'], "p");
     }
-    text
+    marks::text(rng, text)
 }
 
 fn command(rng: &mut Rng) -> &'static str {
@@ -198,7 +212,7 @@ fn md(rng: &mut Rng) -> String {
         (0..rng.below(6)).map(|_| hand(rng)).collect()
     };
     if rng.once_in(3) && hands.len() >= 3 {
-        let east = rng.pick(&["", "", " ", "\u{3000}\t", "x", "S", "\u{FEFF}", "SA"]);
+        let east = rng.pick(EASTS);
         hands.truncate(3);
         hands.push(east.to_string());
     }

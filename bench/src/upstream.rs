@@ -220,15 +220,6 @@ pub fn record(lent: pbn::Lent) -> Record {
     }
 }
 
-/// The board that upstream makes of what is lent.
-///
-/// # Panics
-///
-/// If a refusal meets it.
-pub fn made(lent: pbn::Lent) -> LinData {
-    oracle::pbn::made(&record(lent))
-}
-
 /// A record of upstream's as the host has it.
 pub fn pbn_record(from: &Record) -> pbn::Record<'_> {
     let mut deal = Deal::new();

@@ -1,6 +1,10 @@
-//! The board reader against the oracle.
+//! The board reader against the oracle and the model.
 
-use lin_bench::{compare, model, samples};
+use lin_bench::{
+    compare,
+    model::{self, MARK},
+    samples,
+};
 use lin_host_rust::{boards, LIMIT};
 use oracle::{random::Rng, records, texts};
 
@@ -127,16 +131,18 @@ fn short_values() {
     }
 }
 
-/// Every character at both ends of what is trimmed.
+/// Every character at both ends of what is trimmed, the byte order mark apart from
+/// those that upstream is asked about.
 #[test]
 fn every_blank() {
-    let all: Vec<char> = ('\0'..=char::MAX).filter(|c| *c != '|').collect();
-    for some in all.chunks(1_000) {
+    let others = |c: &char| !['|', MARK].contains(c);
+    let all: Vec<char> = ('\0'..=char::MAX).filter(others).collect();
+    for some in all.chunks(1_000).chain([&[MARK][..]]) {
         let token = |c: &char| format!("{c}mb{c}|{c}|pc|{c}HK{c}|");
         let text: String = some.iter().map(token).collect();
         compared(text.as_bytes());
     }
-    for c in all.iter().filter(|c| **c < '\u{3100}') {
+    for c in all.iter().filter(|c| **c < '\u{3100}').chain([&MARK]) {
         let text = format!("md|{c}1SA,{c},|sv|{c}b{c}|mc|{c}7{c}|mb|{c}!{c}|");
         compared(text.as_bytes());
     }

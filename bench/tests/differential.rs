@@ -1,4 +1,5 @@
-//! A differential run of a few seconds, with cases of every kind.
+//! A differential run of a few seconds, with cases of every kind, with byte order
+//! marks and without.
 
 use lin_bench::differential::{run, Kind};
 use std::time::Duration;
@@ -9,7 +10,9 @@ fn a_short_run() {
     println!("{report}");
     assert!(report.differences.is_empty(), "{report}");
     for (kind, name) in Kind::ALL {
-        assert!(report.count(kind) > 0, "no {name}");
+        let (all, marks) = (report.count(kind), report.marks(kind));
+        assert!(all > marks, "no {name}, or all with a byte order mark");
+        assert!(marks > 0 || kind == Kind::Plays, "no {name} with one");
     }
     assert!(report.cases() >= 2_000);
 }

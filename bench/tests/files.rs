@@ -242,7 +242,7 @@ fn refusals_of_the_finder() {
     }
 }
 
-// Against upstream
+// Against upstream and the model
 
 #[test]
 fn stored_texts() {

@@ -200,10 +200,32 @@ fn texts_and_their_absence() {
 
 #[test]
 fn commands_in_any_dress() {
-    let dressed = heading("\r\nMD|1|\u{3000}mN\u{85}|a|\u{FEFF}qx|b|");
+    let dressed = heading("\r\nMD|1|\u{3000}mN\u{85}|a|\u{FEFF}qx|b|\u{200B}ah|c|");
     assert_eq!(dressed.dealer, Seat::South);
     assert_eq!(dressed.title, Some("a"));
-    assert_eq!(dressed.room_board, None);
+    assert_eq!(dressed.room_board, Some("b"));
+    assert_eq!(dressed.board_header, None);
+}
+
+/// Trimming removes the mark as well as white space, and nothing else does.
+#[test]
+fn byte_order_marks() {
+    let trimmed = "\u{FEFF}md\u{FEFF}|\u{FEFF}1SA\u{FEFF}|sv| \u{FEFF}b\u{FEFF} |\
+                   pc|\u{FEFF}SA\u{FEFF}|mc|\u{FEFF}\u{3000}9\u{FEFF}|";
+    let plain = "md|1SA|sv|b|pc|SA|mc|9|";
+    assert_eq!(heading(trimmed), heading(plain));
+    let kept = "pn|\u{FEFF}a|mn|\u{FEFF}|qx|\u{FEFF}r|ah|h\u{FEFF}|mb|\u{FEFF}1C!|an|\u{FEFF}|";
+    let board = boards::board(kept.as_bytes()).unwrap();
+    assert_eq!(board.heading.names, ["\u{FEFF}a", "", "", ""]);
+    assert_eq!(board.heading.title, Some("\u{FEFF}"));
+    assert_eq!(board.heading.room_board, Some("\u{FEFF}r"));
+    assert_eq!(board.heading.board_header, Some("h\u{FEFF}"));
+    assert_eq!(board.calls[0].bid, "\u{FEFF}1C");
+    assert_eq!(board.calls[0].annotation, Some("\u{FEFF}"));
+    for like in ["\u{FFFE}", "\u{200B}", "\u{2060}"] {
+        let text = format!("{like}md|1|mc|{like}9|");
+        assert_eq!(heading(&text), heading(""));
+    }
 }
 
 #[test]
@@ -222,13 +244,13 @@ fn hands() {
 fn implied_east() {
     let suits = ["S", "H", "D"].map(|s| format!("{s}AKQJT98765432"));
     let three = suits.join(",");
-    for east in ["", ",", ", \u{3000}", ",,SA", ", ,x"] {
+    for east in ["", ",", ", \u{3000}", ",\u{FEFF}", ",,SA", ", ,x"] {
         let text = format!("md|1{three}{east}|");
         let all = heading(&text);
         assert_eq!(lengths(&all), [13; 4], "{east:?}");
         assert_eq!(all.deal.hand(Seat::East)[39..], [1; 13]);
     }
-    for (east, cards) in [(",x", 0), (",S", 0), (",\u{FEFF}", 0), (",SA", 1)] {
+    for (east, cards) in [(",x", 0), (",S", 0), (",\u{200B}", 0), (",SA", 1)] {
         let text = format!("md|1{three}{east}|");
         assert_eq!(lengths(&heading(&text))[3], cards, "{east:?}");
     }

@@ -148,8 +148,24 @@ fn lines() {
     for one in ["a\rb", "a\u{85}b", "a\u{2028}b", "a\u{B}b"] {
         assert_eq!(count(one), 1, "{one:?}");
     }
-    // no md is needed, and a blank is white space of any kind
-    assert_eq!(parts("\u{A0}\n\u{200B}\n"), ["\u{200B}"]);
+    // no md is needed, and a blank is white space of any kind or a byte order mark
+    assert_eq!(parts("\u{A0}\n\u{200B}\n\u{FEFF}\n"), ["\u{200B}"]);
+}
+
+/// A file that is saved with a byte order mark at its front has the boards that it has
+/// without one.
+#[test]
+fn a_mark_at_the_front() {
+    let text = "qx|o1|md|1|qx|o2|md|2|";
+    let marked = format!("\u{FEFF}{text}");
+    assert_eq!(count(&marked), 2);
+    for number in 0..2 {
+        let plain = files::file_board(text.as_bytes(), number);
+        assert_eq!(files::file_board(marked.as_bytes(), number), plain);
+    }
+    // without its qx the file would be one line, and a board
+    assert_eq!(count("\u{FEFF}qx|a|sv|n|"), 0);
+    assert_eq!(count("\u{FEFF}"), 0);
 }
 
 #[test]

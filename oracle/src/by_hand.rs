@@ -1,14 +1,15 @@
-//! Cases by hand, from documents 01 and 02 and not from upstream, which refuses nothing
-//! and checks no auction: the refusals with what each carries, beside the nearest input
-//! that is accepted; their order; places of spans; outputs longer than their room; the
-//! laws of an auction. A module for each subject makes its cases; the file is
-//! `by_hand.bin`.
+//! Cases by hand, from documents 01 and 02 and not from upstream, which refuses nothing,
+//! checks no auction and does not trim a byte order mark: the refusals with what each
+//! carries, beside the nearest input that is accepted; their order; places of spans;
+//! outputs longer than their room; the laws of an auction; texts with byte order marks. A
+//! module for each subject makes its cases; the file is `by_hand.bin`.
 
 mod annotation;
 mod auction;
 mod boards;
 mod equality;
 mod files;
+mod marks;
 mod pbn;
 mod tokens;
 mod writer;
@@ -102,5 +103,6 @@ pub fn vectors() -> Vectors {
     annotation::put(&mut s);
     pbn::put(&mut s);
     auction::put(&mut s);
+    marks::put(&mut s);
     s.done()
 }

@@ -50,27 +50,27 @@ fn having(boards: &[LinData], name: &str) -> usize {
     boards.iter().filter(has).count()
 }
 
-fn put(s: &mut Steps, text: &str) {
-    let Ok(list) = parse_lin_file(text);
+/// The text has these boards, by their numbers and by the cursor, and these names.
+pub(crate) fn put(s: &mut Steps, text: &str, list: &[LinData]) {
     s.lend(TEXT, text.as_bytes());
     s.set(COUNT_OF, &[list.len() as u32]);
     s.go(COUNTED);
     s.go(cursor::OPENED);
-    for board in &list {
+    for board in list {
         readers::read(s, board);
         s.go(cursor::STEPPED);
     }
     s.go(cursor::ENDED);
     s.go(MISSING);
-    for name in names::asked(text, &list) {
+    for name in names::asked(text, list) {
         s.lend(TEXT2, name.as_bytes());
-        s.set(HAVING, &[having(&list, &name) as u32]);
+        s.set(HAVING, &[having(list, &name) as u32]);
         s.go(FOUND);
     }
 }
 
 /// The groups: a case for each text, for each board or for each name.
-const LINES: [&str; 10] = [
+pub(crate) const LINES: [&str; 10] = [
     "counts",
     "headings",
     "boards",
@@ -87,13 +87,11 @@ const LINES: [&str; 10] = [
 const HAVING: usize = OWN_NUMBER;
 const FOUND: usize = OWN_BLOCK;
 
-/// The file `files.bin`: the boards of each text by their numbers and by the
-/// cursor, and how many of them have each name that is asked for.
-pub fn vectors() -> Vectors {
-    let mut s = Steps::new();
-    readers::define(&mut s, Call::FileHeading, Call::FileBoard, 1);
-    readers::define_file(&mut s, 0, 7);
-    cursor::define(&mut s, 8);
+/// The blocks of these groups.
+pub(crate) fn define(s: &mut Steps) {
+    readers::define(s, Call::FileHeading, Call::FileBoard, 1);
+    readers::define_file(s, 0, 7);
+    cursor::define(s, 8);
     s.block(FOUND, |b| {
         b.call(Call::FindName);
         b.is(ANSWER, &[0, 0]);
@@ -102,8 +100,16 @@ pub fn vectors() -> Vectors {
         b.is(HIGH, &[0; 8]);
         b.case(9);
     });
+}
+
+/// The file `files.bin`: the boards of each text by their numbers and by the
+/// cursor, and how many of them have each name that is asked for.
+pub fn vectors() -> Vectors {
+    let mut s = Steps::new();
+    define(&mut s);
     for text in texts() {
-        put(&mut s, &text);
+        let Ok(list) = parse_lin_file(&text);
+        put(&mut s, &text, &list);
     }
     s.say("files", &LINES);
     s.done()

@@ -126,6 +126,7 @@ fn write_runs(crates: &Path) -> io::Result<()> {
 #[cfg(test)]
 mod tests {
     use super::{listing, MOST_BYTES, SUBJECTS};
+    use oracle::texts::BYTE_ORDER_MARK;
     use std::{fs, path::Path};
 
     /// The vectors that the replay programs have are those of the generator.
@@ -141,6 +142,22 @@ mod tests {
             let stored = fs::read(&file).unwrap();
             assert!(stored.len() <= MOST_BYTES);
             assert!(stored == (s.vectors)().bytes(), "{}", file.display());
+        }
+    }
+
+    /// Upstream is asked about no text with a byte order mark (document 02, N2): no file
+    /// of its answers has the bytes of one. Well-formed starts are those of the standard
+    /// library.
+    #[test]
+    fn no_answer_of_upstream_has_a_mark() {
+        let mut buffer = [0; 3];
+        let mark = BYTE_ORDER_MARK.encode_utf8(&mut buffer).as_bytes();
+        for s in SUBJECTS
+            .iter()
+            .filter(|s| !["utf8", "by_hand"].contains(&s.name))
+        {
+            let bytes = (s.vectors)();
+            assert!(bytes.bytes().windows(3).all(|w| w != mark), "{}", s.name);
         }
     }
 

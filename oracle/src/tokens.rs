@@ -18,7 +18,7 @@ pub fn texts() -> Vec<String> {
     all.extend((1..=3).map(|n| records::lines(rng, n)));
     all.extend((1..=6).map(|n| records::movie(rng, 4 * n)));
     let record = records::file(rng, 1);
-    all.push(format!("\u{FEFF}{record}"));
+    all.push(format!("\u{FFFE}{record}"));
     all.push(record.replace('\n', "\r\n"));
     all.push(record.replace("||", "|"));
 
@@ -33,6 +33,9 @@ pub fn texts() -> Vec<String> {
     texts::distinct(all)
 }
 
+/// The groups.
+pub(crate) const LINES: [&str; 2] = ["tokens", "written"];
+
 /// The blocks: a token, the end of the tokens, and the text written again.
 const FOUND: usize = OWN_BLOCK;
 const ENDED: usize = OWN_BLOCK + 1;
@@ -41,7 +44,7 @@ const WRITTEN: usize = OWN_BLOCK + 2;
 /// More bytes than any text has.
 const MOST_BYTES: usize = 32_768;
 
-fn define(s: &mut Steps) {
+pub(crate) fn define(s: &mut Steps) {
     s.mark(MOST_BYTES);
     s.block(FOUND, |b| {
         b.call(Call::Next);
@@ -80,8 +83,7 @@ fn define(s: &mut Steps) {
 
 /// The cursor over a text: each command and value, each place, the end and the
 /// trailing text. The rows of the tokens found are kept, and written again.
-fn put(s: &mut Steps, text: &str) {
-    let (tokens, trailing) = crate::tokens(text);
+pub(crate) fn put(s: &mut Steps, text: &str, tokens: &[(String, String)], trailing: &str) {
     s.lend(TEXT, text.as_bytes());
     s.call(Call::Open);
     s.answer(0, 0, 0);
@@ -107,9 +109,10 @@ pub fn vectors() -> Vectors {
     let mut s = Steps::new();
     define(&mut s);
     for text in texts() {
-        put(&mut s, &text);
+        let (tokens, trailing) = crate::tokens(&text);
+        put(&mut s, &text, &tokens, &trailing);
     }
-    s.say("tokens", &["tokens", "written"]);
+    s.say("tokens", &LINES);
     s.done()
 }
 

@@ -56,7 +56,7 @@ const PLAY_LESS: usize = OWN_BLOCK + 5;
 
 /// The groups: by `write_lin`, by append after seven used bytes, and the play as
 /// text, each with room to spare, exactly enough, and a byte less.
-const LINES: [&str; 9] = [
+pub(crate) const LINES: [&str; 9] = [
     "written",
     "written exactly",
     "written a byte less",
@@ -117,7 +117,7 @@ fn enough(b: &mut Steps, call: Call, used: u32, text: usize, group: usize) {
     whole(b, text, group + 1);
 }
 
-fn define(s: &mut Steps) {
+pub(crate) fn define(s: &mut Steps) {
     lent::define(s, lent::ONE_BOARD);
     s.mark(MOST_BYTES as usize);
     s.block(WRITE, |b| {
@@ -132,11 +132,11 @@ fn define(s: &mut Steps) {
     s.block(PLAY_LESS, |b| less(b, Call::PlayText, 8));
 }
 
-fn put(s: &mut Steps, board: &LinData) {
+/// This is written of the board.
+pub(crate) fn put(s: &mut Steps, board: &LinData, written: &str) {
     let mut texts = Vec::new();
     lent::board(s, lent::ONE_BOARD, board, &mut texts);
     s.lend(TEXT, &texts);
-    let written = write_lin(board);
     let play = board.format_cardplay_by_trick();
     s.set(TEXT_LEN, &[written.len() as u32]);
     s.block(WRITTEN, |b| b.wrote(USED, written.as_bytes()));
@@ -156,7 +156,7 @@ pub fn vectors() -> Vectors {
     let mut s = Steps::new();
     define(&mut s);
     for board in all() {
-        put(&mut s, &board);
+        put(&mut s, &board, &write_lin(&board));
     }
     s.say("writer", &LINES);
     s.done()

@@ -1,11 +1,11 @@
-//! The board of a text against upstream's, field by field, and what is lent
+//! The board of a text against the expected one, field by field, and what is lent
 //! for it.
 
 use super::{
     guards::{bytes as guarded_bytes, held, held_words, words as guarded_words},
     same, Same,
 };
-use crate::{model, upstream};
+use crate::{expected, model, upstream};
 use lin_host_rust::{
     boards::{self, Board, Heading, LinHeading, Seat, ROW},
     Refusal, RowKind,
@@ -15,8 +15,8 @@ use oracle::lin::LinData;
 /// A reader of one board into the rows and the cards lent.
 pub(super) type Read<'a> = &'a dyn Fn(&mut [u32], &mut [u8]) -> LinHeading;
 
-/// The board of these bytes as upstream reads it, or the refusal of opening
-/// them, in any rows and cards.
+/// The board of these bytes as expected, or the refusal of opening them, in any
+/// rows and cards.
 pub fn board(bytes: &[u8]) -> Same {
     let read = |rows: &mut [u32], cards: &mut [u8]| boards::parse_lin_numbers(bytes, rows, cards);
     if let Err(refusal) = model::open(bytes) {
@@ -24,31 +24,34 @@ pub fn board(bytes: &[u8]) -> Same {
         same("board", boards::board(bytes), Err(refusal))?;
         return refused_in_any(bytes, &read, refusal);
     }
-    let text = std::str::from_utf8(bytes).map_err(|e| e.to_string())?;
-    let Ok(want) = oracle::lin::parse_lin(text);
-    let got = boards::board(bytes).map_err(|r| format!("refused: {r:?}"))?;
-    as_upstream(&got, &want)?;
+    let got = read_as_expected(bytes)?;
     same("heading", boards::heading(bytes), Ok(got.heading))?;
     lent(bytes, &read, &got)
 }
 
 /// The fields alone of the board of a text that opens.
 pub fn read(bytes: &[u8]) -> Same {
+    read_as_expected(bytes).map(|_| ())
+}
+
+fn read_as_expected(bytes: &[u8]) -> Result<Board<'_>, String> {
     let text = std::str::from_utf8(bytes).map_err(|e| e.to_string())?;
-    let Ok(want) = oracle::lin::parse_lin(text);
     let got = boards::board(bytes).map_err(|r| format!("refused: {r:?}"))?;
-    as_upstream(&got, &want)
+    fields_of(&got, &expected::board(text)?)?;
+    Ok(got)
 }
 
-/// Every field of a board.
-pub fn as_upstream(got: &Board, want: &LinData) -> Same {
-    fields(got, &upstream::board(want))
-}
-
-pub(super) fn fields(got: &Board, want: &Board) -> Same {
+/// Every field of a board, hands by counts.
+pub fn fields_of(got: &Board, want: &LinData) -> Same {
+    let want = upstream::board(want);
     heading(&got.heading, &want.heading)?;
     same("calls", &got.calls, &want.calls)?;
     same("play", &got.play, &want.play)
+}
+
+/// The same of two boards in upstream's form.
+pub fn same_boards(got: &LinData, want: &LinData) -> Same {
+    fields_of(&upstream::board(got), want)
 }
 
 /// The board in as many rows and cards as it needs and in more, and refused in

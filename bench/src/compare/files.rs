@@ -1,27 +1,26 @@
-//! The boards of a file against upstream's, by number and through the cursor;
-//! their count and the finder; the cursor's step over sections against the
+//! The boards of a file against the expected ones, by number and through the
+//! cursor; their count and the finder; the cursor's step over sections against the
 //! model.
 
 use super::{
-    boards::{as_upstream, lent, refused_heading, refused_in_any},
+    boards::{fields_of, lent, refused_heading, refused_in_any},
     reader::{reads, walk},
     same, Same,
 };
-use crate::model;
+use crate::{expected, model};
 use lin_host_rust::{
     files::{self, Boards, LinBoards},
     Refusal, LIMIT,
 };
-use oracle::lin::{parse_lin_file, LinData};
+use oracle::lin::LinData;
 
-/// The file of these bytes as upstream reads it, or the refusal of opening
-/// them.
+/// The file of these bytes as expected, or the refusal of opening them.
 pub fn file(bytes: &[u8]) -> Same {
     if let Err(refusal) = model::open(bytes) {
         return refused(bytes, refusal);
     }
     let text = std::str::from_utf8(bytes).map_err(|e| e.to_string())?;
-    let Ok(want) = parse_lin_file(text);
+    let want = expected::file(text)?;
     let count = want.len() as u64;
     same("count", files::count_boards(bytes), Ok(count))?;
     for (number, board) in (0..).zip(&want) {
@@ -38,7 +37,7 @@ pub fn file(bytes: &[u8]) -> Same {
 
 fn by_number(bytes: &[u8], number: u64, want: &LinData) -> Same {
     let got = files::file_board(bytes, number).map_err(|r| format!("refused: {r:?}"))?;
-    as_upstream(&got, want)?;
+    fields_of(&got, want)?;
     let heading = files::file_heading(bytes, number);
     same("heading", heading, Ok(got.heading))?;
     lent(
@@ -67,7 +66,7 @@ fn through_cursor(bytes: &[u8], want: &[LinData]) -> Same {
         };
         same("number", next.number, number).map_err(at)?;
         let got = next.board().map_err(|r| at(format!("refused: {r:?}")))?;
-        as_upstream(&got, want).map_err(at)?;
+        fields_of(&got, want).map_err(at)?;
         same("heading", next.heading(), Ok(got.heading)).map_err(at)?;
     }
     same("a board after the last", boards.next(), None)?;
@@ -83,7 +82,7 @@ fn through_reader(bytes: &[u8], want: &[LinData]) -> Same {
             return Err(at("none".to_string()));
         };
         same("number", next, number).map_err(at)?;
-        as_upstream(&got, want).map_err(at)?;
+        fields_of(&got, want).map_err(at)?;
     }
     let number = |board: (u64, _)| board.0;
     same("a board after the last", boards.next().map(number), None)?;
@@ -136,19 +135,22 @@ fn refused(bytes: &[u8], refusal: Refusal) -> Same {
 }
 
 /// The finder over any bytes: refused by 1 and 2, each of the file and then of
-/// the name, or the count of upstream's boards.
+/// the name, or the count of the boards expected.
 pub fn name(bytes: &[u8], name: &[u8]) -> Same {
-    let want = || {
-        if bytes.len().max(name.len()) > LIMIT {
-            return Err(Refusal::TextTooLong);
-        }
-        model::open(bytes)?;
-        model::open(name)?;
-        let Ok(boards) = parse_lin_file(&String::from_utf8_lossy(bytes));
-        let has = |b: &&LinData| b.player_names.iter().any(|n| n.as_bytes() == name);
-        Ok(boards.iter().filter(has).count() as u64)
+    let refused = if bytes.len().max(name.len()) > LIMIT {
+        Err(Refusal::TextTooLong)
+    } else {
+        model::open(bytes).and_then(|_| model::open(name))
     };
-    same("finder", files::find_name(bytes, name), want())
+    let want = match refused {
+        Err(refusal) => Err(refusal),
+        Ok(_) => {
+            let boards = expected::file(&String::from_utf8_lossy(bytes))?;
+            let has = |b: &&LinData| b.player_names.iter().any(|n| n.as_bytes() == name);
+            Ok(boards.iter().filter(has).count() as u64)
+        }
+    };
+    same("finder", files::find_name(bytes, name), want)
 }
 
 /// The board cursor's step from one place, as the model has it; any number but

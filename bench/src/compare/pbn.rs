@@ -1,13 +1,14 @@
-//! Annotations and boards made of PBN records against upstream and the model.
-//! Every buffer stands between guards.
+//! Annotations and boards made of PBN records against what is expected and the
+//! model. Every buffer stands between guards.
 
 use super::{
-    boards::as_upstream,
+    boards::fields_of,
     guards::{bytes, held, held_words, words},
     same, Same,
 };
 use crate::{
-    model::{self, pbn::Told},
+    expected,
+    model::{self, clean, pbn::Told},
     upstream,
 };
 use lin_host_rust::{
@@ -33,7 +34,8 @@ pub fn annotation(text: &[u8], raw: Span, notes: &NoteWords, len: usize) -> Same
     Ok(())
 }
 
-/// Upstream's text is the model's, cleaned; and so is that of the safe wrapper.
+/// The annotation of a board made is the model's text, cleaned; and the safe wrapper
+/// gives that text.
 fn cleaned(text: &[u8], raw: Span, notes: &NoteWords) -> Same {
     let notes = model::pbn::note_texts(text, notes);
     let raw = std::str::from_utf8(raw.of(text)).map_err(|e| e.to_string())?;
@@ -42,17 +44,13 @@ fn cleaned(text: &[u8], raw: Span, notes: &NoteWords) -> Same {
         call: Call::Pass,
         annotation: Some(raw.to_string()),
     };
-    let made = oracle::pbn::made(&Record {
+    let made = expected::made(&Record {
         calls: vec![call],
         notes: notes.iter().map(|(n, t)| (*n, t.to_string())).collect(),
         ..Record::default()
-    });
-    let clean = |t: &String| t.replace('|', "/").replace(['\r', '\n'], " ");
-    same(
-        "upstream's",
-        &made.auction[0].annotation,
-        &want.as_ref().map(clean),
-    )?;
+    })?;
+    let cleaned = want.as_deref().map(clean);
+    same("cleaned", &made.auction[0].annotation, &cleaned)?;
     same("as a text", pbn::annotation_text(raw, &notes), Ok(want))
 }
 
@@ -84,8 +82,16 @@ pub struct Sizes {
 }
 
 /// A record lent with so much: the whole answer and all that is lent are the
-/// model's.
+/// model's, whose board is the expected one.
 pub fn converted(lent: Lent, sizes: Sizes) -> Same {
+    if model::pbn::refusal(&lent).is_none() {
+        expected::made(&upstream::record(lent))?;
+    }
+    answered(lent, sizes)
+}
+
+/// The same, once the board is known to be the expected one.
+fn answered(lent: Lent, sizes: Sizes) -> Same {
     let mut want = (
         held(sizes.bytes),
         held_words(sizes.words),
@@ -112,8 +118,8 @@ pub fn converted(lent: Lent, sizes: Sizes) -> Same {
 }
 
 /// A record with exactly enough of all, with more, and with a byte, a row, a
-/// place or all three less; or refused with any. The safe wrapper gives
-/// upstream's board.
+/// place or all three less; or refused with any. The safe wrapper gives the board
+/// expected.
 pub fn record(lent: Lent) -> Same {
     if model::pbn::refusal(&lent).is_some() {
         let none = Sizes {
@@ -126,23 +132,23 @@ pub fn record(lent: Lent) -> Same {
             words: 60,
             places: 20,
         };
-        converted(lent, none)?;
-        return converted(lent, some);
+        answered(lent, none)?;
+        return answered(lent, some);
     }
-    let made = upstream::made(lent);
+    let made = expected::made(&upstream::record(lent))?;
     let told = Told::from(&made);
     let exact = Sizes {
         bytes: told.texts.len(),
         words: told.rows.len(),
         places: told.cards.len(),
     };
-    converted(lent, exact)?;
+    answered(lent, exact)?;
     let more = Sizes {
         bytes: exact.bytes + 9,
         words: exact.words + ROW + 5,
         places: exact.places + 3,
     };
-    converted(lent, more)?;
+    answered(lent, more)?;
     lacking(lent, exact)?;
     wrapped(lent, &made)
 }
@@ -160,18 +166,18 @@ fn lacking(lent: Lent, exact: Sizes) -> Same {
         words,
         places,
     };
-    converted(lent, sizes(less(bytes), words, places))?;
-    converted(lent, sizes(bytes, less(words), places))?;
-    converted(lent, sizes(bytes, words, less(places)))?;
-    converted(lent, sizes(less(bytes), less(words), less(places)))?;
-    converted(lent, sizes(less(bytes), words, less(places)))
+    answered(lent, sizes(less(bytes), words, places))?;
+    answered(lent, sizes(bytes, less(words), places))?;
+    answered(lent, sizes(bytes, words, less(places)))?;
+    answered(lent, sizes(less(bytes), less(words), less(places)))?;
+    answered(lent, sizes(less(bytes), words, less(places)))
 }
 
 /// The board of the safe wrapper.
 fn wrapped(lent: Lent, made: &oracle::lin::LinData) -> Same {
     let record = upstream::record(lent);
     match pbn::from_board(&upstream::pbn_record(&record)) {
-        Ok(got) => as_upstream(&got.board(), made),
+        Ok(got) => fields_of(&got.board(), made),
         Err(refusal) => Err(format!("refused: {refusal:?}")),
     }
 }

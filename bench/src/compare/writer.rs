@@ -1,13 +1,14 @@
-//! Written boards, lists of appends, play texts and equality against upstream
-//! and the plain book. Every output stands between guards.
+//! Written boards, lists of appends, play texts and equality against what is
+//! expected and the plain book. Every output stands between guards.
 
 use super::{
-    boards::fields,
+    boards::same_boards,
     file,
     guards::{self, held},
     same, Same,
 };
 use crate::{
+    expected,
     log::{self, Log},
     upstream,
 };
@@ -16,7 +17,7 @@ use lin_host_rust::{
     writer::{self, Appender, Gathered, Lent},
     LinAnswer, Refusal, LIMIT,
 };
-use oracle::lin::{parse_lin, parse_lin_file, write_lin, LinData};
+use oracle::lin::{parse_lin, LinData};
 
 /// A call on an output that stands between guards.
 fn guarded(out: &mut [u8], call: impl FnOnce(&mut [u8]) -> LinAnswer) -> Result<LinAnswer, String> {
@@ -36,10 +37,10 @@ fn same_outputs(what: &str, got: &[u8], want: &[u8]) -> Same {
 }
 
 /// An append to an output of `len` bytes of which some are used: answer and
-/// output are the model's. Without used bytes it is `write_lin`.
+/// output are those of the append in plain Rust. Without used bytes it is `write_lin`.
 pub fn append(lent: Lent, len: usize, used: u64) -> Same {
     let (mut got, mut want) = (held(len), held(len));
-    let wanted = log::append(lent, &mut want, used);
+    let wanted = log::append(lent, &mut want, used)?;
     let what = format!("{used} used of {len}");
     let answer = guarded(&mut got, |out| lent.append_numbers(out, used))?;
     same(&what, answer.read(), wanted)?;
@@ -62,7 +63,7 @@ pub fn written(lent: Lent) -> Same {
         return append(lent, 2_000, 5);
     }
     let board = upstream::data(lent);
-    let text = write_lin(&board);
+    let text = expected::written(&board)?;
     let n = text.len();
     append(lent, n, 0)?;
     append(lent, n + 9, 0)?;
@@ -88,7 +89,7 @@ pub fn appends(first: Vec<u8>, calls: &[Gathered]) -> Same {
     for (k, call) in calls.iter().enumerate() {
         let at = |d: String| format!("call {k}: {d}");
         let got = call.lent().append(out.lent(), used);
-        same("answer", got, log.enter(call.lent())).map_err(at)?;
+        same("answer", got, log.enter(call.lent()).map_err(at)?).map_err(at)?;
         used = got.unwrap_or(used);
         let rest = &first[log.bytes.len()..];
         out.holds(&[&log.bytes, rest].concat()).map_err(at)?;
@@ -102,11 +103,10 @@ pub fn appends(first: Vec<u8>, calls: &[Gathered]) -> Same {
 /// Both readers find the log's boards in the used bytes.
 fn found(bytes: &[u8], log: &Log) -> Same {
     let text = std::str::from_utf8(bytes).map_err(|e| e.to_string())?;
-    let Ok(read) = parse_lin_file(text);
+    let read = expected::file(text)?;
     same("boards", read.len(), log.boards.len())?;
     for (k, (got, want)) in read.iter().zip(&log.boards).enumerate() {
-        let (got, want) = (upstream::board(got), upstream::board(want));
-        fields(&got, &want).map_err(|d| format!("board {k}: {d}"))?;
+        same_boards(got, want).map_err(|d| format!("board {k}: {d}"))?;
     }
     file(bytes)
 }
@@ -158,8 +158,7 @@ fn upstream_play(cards: &[u8]) -> Result<String, Refusal> {
     Ok(board.format_cardplay_by_trick())
 }
 
-/// Whether each of two boards equals the other, and itself, as upstream
-/// compares.
+/// Whether each of two boards equals the other, and itself, as expected.
 pub fn equality(one: Lent, two: Lent) -> Same {
     for (what, a, b) in [
         ("first, second", one, two),
@@ -169,7 +168,7 @@ pub fn equality(one: Lent, two: Lent) -> Same {
     ] {
         let want = match log::refusal(&[a, b], false) {
             Some(refusal) => Err(refusal),
-            None => Ok(upstream::data(a) == upstream::data(b)),
+            None => Ok(expected::equal(&upstream::data(a), &upstream::data(b))?),
         };
         same(what, a.same(b), want)?;
     }

@@ -3,7 +3,7 @@
 use super::{Kind, Report};
 use crate::{
     compare::{self, Same},
-    samples::{self, auctions, built, lent, pbn},
+    samples::{self, auctions, built, lent, marks, pbn},
 };
 use lin_host_rust::{tokens::Span, writer::Gathered, LIMIT};
 use oracle::{random::Rng, records, texts};
@@ -11,8 +11,7 @@ use oracle::{random::Rng, records, texts};
 /// Some comparisons: one of each of a few kinds.
 pub fn round(rng: &mut Rng, report: &mut Report) {
     if rng.once_in(500) {
-        let (subject, outcome) = long(rng);
-        report.add(Kind::Documents, outcome, || subject);
+        long(rng, report);
     }
     text(rng, report);
     bytes(rng, report);
@@ -37,19 +36,21 @@ pub fn round(rng: &mut Rng, report: &mut Report) {
 fn text(rng: &mut Rng, report: &mut Report) {
     let text = any_text(rng);
     let outcome = compare::text(&text);
-    report.add(Kind::Texts, outcome, || format!("text {text:?}"));
+    report.add(Kind::Texts, text.as_bytes(), outcome, || {
+        format!("text {text:?}")
+    });
 }
 
 fn bytes(rng: &mut Rng, report: &mut Report) {
     let bytes = any_bytes(rng);
     let outcome = compare::open(&bytes).and_then(|()| steps(rng, report, &bytes));
-    report.add(Kind::Bytes, outcome, || format!("bytes {bytes:?}"));
+    report.add(Kind::Bytes, &bytes, outcome, || format!("bytes {bytes:?}"));
 }
 
 fn board(rng: &mut Rng, report: &mut Report) {
     let bytes = any_record(rng);
     let outcome = compare::board(&bytes);
-    report.add(Kind::Boards, outcome, || {
+    report.add(Kind::Boards, &bytes, outcome, || {
         format!("board {}", bytes.escape_ascii())
     });
 }
@@ -57,7 +58,7 @@ fn board(rng: &mut Rng, report: &mut Report) {
 fn file(rng: &mut Rng, report: &mut Report) {
     let bytes = any_file(rng);
     let outcome = compare::file(&bytes).and_then(|()| visits(rng, report, &bytes));
-    report.add(Kind::Files, outcome, || {
+    report.add(Kind::Files, &bytes, outcome, || {
         format!("file {}", bytes.escape_ascii())
     });
 }
@@ -69,7 +70,7 @@ fn annotation(rng: &mut Rng, report: &mut Report) {
     let len = rng.below(40);
     let outcome = compare::annotations(&text, raw, &notes)
         .and_then(|()| compare::annotation(&text, raw, &notes, len));
-    report.add(Kind::Annotations, outcome, || {
+    report.add(Kind::Annotations, &text, outcome, || {
         format!(
             "annotation {raw:?} of {:?}, notes {notes:?}",
             text.escape_ascii()
@@ -85,7 +86,7 @@ fn record(rng: &mut Rng, report: &mut Report) {
         (0..1 + rng.below(2)).for_each(|_| pbn::fault(rng, &mut lent));
     }
     let outcome = compare::record(lent.lent());
-    report.add(Kind::Records, outcome, || format!("{lent:?}"));
+    report.add(Kind::Records, &lent.text, outcome, || format!("{lent:?}"));
 }
 
 /// An auction, at times with faults.
@@ -95,11 +96,12 @@ fn auction(rng: &mut Rng, report: &mut Report) {
         (0..1 + rng.below(2)).for_each(|_| auctions::fault(rng, &mut lent));
     }
     let outcome = compare::auction(&lent.text, lent.dealer, &lent.rows);
-    report.add(Kind::Auctions, outcome, || format!("{lent:?}"));
+    report.add(Kind::Auctions, &lent.text, outcome, || format!("{lent:?}"));
 }
 
+/// A text of any kind, about one in three with byte order marks.
 fn any_text(rng: &mut Rng) -> String {
-    match rng.below(16) {
+    let text = match rng.below(16) {
         0 => {
             let boards = rng.below(5);
             records::file(rng, boards)
@@ -114,21 +116,22 @@ fn any_text(rng: &mut Rng) -> String {
         }
         3 => texts::mixture(rng, 300),
         _ => texts::mixture(rng, 16),
-    }
+    };
+    marks::text(rng, text)
 }
 
 /// A record of one board, now and then another text, or with faults.
 fn any_record(rng: &mut Rng) -> Vec<u8> {
     let text = match rng.below(16) {
         0 => any_text(rng),
-        1 => records::file(rng, 1),
+        1 => {
+            let text = records::file(rng, 1);
+            marks::text(rng, text)
+        }
         2 => samples::record(rng, 200),
         _ => samples::record(rng, 12),
     };
-    if rng.once_in(10) {
-        return texts::damaged(rng, text.as_bytes(), 3);
-    }
-    text.into_bytes()
+    at_times_damaged(rng, text)
 }
 
 /// A file of some boards, now and then another text, or with faults.
@@ -139,28 +142,40 @@ fn any_file(rng: &mut Rng) -> Vec<u8> {
         2 => samples::file(rng, 150),
         _ => samples::file(rng, 16),
     };
-    if rng.once_in(10) {
-        return texts::damaged(rng, text.as_bytes(), 3);
-    }
-    text.into_bytes()
+    at_times_damaged(rng, text)
 }
 
-fn any_bytes(rng: &mut Rng) -> Vec<u8> {
-    if rng.once_in(2) {
-        return texts::bytes(rng, 40);
+/// The text, once in a while with faults or with marks that are cut short.
+fn at_times_damaged(rng: &mut Rng, text: String) -> Vec<u8> {
+    match rng.below(20) {
+        0 => texts::damaged(rng, text.as_bytes(), 3),
+        1 => marks::cut(rng, text.as_bytes()),
+        _ => text.into_bytes(),
     }
-    let text = any_text(rng);
-    texts::damaged(rng, text.as_bytes(), 4)
+}
+
+/// Any bytes, or a text with faults; at times with marks, whole or cut short.
+fn any_bytes(rng: &mut Rng) -> Vec<u8> {
+    let bytes = if rng.once_in(2) {
+        texts::bytes(rng, 40)
+    } else {
+        let text = any_text(rng);
+        texts::damaged(rng, text.as_bytes(), 4)
+    };
+    if rng.once_in(3) {
+        return marks::cut(rng, &bytes);
+    }
+    bytes
 }
 
 fn steps(rng: &mut Rng, report: &mut Report, bytes: &[u8]) -> Same {
     if bytes.len() <= 60 {
-        report.add_many(Kind::Places, bytes.len() + 9);
+        report.add_many(Kind::Places, bytes, bytes.len() + 9);
         return compare::steps(bytes);
     }
     for _ in 0..40 {
         let at = rng.below(bytes.len() + 4);
-        report.add_many(Kind::Places, 1);
+        report.add_many(Kind::Places, bytes, 1);
         compare::step(bytes, at as u64)?;
     }
     Ok(())
@@ -171,7 +186,7 @@ fn visits(rng: &mut Rng, report: &mut Report, bytes: &[u8]) -> Same {
     for _ in 0..8 {
         let at = rng.below(bytes.len() + 4);
         let number = *rng.pick(&[0, 1, u64::from(u32::MAX), u64::MAX - 1, u64::MAX]);
-        report.add_many(Kind::Places, 1);
+        report.add_many(Kind::Places, bytes, 1);
         compare::visit(bytes, at as u64, number)?;
     }
     Ok(())
@@ -192,28 +207,29 @@ fn reads(rng: &mut Rng, report: &mut Report) {
         let cursor = (at, number, lines);
         let lent = [rng.below(24), rng.below(4)];
         let outcome = compare::read_board(&bytes, cursor, lent);
-        report.add(Kind::Reads, outcome, || {
+        report.add(Kind::Reads, &bytes, outcome, || {
             format!("file {}, {cursor:?}, {lent:?}", bytes.escape_ascii())
         });
     }
     let lines = rng.below(2) as u32;
     let outcome = compare::walk(&bytes, lines);
-    report.add(Kind::Walks, outcome, || {
+    report.add(Kind::Walks, &bytes, outcome, || {
         format!("file {}, lines {lines}", bytes.escape_ascii())
     });
 }
 
-/// A file of some boards, at times with a fault anywhere or near its end, or any
-/// bytes.
+/// A file of some boards, at times with a fault anywhere or near its end or with
+/// marks that are cut short, or any bytes.
 fn read_bytes(rng: &mut Rng) -> Vec<u8> {
     let mut bytes = match rng.below(8) {
         0 => any_bytes(rng),
         1 => any_file(rng),
         _ => samples::file(rng, 14).into_bytes(),
     };
-    match rng.below(4) {
+    match rng.below(5) {
         0 => texts::damaged(rng, &bytes, 2),
-        1 => {
+        1 => marks::cut(rng, &bytes),
+        2 => {
             // the first boards are well-formed
             let last = bytes.len() / 4;
             let place = bytes.len() - rng.below(last + 1);
@@ -229,7 +245,10 @@ fn read_bytes(rng: &mut Rng) -> Vec<u8> {
 fn document(rng: &mut Rng, report: &mut Report) {
     let text = match rng.below(3) {
         0 => any_bytes(rng),
-        1 => texts::letters(rng, 20).into_bytes(),
+        1 => {
+            let letters = texts::letters(rng, 20);
+            marks::text(rng, letters).into_bytes()
+        }
         _ => any_text(rng).into_bytes(),
     };
     let wild = rng.once_in(6);
@@ -252,13 +271,13 @@ fn document(rng: &mut Rng, report: &mut Report) {
         words.extend([u32::MAX, 1, 7].iter().take(1 + rng.below(3)));
     }
     let outcome = compare::document(&text, &words, trailing, near as usize);
-    report.add(Kind::Documents, outcome, || {
+    report.add(Kind::Documents, &text, outcome, || {
         format!("bytes {text:?}\nrows {words:?}, trailing {trailing:?}, output of {near}")
     });
 }
 
 /// A text, a document and an output about the limit, at times with a fault.
-fn long(rng: &mut Rng) -> (String, Same) {
+fn long(rng: &mut Rng, report: &mut Report) {
     let near = |rng: &mut Rng| LIMIT - 2 + rng.below(5);
     let (n, len, out) = (near(rng), near(rng), near(rng));
     let mut text = vec![b'x'; n];
@@ -270,8 +289,9 @@ fn long(rng: &mut Rng) -> (String, Same) {
     let rows = if rng.once_in(2) { &rows[..] } else { &[] };
     let trailing = Span::new(0, len as u32);
     let outcome = compare::open(&text).and_then(|()| compare::document(&text, rows, trailing, out));
-    let shown = format!("a text of {n}, rows {rows:?}, trailing {len}, output of {out}");
-    (shown, outcome)
+    report.add(Kind::Documents, &text, outcome, || {
+        format!("a text of {n}, rows {rows:?}, trailing {len}, output of {out}")
+    });
 }
 
 fn span(rng: &mut Rng, text: &[u8], wild: bool) -> Span {
@@ -305,7 +325,10 @@ fn bound(text: &[u8], mut place: usize) -> usize {
 /// What is lent for a board: built by hand or realistic, at times with faults.
 fn any_lent(rng: &mut Rng) -> Gathered {
     let board = match rng.below(16) {
-        0 => records::board(rng, 1),
+        0 => {
+            let board = records::board(rng, 1);
+            marks::board(rng, board)
+        }
         1 => built::board(rng, 40, 60),
         _ => built::board(rng, 5, 9),
     };
@@ -323,7 +346,7 @@ fn written(rng: &mut Rng, report: &mut Report) {
     let used = rng.below(len + 2) as u64;
     let outcome =
         compare::written(lent.lent()).and_then(|()| compare::append(lent.lent(), len, used));
-    report.add(Kind::Written, outcome, || format!("{lent:?}"));
+    report.add(Kind::Written, &lent.text, outcome, || format!("{lent:?}"));
 }
 
 /// A play of which one card may be none, in an output that nearly fits.
@@ -335,7 +358,7 @@ fn play(rng: &mut Rng, report: &mut Report) {
     }
     let len = (3 * cards.len() + rng.below(5)).saturating_sub(3);
     let outcome = compare::play_text(&cards, len);
-    report.add(Kind::Plays, outcome, || {
+    report.add(Kind::Plays, &[], outcome, || {
         format!("play {cards:?}, output of {len}")
     });
 }
@@ -351,7 +374,8 @@ fn pair(rng: &mut Rng, report: &mut Report) {
         }
     }
     let outcome = compare::equality(lent[0].lent(), lent[1].lent());
-    report.add(Kind::Pairs, outcome, || format!("{lent:?}"));
+    let texts = [&lent[0].text[..], &lent[1].text].join(&b'|');
+    report.add(Kind::Pairs, &texts, outcome, || format!("{lent:?}"));
 }
 
 /// Appends to an output of any bytes.
@@ -360,9 +384,12 @@ fn appends(rng: &mut Rng, report: &mut Report) {
     let calls = lent::calls(rng, most);
     let len = rng.below(250 * most);
     let first: Vec<u8> = (0..len).map(|_| rng.byte()).collect();
-    report.add_many(Kind::Appends, calls.len());
+    let texts: Vec<&[u8]> = calls.iter().map(|call| &call.text[..]).collect();
+    texts
+        .iter()
+        .for_each(|text| report.add_many(Kind::Appends, text, 1));
     let outcome = compare::appends(first, &calls);
-    report.add(Kind::Lists, outcome, || {
+    report.add(Kind::Lists, &texts.join(&b'|'), outcome, || {
         format!("output of {len}, {calls:?}")
     });
 }

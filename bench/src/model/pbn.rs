@@ -1,8 +1,7 @@
 //! From PBN in plain Rust: the refusals that meet a lent record or annotation,
-//! the text of an annotation, and where the texts of a board that upstream's
-//! `from_board` makes stand.
+//! the text of an annotation, and where the texts of the board that is made stand.
 
-use super::fresh_board;
+use super::{fresh_board, made, number};
 use crate::upstream;
 use lin_host_rust::{
     boards::{LinBoard, LinHeading, LinText, ROW},
@@ -39,22 +38,13 @@ fn parts(raw: &str) -> Vec<&str> {
     all
 }
 
-/// A note's number: an optional `+`, then digits, 255 at most.
-fn number(text: &str) -> Option<u8> {
-    let digits = text.strip_prefix('+').unwrap_or(text);
-    if digits.is_empty() || !digits.bytes().all(|b| b.is_ascii_digit()) {
-        return None;
-    }
-    let more = |n: u32, b: u8| (10 * n + u32::from(b - b'0')).min(1_000);
-    u8::try_from(digits.bytes().fold(0, more)).ok()
-}
-
 /// The word of a part, empty where it goes.
 fn word<'a>(part: &'a str, notes: &NoteTexts<'a>) -> &'a str {
     const MARKS: [&str; 6] = ["!", "?", "!!", "??", "!?", "?!"];
     match part.as_bytes() {
         [b'=', .., b'='] => {
-            let note = number(&part[1..part.len() - 1]).and_then(|n| notes.get(&n));
+            let within = &part[1..part.len() - 1];
+            let note = number(within.as_bytes()).and_then(|n| notes.get(&n));
             note.copied().unwrap_or(part)
         }
         [b'!' | b'?', ..] => part,
@@ -256,7 +246,7 @@ pub fn convert(lent: Lent, out: &mut [u8], rows: &mut [u32], cards: &mut [u8]) -
     if let Some(refusal) = refusal(&lent) {
         return refused(refusal);
     }
-    let told = Told::from(&upstream::made(lent));
+    let told = Told::from(&made(&upstream::record(lent)));
     let calls = told.rows.len() / ROW;
     if rows.len() / ROW < calls {
         return refused(Refusal::TooFewRows(RowKind::Calls, calls as u64));

@@ -2,15 +2,17 @@
 //! place, with any number, into any rows. (Document 01, File; Board; Eight
 //! refusals)
 //!
-//! Where a board's texts stand is found here; its other fields are those of
-//! upstream's `parse_lin` of its section.
+//! Where a board's texts stand is found here; its other fields are those of the
+//! model's board of its tokens.
 
-use super::{fresh_board, rest, step, trim, visit};
+use super::{
+    boards::{alerts, from_tokens},
+    fresh_board, rest, tokens, visit, Token,
+};
 use crate::upstream;
 use lin_host_rust::{
     boards::{LinBoard, LinText, ROW},
     files::{LinRead, LinSection},
-    tokens::Part,
     LinAnswer, Refusal, RowKind, LIMIT,
 };
 
@@ -37,31 +39,6 @@ fn present(start: usize, len: usize) -> LinText {
     }
 }
 
-/// The command, trimmed and lowered, and the place and the bytes of the value.
-type Value<'a> = (Vec<u8>, usize, &'a [u8]);
-
-/// The tokens of a section.
-fn values(text: &[u8], section: LinSection) -> Vec<Value<'_>> {
-    let (start, stop) = (section.start as usize, section.stop as usize);
-    let mut all = Vec::new();
-    let mut at = 0;
-    loop {
-        let found = step(&text[start..stop], at);
-        if found.found == 0 {
-            return all;
-        }
-        let part = |from: u64, len| Part {
-            start: start as u64 + from,
-            len,
-        };
-        let command = part(found.command_start, found.command_len).of(text);
-        let value = part(found.value_start, found.value_len);
-        let command = trim(command).to_ascii_lowercase();
-        all.push((command, value.start as usize, value.of(text)));
-        at = found.next;
-    }
-}
-
 /// What a section that is UTF-8 is read as: the board, the rows of its calls and
 /// its cards.
 struct Told {
@@ -72,8 +49,8 @@ struct Told {
 
 impl Told {
     /// The fields that are no texts, and no rows.
-    fn fields(section: &str) -> Told {
-        let Ok(read) = oracle::lin::parse_lin(section);
+    fn fields(tokens: &[Token]) -> Told {
+        let read = from_tokens(tokens);
         let read = upstream::board(&read);
         let heading = read.heading;
         Told {
@@ -99,22 +76,23 @@ impl Told {
         }
     }
 
-    /// A call without its trailing marks.
+    /// A call without its trailing `!`.
     fn call(&mut self, at: usize, value: &[u8]) {
-        let marks = value.iter().rev().take_while(|b| **b == b'!').count();
-        let len = (value.len() - marks) as u32;
+        let alerts = alerts(value);
+        let len = (value.len() - alerts) as u32;
         self.rows
-            .extend([at as u32, len, (marks > 0).into(), 0, 0, 0]);
+            .extend([at as u32, len, (alerts > 0).into(), 0, 0, 0]);
     }
 
     /// Where the texts of a token stand.
-    fn token(&mut self, (command, at, value): Value) {
+    fn token(&mut self, token: &Token) {
+        let (at, value) = (token.value_at(), token.value);
         let text = present(at, value.len());
         let filled = match value {
             [] => fresh_board().title,
             _ => text,
         };
-        match command.as_slice() {
+        match token.name.as_slice() {
             b"pn" => self.names(at, value),
             b"mn" => self.board.title = filled,
             b"qx" => self.board.room_board = filled,
@@ -182,10 +160,9 @@ fn found(
         return looked_at(text, at, text.len() as u64).map(|()| None);
     };
     looked_at(text, at, section.stop)?;
-    let bytes = &text[section.start as usize..section.stop as usize];
-    let mut told = Told::fields(std::str::from_utf8(bytes).expect("looked at"));
-    let tokens = values(text, section).into_iter();
-    tokens.for_each(|value| told.token(value));
+    let tokens = tokens(&text[..section.stop as usize], section.start);
+    let mut told = Told::fields(&tokens);
+    tokens.iter().for_each(|token| told.token(token));
     room_for(&told, rows, cards)?;
     Ok(Some((section, told)))
 }

@@ -35,7 +35,13 @@ const STRANGE: &[&str] = &[
     "é",
     "1é",
     "ｐ",
+    "\u{FEFF}",
     "\u{FEFF}p",
+    "p\u{FEFF}",
+    "1\u{FEFF}C",
+    "1N\u{FEFF}",
+    "\u{FFFE}p",
+    "1\u{1EFF}",
     "p\0",
     "1N\u{301}",
     "11C",
@@ -49,7 +55,16 @@ const STRANGE: &[&str] = &[
 ];
 
 /// Notes to a call.
-const NOTES: &[&str] = &["", "15-17", "5+ ♥", "weak, 6 cards", "é"];
+const NOTES: &[&str] = &[
+    "",
+    "15-17",
+    "5+ ♥",
+    "weak, 6 cards",
+    "é",
+    "\u{FEFF}11-14\u{FEFF}",
+    "\u{FFFE}",
+    " ",
+];
 
 /// What is lent: the text, the dealer and the rows.
 #[derive(Debug, Clone, PartialEq, Eq)]

@@ -1,6 +1,8 @@
 //! Random boards as a program may build them: texts that must be cleaned, any
-//! bids, hands with repeated cards, East implied or nearly.
+//! bids, hands with repeated cards, East implied or nearly; about one in three with
+//! byte order marks.
 
+use super::marks;
 use crate::upstream;
 use oracle::{
     bridge_types::{Card, Deal, Direction, Hand, Vulnerability},
@@ -59,7 +61,7 @@ fn some_text(rng: &mut Rng) -> Option<String> {
 /// A board of any fields, with at most so many calls and so many cards of
 /// play.
 pub fn board(rng: &mut Rng, calls: usize, cards: usize) -> LinData {
-    LinData {
+    let board = LinData {
         player_names: [(); 4].map(|()| text(rng)),
         dealer: *rng.pick(&Direction::ALL),
         deal: deal(rng),
@@ -75,7 +77,8 @@ pub fn board(rng: &mut Rng, calls: usize, cards: usize) -> LinData {
         auction: (0..rng.below(calls + 1)).map(|_| call(rng)).collect(),
         play: (0..rng.below(cards + 1)).map(|_| card(rng)).collect(),
         claim: claim(rng),
-    }
+    };
+    marks::board(rng, board)
 }
 
 fn claim(rng: &mut Rng) -> Option<u8> {
@@ -172,11 +175,11 @@ pub fn pair(rng: &mut Rng) -> (LinData, LinData) {
     (one, two)
 }
 
-/// The same board but for one field, or a card of a hand more and another
-/// less.
+/// The same board but for one field, a card of a hand more and another less, or
+/// byte order marks.
 fn varied(rng: &mut Rng, board: &LinData) -> LinData {
     let mut other = board.clone();
-    match rng.below(13) {
+    match rng.below(15) {
         0 => other.player_names[rng.below(4)] = text(rng),
         1 => other.dealer = *rng.pick(&Direction::ALL),
         2..=4 => repeated(rng, &mut other),
@@ -201,7 +204,8 @@ fn varied(rng: &mut Rng, board: &LinData) -> LinData {
             0 => other.play.push(card(rng)),
             _ => other.play.reverse(),
         },
-        _ => other.claim = claim(rng),
+        12 => other.claim = claim(rng),
+        _ => other = marks::board(rng, other),
     }
     other
 }

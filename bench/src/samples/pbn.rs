@@ -1,7 +1,10 @@
 //! What is lent for a PBN record or a raw annotation: texts anywhere in one
-//! text, at times with faults.
+//! text, about one record in three with byte order marks, at times with faults.
 
-use super::lent::{any_words, junk, place};
+use super::{
+    lent::{any_words, junk, place},
+    marks,
+};
 use crate::upstream;
 use lin_host_rust::{
     boards::{LinText, ROW},
@@ -19,11 +22,12 @@ use oracle::{
 
 /// A record by chance, few of them with many calls and a long play.
 pub fn record(rng: &mut Rng) -> Record {
-    match rng.below(24) {
+    let record = match rng.below(24) {
         0 => some_record(rng, 60, 60),
         1 => some_record(rng, 12, 20),
         _ => some_record(rng, 4, 6),
-    }
+    };
+    marks::record(rng, record)
 }
 
 fn texts_of(board: &mut LinPbn) -> [&mut LinText; 7] {
@@ -170,21 +174,24 @@ fn wrong_note(rng: &mut Rng, notes: &mut NoteWords, word: u32) {
     }
 }
 
-/// A raw annotation with notes, at times with faults: a text, the annotation's
-/// place in it, and the notes.
+/// A raw annotation with notes, about one in three with byte order marks, at times
+/// with faults: a text, the annotation's place in it, and the notes.
 pub fn annotation(rng: &mut Rng) -> (Vec<u8>, Span, Box<NoteWords>) {
     let pieces = match rng.below(30) {
         0 => 60,
         _ => 6,
     };
-    let raw: String = match rng.below(6) {
+    let mut raw: String = match rng.below(6) {
         0 => built::text(rng),
         _ => (0..rng.below(pieces)).map(|_| some_piece(rng)).collect(),
     };
+    let mut given = some_notes(rng, 5);
+    let texts_given = [&mut raw].into_iter().chain(given.values_mut());
+    marks::texts(rng, texts_given.collect());
     let mut text = junk(rng);
     let mut raw = Span::new(place(rng, &mut text, raw.as_bytes()), raw.len() as u32);
     let mut notes = Box::new([0; 768]);
-    for (number, note) in some_notes(rng, 5) {
+    for (number, note) in given {
         let at = 3 * usize::from(number);
         let start = place(rng, &mut text, note.as_bytes());
         notes[at..at + 3].copy_from_slice(&[1, start, note.len() as u32]);

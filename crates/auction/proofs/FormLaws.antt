@@ -9,8 +9,7 @@ use borrow.Author.Tests.{ne-eqb, lt-leb}
 use Rattle.lin_spec.specs.Base.{pick, any, concat, eqAll, eqList, ascii}
 use Rattle.lin_spec.specs.White.{lower}
 use Rattle.lin_spec.specs.Equality.{eqFlag}
-use Rattle.lin_spec.proofs.Base.{split, allBelow, below}
-use Rattle.board_lent.proofs.LentLaws.{any-append}
+use Rattle.lin_spec.proofs.Base.{split, allBelow, below, any-append}
 use Rattle.bridge_auction.specs.declared.calls.Strain.{Strain}
 use Rattle.bridge_auction.specs.declared.calls.AuctionCall.{AuctionCall}
 use Rattle.auction.specs.Bids.{strainBy, bidBy, levelAndStrain, readLower, readBid, known}

@@ -26,7 +26,7 @@ use Rattle.lin_spec.specs.declared.Verdict.{Verdict}
 use Rattle.lin_spec.specs.declared.Verdict.the-variants.{Accepted, Refused}
 use Rattle.lin_spec.specs.declared.Refusal.{Refusal}
 use Rattle.lin_spec.specs.declared.Refusal.the-variants.{TextTooLong, OutOfRange, SpanPastEnd, SpanNotUtf8}
-use Rattle.lin_spec.proofs.Base.{or-none}
+use Rattle.lin_spec.proofs.Base.{or-none, any-append}
 use Rattle.lin_spec.proofs.Checks.{unmet, unless-refused, unless-passed}
 use Rattle.text.proofs.IndexLaws.{indexed-first}
 use Rattle.text.proofs.ListLaws.{next-word}
@@ -184,11 +184,6 @@ module _ (c : Call) (m : ℕ) where
   bytes-both e = rw (ne-eqb (c .annotated) 0 e) refl
 
 -- All spans: the names, the texts that may be absent, and those of the calls
-
-pub any-append : {A : Type 0} (f : A → Bool) (x y : List A) → any f (x ++ y) ≡ (any f x || any f y)
-unfolding any
-any-append f [] y = refl
-any-append f (a ∷ x) y = ap (λ (t : Bool). f a || t) (any-append f x y) ∙ sym (or-assoc (f a) (any f x) (any f y))
 
 calls-any : (f : Span → Bool) (cs : List Call) → any f (callSpans (map callIn cs)) ≡ any (λ c. any f (spansOfCall c)) cs
 unfolding any callSpans

@@ -5,12 +5,12 @@ use Prim.Native.Nat.{ℕ, zero, suc, _+_, _<_, _≤_}
 use native.Mathlib.Nat.{not-suc-le-zero}
 use native.Mathlib.Omega.{arith}
 use mathlib.Core.Path.{_≡_, refl, ap, sym, _∙_}
-use mathlib.Core.Bool.{Bool, true, false, _&&_, _||_, false≢true, and-false}
+use mathlib.Core.Bool.{Bool, true, false, _&&_, _||_, false≢true, and-false, or-assoc}
 use mathlib.Core.List.{List, [], _∷_, _++_, map}
 use lib.ListN.{length, drop, length-append}
 use lib.Dec.{eqb, ltb}
 use borrow.Author.Tests.{eq-eqb, eqb-true, eqb-false, ltb-true, ltb-false}
-use Rattle.lin_spec.specs.Base.{pick, All, keep, countIf, eqAll, eqList, starts}
+use Rattle.lin_spec.specs.Base.{pick, All, any, keep, countIf, eqAll, eqList, starts}
 
 -- of two tests that both hold, the first does
 pub and-left : (a b : Bool) → (a && b) ≡ true → a ≡ true
@@ -26,6 +26,11 @@ and-right false b h = absurd (false≢true h)
 pub or-none : (t u : Bool) → (t || u) ≡ false → (t ≡ false) × (u ≡ false)
 or-none true u h = absurd (false≢true (sym h))
 or-none false u h = (refl, h)
+
+pub any-append : {A : Type 0} (f : A → Bool) (x y : List A) → any f (x ++ y) ≡ (any f x || any f y)
+unfolding any
+any-append f [] y = refl
+any-append f (a ∷ x) y = ap (λ (t : Bool). f a || t) (any-append f x y) ∙ sym (or-assoc (f a) (any f x) (any f y))
 
 -- what holds of either choice, given the outcome of the test, holds of the one picked
 pub picked : {A : Type 0} (P : A → Type 0) (t : Bool) {a b : A} → (t ≡ true → P a) → (t ≡ false → P b) → P (pick t a b)

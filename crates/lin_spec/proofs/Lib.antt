@@ -2,6 +2,7 @@ pub mod Base
 pub mod Records
 pub mod Utf8
 pub mod White
+pub mod Trimming
 pub mod Tokens
 pub mod Cursor
 pub mod Checks
@@ -20,6 +21,7 @@ pub mod Listing
 pub mod Hands
 pub mod Deals
 pub mod Cases
+pub mod Marks
 pub mod Clean
 pub mod BoardTokens
 pub mod Sound

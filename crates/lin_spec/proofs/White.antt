@@ -1,21 +1,21 @@
--- Trimming: on well-formed text exactly the characters of 01's list go, whole, from both ends (`trim-chars`); on any bytes, what is nothing but
--- white space at the end goes (`end-blank`), and a text of visible bytes stays (`trim-visible`). No law but those of visible bytes and of LF
--- looks at the list: they hold of every list of characters. (01: Records)
+-- Trimming: white space and U+FEFF are white (`white-is`). On well-formed text exactly the white characters go, whole, from both ends (`trim-chars`);
+-- without U+FEFF these are white space alone (`trim-unmarked`). On any bytes, what is nothing but white at the end goes (`end-blank`), and a text of
+-- visible bytes stays (`trim-visible`). No other law looks at the list: they hold of every list of characters. (01: Records; 02: N2)
 -- Assumes nothing.
 use Prim.Native.Nat.{ℕ, zero, suc, _+_, _-_, _*_, _/_, _≤_, _<_}
 use native.Mathlib.Nat.{not-suc-le-zero, le-of-suc-le-suc}
 use native.Mathlib.Omega.{arith}
 use mathlib.Core.Path.{_≡_, refl, ap, sym, _∙_}
-use mathlib.Core.Bool.{Bool, true, false, _&&_, _||_, not, false≢true}
+use mathlib.Core.Bool.{Bool, true, false, _&&_, _||_, false≢true, or-false}
 use mathlib.Core.List.{List, [], _∷_, _++_, map, append-nil}
 use lib.ListN.{length, getD, drop}
 use lib.Seq.{drop-append-seam}
 use lib.Dec.{eqb, leb, ltb}
 use borrow.Author.Tests.{ne-eqb, eqb-true, eqb-false, ltb-true, ltb-false, lt-ltb, le-ltb, le-leb}
-use Rattle.lin_spec.specs.Base.{pick, any, null, All, starts, concat}
+use Rattle.lin_spec.specs.Base.{pick, any, all, null, All, starts, concat}
 use Rattle.lin_spec.specs.Utf8.{encode, encodeAll}
-use Rattle.lin_spec.specs.White.{whiteSpace, front, whiteAt, skipWhite, trimStart, blank, trimEnd, trim}
-use Rattle.lin_spec.proofs.Base.{picked, or-none, starts-self, starts-split, starts-most}
+use Rattle.lin_spec.specs.White.{whites, whiteSpace, front, whiteAt, skipWhite, trimStart, blank, trimEnd, trim}
+use Rattle.lin_spec.proofs.Base.{picked, or-none, any-append, starts-self, starts-split, starts-most}
 
 -- No character's bytes begin with another's
 
@@ -78,15 +78,20 @@ pub later-bytes : (b : ℕ) (s : List ℕ) → Character (b ∷ s) → All Later
 later-bytes b [] k = tt
 later-bytes b (a ∷ s) k = k .1
 
--- White space at the front
+-- White characters at the front
 
--- the character is in 01's list
+-- trim removes the character
 unfoldable pub white : ℕ → Bool
-white c = any (eqb c) whiteSpace
+white c = any (eqb c) whites
+
+-- "U+FEFF as well as white space"
+pub white-is : (c : ℕ) → white c ≡ (any (eqb c) whiteSpace || eqb c 0xFEFF)
+unfolding white any
+white-is c = any-append (eqb c) whiteSpace (0xFEFF ∷ []) ∙ simp or-false
 
 pub white-encode : (c : ℕ) (s : List ℕ) → whiteAt (encode c ++ s) ≡ pick (white c) (length (encode c)) 0
 unfolding whiteAt white front any
-white-encode c s = go whiteSpace
+white-encode c s = go whites
   where
     one : (w : ℕ) (u t : Bool) → eqb c w ≡ t → pick t (length (encode w)) (pick u (length (encode c)) 0) ≡ pick (t || u) (length (encode c)) 0
     one w u true e = ap (λ (n : ℕ). length (encode n)) (sym (eqb-true c w e))
@@ -96,10 +101,10 @@ white-encode c s = go whiteSpace
     go [] = refl
     go (w ∷ ws) = rw (starts-encode c w s, go ws) (one w (any (eqb c) ws) (eqb c w) refl)
 
--- a later byte of a character is no white space, nor the first byte of any
+-- a later byte of a character is not white, nor the first byte of any that is
 pub white-later : (b : ℕ) (s : List ℕ) → Later b → whiteAt (b ∷ s) ≡ 0
 unfolding whiteAt front starts
-white-later b s h = go whiteSpace
+white-later b s h = go whites
   where
     one : (x : List ℕ) → Character x → starts x (b ∷ s) ≡ false
     one [] k = absurd k
@@ -115,7 +120,7 @@ skip-drop zero s = refl
 skip-drop (suc n) [] = refl
 skip-drop (suc n) (b ∷ s) = skip-drop n s
 
--- without white space at its front s stays, with some it goes on after that
+-- without a white character at its front s stays, with one it goes on after that
 pub skip-at : (s : List ℕ) → skipWhite 0 s ≡ pick (eqb (whiteAt s) 0) s (skipWhite 0 (drop (whiteAt s) s))
 unfolding skipWhite
 skip-at [] = go (whiteAt [])
@@ -147,7 +152,7 @@ blank-encode c s = rw (skip-encode c s) (go (white c) (encode c) (character c))
     go true (b ∷ x) k = refl
     go false (b ∷ x) k = refl
 
--- White space at the end
+-- White characters at the end
 
 end-later : (x s : List ℕ) → All Later x → trimEnd (x ++ s) ≡ x ++ trimEnd s
 unfolding trimEnd blank trimStart skipWhite
@@ -164,62 +169,93 @@ end-encode c s = rw (← blank-encode c s) (go (encode c) (character c))
 
 -- Trimming, over characters
 
--- the characters cs without those of white space at the front
-unfoldable pub dropWhite : List ℕ → List ℕ
-dropWhite [] = []
-dropWhite (c ∷ cs) = pick (white c) (dropWhite cs) (c ∷ cs)
+-- the characters cs without those at the front that pass the test
+unfoldable pub dropFront : (ℕ → Bool) → List ℕ → List ℕ
+dropFront f [] = []
+dropFront f (c ∷ cs) = pick (f c) (dropFront f cs) (c ∷ cs)
 
--- one of the characters is no white space
-unfoldable pub shown : List ℕ → Bool
-shown cs = any (λ c. not (white c)) cs
-
--- the characters cs without those of white space at the end: one stays where it or a later one is no white space
-unfoldable pub dropEnd : List ℕ → List ℕ
-dropEnd [] = []
-dropEnd (c ∷ cs) = pick (shown (c ∷ cs)) (c ∷ dropEnd cs) []
+-- the characters cs without those at the end: one goes where it and all later ones pass
+unfoldable pub dropEnd : (ℕ → Bool) → List ℕ → List ℕ
+dropEnd f [] = []
+dropEnd f (c ∷ cs) = pick (all f (c ∷ cs)) [] (c ∷ dropEnd f cs)
 
 -- "trim removes it from both ends"
-unfoldable pub trimChars : List ℕ → List ℕ
-trimChars cs = dropEnd (dropWhite cs)
+unfoldable pub trimChars : (ℕ → Bool) → List ℕ → List ℕ
+trimChars f cs = dropEnd f (dropFront f cs)
 
-pub start-chars : (cs : List ℕ) → trimStart (encodeAll cs) ≡ encodeAll (dropWhite cs)
-unfolding trimStart skipWhite concat dropWhite
+pub start-chars : (cs : List ℕ) → trimStart (encodeAll cs) ≡ encodeAll (dropFront white cs)
+unfolding trimStart skipWhite concat dropFront
 start-chars [] = refl
 start-chars (c ∷ cs) = skip-encode c (encodeAll cs) ∙ rw (start-chars cs) (go (white c))
   where
-    go : (t : Bool) → pick t (encodeAll (dropWhite cs)) (encode c ++ encodeAll cs) ≡ encodeAll (pick t (dropWhite cs) (c ∷ cs))
+    go : (t : Bool) → pick t (encodeAll (dropFront white cs)) (encode c ++ encodeAll cs) ≡ encodeAll (pick t (dropFront white cs) (c ∷ cs))
     go true = refl
     go false = refl
 
-pub blank-chars : (cs : List ℕ) → blank (encodeAll cs) ≡ not (shown cs)
-unfolding concat blank trimStart skipWhite shown any
+pub blank-chars : (cs : List ℕ) → blank (encodeAll cs) ≡ all white cs
+unfolding concat blank trimStart skipWhite all
 blank-chars [] = refl
-blank-chars (c ∷ cs) = blank-encode c (encodeAll cs) ∙ rw (blank-chars cs) (go (white c) (shown cs))
-  where
-    go : (t u : Bool) → (t && not u) ≡ not (not t || u)
-    go true u = refl
-    go false u = refl
+blank-chars (c ∷ cs) = blank-encode c (encodeAll cs) ∙ rw (blank-chars cs)
 
-pub end-chars : (cs : List ℕ) → trimEnd (encodeAll cs) ≡ encodeAll (dropEnd cs)
-unfolding concat trimEnd dropEnd shown any
+pub end-chars : (cs : List ℕ) → trimEnd (encodeAll cs) ≡ encodeAll (dropEnd white cs)
+unfolding concat trimEnd dropEnd all
 end-chars [] = refl
-end-chars (c ∷ cs) = end-encode c (encodeAll cs) ∙ rw (blank-chars cs, end-chars cs) (go (white c) (shown cs))
+end-chars (c ∷ cs) = end-encode c (encodeAll cs) ∙ rw (blank-chars cs, end-chars cs) (go (white c && all white cs))
   where
-    go : (t u : Bool) → pick (t && not u) [] (encode c ++ encodeAll (dropEnd cs)) ≡ encodeAll (pick (not t || u) (c ∷ dropEnd cs) [])
-    go true true = refl
-    go true false = refl
-    go false u = refl
+    go : (t : Bool) → pick t [] (encode c ++ encodeAll (dropEnd white cs)) ≡ encodeAll (pick t [] (c ∷ dropEnd white cs))
+    go true = refl
+    go false = refl
 
--- Trimming takes exactly the characters of the list, whole, from both ends. Of any numbers cs, so of those of every well-formed text.
-pub trim-chars : (cs : List ℕ) → trim (encodeAll cs) ≡ encodeAll (trimChars cs)
+-- Trimming takes exactly the white characters, whole, from both ends. Of any numbers cs, so of those of every well-formed text.
+pub trim-chars : (cs : List ℕ) → trim (encodeAll cs) ≡ encodeAll (trimChars white cs)
 unfolding trim trimChars
-trim-chars cs = ap trimEnd (start-chars cs) ∙ end-chars (dropWhite cs)
+trim-chars cs = ap trimEnd (start-chars cs) ∙ end-chars (dropFront white cs)
+
+-- Texts without U+FEFF (02: N2)
+
+all-less : (P : ℕ → Type 0) (f : ℕ → Bool) (cs : List ℕ) → All P cs → All P (dropFront f cs)
+unfolding dropFront
+all-less P f [] h = tt
+all-less P f (c ∷ cs) h = picked (All P) (f c) (λ _. all-less P f cs (h .1)) (λ _. h)
+
+-- tests that agree on each character take the same characters
+module _ (f g : ℕ → Bool) where
+  same-front : (cs : List ℕ) → All (λ c. f c ≡ g c) cs → dropFront f cs ≡ dropFront g cs
+  unfolding dropFront
+  same-front [] h = refl
+  same-front (c ∷ cs) h = simp (h .0, same-front cs (h .1))
+
+  same-all : (cs : List ℕ) → All (λ c. f c ≡ g c) cs → all f cs ≡ all g cs
+  unfolding all
+  same-all [] h = refl
+  same-all (c ∷ cs) h = simp (h .0, same-all cs (h .1))
+
+  same-end : (cs : List ℕ) → All (λ c. f c ≡ g c) cs → dropEnd f cs ≡ dropEnd g cs
+  unfolding dropEnd
+  same-end [] h = refl
+  same-end (c ∷ cs) h = simp (same-all (c ∷ cs) h, same-end cs (h .1))
+
+unmarked : (cs : List ℕ) → any (λ c. eqb c 0xFEFF) cs ≡ false → All (λ c. white c ≡ any (eqb c) whiteSpace) cs
+unfolding any
+unmarked [] h = tt
+unmarked (c ∷ cs) h =
+    let p = or-none (eqb c 0xFEFF) (any (λ w. eqb w 0xFEFF) cs) h in
+    (white-is c ∙ simp (p .0, or-false), unmarked cs (p .1))
+
+-- A text without U+FEFF loses white space alone, as it does by the Rust.
+pub trim-unmarked : (cs : List ℕ) → any (λ c. eqb c 0xFEFF) cs ≡ false
+    → trim (encodeAll cs) ≡ encodeAll (trimChars (λ c. any (eqb c) whiteSpace) cs)
+unfolding trimChars
+trim-unmarked cs h =
+    let u = unmarked cs h in
+    let e = same-end white (λ c. any (eqb c) whiteSpace) (dropFront white cs) (all-less _ white cs u) in
+    trim-chars cs ∙ ap encodeAll (e ∙ ap (dropEnd (λ c. any (eqb c) whiteSpace)) (same-front white (λ c. any (eqb c) whiteSpace) cs u))
 
 -- Any bytes, well-formed or not
 
 pub white-most : (s : List ℕ) → whiteAt s ≤ length s
 unfolding whiteAt front
-white-most s = go (map encode whiteSpace)
+white-most s = go (map encode whites)
   where
     go : (ws : List (List ℕ)) → front ws s ≤ length s
     go [] = omega arith
@@ -227,15 +263,15 @@ white-most s = go (map encode whiteSpace)
 
 -- f is no later byte, so it is part of no character that begins before it
 module _ (f : ℕ) (r : List ℕ) (l : Later f → ⊥) where
-  starts-past : (x y : List ℕ) → All Later x → starts x (y ++ f ∷ r) ≡ starts x y
+  pub starts-past : (x y : List ℕ) → All Later x → starts x (y ++ f ∷ r) ≡ starts x y
   unfolding starts
   starts-past [] y h = refl
   starts-past (b ∷ x) [] h = simp (ne-eqb f b (λ e. l (rw (← e) at (h .0))))
   starts-past (b ∷ x) (a ∷ y) h = rw (starts-past x y (h .1))
 
-  white-past : (a : ℕ) (y : List ℕ) → whiteAt (a ∷ (y ++ f ∷ r)) ≡ whiteAt (a ∷ y)
+  pub white-past : (a : ℕ) (y : List ℕ) → whiteAt (a ∷ (y ++ f ∷ r)) ≡ whiteAt (a ∷ y)
   unfolding whiteAt front starts
-  white-past a y = go whiteSpace
+  white-past a y = go whites
     where
       one : (x : List ℕ) → Character x → starts x (a ∷ (y ++ f ∷ r)) ≡ starts x (a ∷ y)
       one [] k = absurd k
@@ -263,13 +299,13 @@ module _ (f : ℕ) (r : List ℕ) (l : Later f → ⊥) where
     end-past [] = simp w
     end-past (b ∷ y) = simp (skip-past 0 (b ∷ y) (omega arith), end-past y)
 
--- nothing but white space at the end goes, whatever stands before it
+-- nothing but white characters at the end goes, whatever stands before it
 pub end-blank : (y r : List ℕ) → blank r ≡ true → trimEnd (y ++ r) ≡ trimEnd y
 unfolding blank trimStart skipWhite
 end-blank y [] h = rw (append-nil y)
 end-blank y (f ∷ r) h = end-past f r (λ l. false≢true (simp (white-later f r l) at h)) h y
 
--- a white space character at the front goes, whatever stands after it
+-- a white character at the front goes, whatever stands after it
 pub trim-white : (c : ℕ) (s : List ℕ) → white c ≡ true → trim (encode c ++ s) ≡ trim s
 unfolding trim trimStart
 trim-white c s h = simp (skip-encode c s, h)
@@ -296,7 +332,7 @@ pub white-visible : (b : ℕ) (s : List ℕ) → Visible b → whiteAt (b ∷ s)
 unfolding encode white any whiteSpace
 white-visible b s h =
     let e = white-encode b s in
-    let o : white b ≡ false = outside (λ w. leb 33 w && leb w 122) b (simp (le-leb 33 b (h .0), le-leb b 122 (h .1))) whiteSpace refl in
+    let o : white b ≡ false = outside (λ w. leb 33 w && leb w 122) b (simp (le-leb 33 b (h .0), le-leb b 122 (h .1))) whites refl in
     simp (lt-ltb b 0x80 (omega arith), o) at e
 
 pub skip-visible : (b : ℕ) (s : List ℕ) → Visible b → skipWhite 0 (b ∷ s) ≡ b ∷ s
@@ -317,9 +353,9 @@ unfolding trim trimStart skipWhite trimEnd
 trim-visible [] h = refl
 trim-visible (b ∷ s) h = simp (skip-visible b s (h .0)) (end-visible (b ∷ s) h)
 
--- Texts of white space alone
+-- Texts of white characters alone
 
--- what has lost the white space at its front has none left there
+-- what has lost the white characters at its front has none left there
 skip-twice : (n : ℕ) (s : List ℕ) → skipWhite 0 (skipWhite n s) ≡ skipWhite n s
 unfolding skipWhite
 skip-twice n [] = refl
@@ -332,7 +368,7 @@ skip-twice zero (b ∷ s) = go (eqb (whiteAt (b ∷ s)) 0) refl (skip-twice (whi
     go false e ih = simp e ih
 skip-twice (suc n) (b ∷ s) = skip-twice n s
 
--- a text that trims to nothing is white space alone, and no other is
+-- a text that trims to nothing is white alone, and no other is
 pub trim-blank : (s : List ℕ) → null (trim s) ≡ blank s
 unfolding trim trimEnd blank trimStart
 trim-blank s = go (skipWhite 0 s) (skip-twice 0 s)
@@ -350,7 +386,7 @@ skip-most zero (b ∷ s) =
     picked (λ (x : List ℕ). length x ≤ suc (length s)) (eqb (whiteAt (b ∷ s)) 0) (λ _. omega arith) (λ _. let h = skip-most (whiteAt (b ∷ s) - 1) s in omega arith)
 skip-most (suc n) (b ∷ s) = let h = skip-most n s in omega arith
 
-end-most : (s : List ℕ) → length (trimEnd s) ≤ length s
+pub end-most : (s : List ℕ) → length (trimEnd s) ≤ length s
 unfolding trimEnd
 end-most [] = omega arith
 end-most (b ∷ s) = picked (λ (x : List ℕ). length x ≤ suc (length s)) (blank (b ∷ s)) (λ _. omega arith) (λ _. let h = end-most s in omega arith)

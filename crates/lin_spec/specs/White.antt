@@ -1,7 +1,7 @@
--- White space, trimming and ASCII case. (01: Records, Tokens)
+-- White space, trimming and ASCII case. (01: Records, Tokens; 02: N2)
 use Prim.Native.Nat.{ℕ, zero, suc, _+_, _-_}
 use mathlib.Core.Bool.{Bool, _&&_}
-use mathlib.Core.List.{List, [], _∷_, map}
+use mathlib.Core.List.{List, [], _∷_, _++_, map}
 use lib.ListN.{length}
 use lib.Dec.{eqb, leb}
 use Rattle.lin_spec.specs.Base.{pick, null, eqList, starts}
@@ -14,16 +14,20 @@ whiteSpace =
     ∷ 0x2000 ∷ 0x2001 ∷ 0x2002 ∷ 0x2003 ∷ 0x2004 ∷ 0x2005 ∷ 0x2006 ∷ 0x2007 ∷ 0x2008 ∷ 0x2009 ∷ 0x200A
     ∷ 0x2028 ∷ 0x2029 ∷ 0x202F ∷ 0x205F ∷ 0x3000 ∷ []
 
+-- "Trimming removes U+FEFF as well as white space": these characters, which are called white here. (02: N2)
+abbrev pub whites : List ℕ
+whites = whiteSpace ++ 0xFEFF ∷ []
+
 -- the length of the first of the texts ws that s begins with, 0 where it begins with none
 unfoldable pub front : (ws : List (List ℕ)) (s : List ℕ) → ℕ
 front [] s = 0
 front (w ∷ ws) s = pick (starts w s) (length w) (front ws s)
 
--- how many bytes the white space character at the front of s has, 0 where there is none
+-- how many bytes the white character at the front of s has, 0 where there is none
 unfoldable pub whiteAt : List ℕ → ℕ
-whiteAt s = front (map encode whiteSpace) s
+whiteAt s = front (map encode whites) s
 
--- s without n bytes, and then without the white space at its front
+-- s without n bytes, and then without the white characters at its front
 unfoldable pub skipWhite : ℕ → List ℕ → List ℕ
 skipWhite n [] = []
 skipWhite zero (b ∷ s) = pick (eqb (whiteAt (b ∷ s)) 0) (b ∷ s) (skipWhite (whiteAt (b ∷ s) - 1) s)
@@ -32,7 +36,7 @@ skipWhite (suc n) (b ∷ s) = skipWhite n s
 unfoldable pub trimStart : List ℕ → List ℕ
 trimStart s = skipWhite 0 s
 
--- nothing but white space
+-- nothing but white characters
 unfoldable pub blank : List ℕ → Bool
 blank s = null (trimStart s)
 
@@ -40,7 +44,7 @@ unfoldable pub trimEnd : List ℕ → List ℕ
 trimEnd [] = []
 trimEnd (b ∷ s) = pick (blank (b ∷ s)) [] (b ∷ trimEnd s)
 
--- "trim removes it from both ends"
+-- "trim removes it from both ends", white characters since N2
 unfoldable pub trim : List ℕ → List ℕ
 trim s = trimEnd (trimStart s)
 

@@ -2,8 +2,8 @@
 -- Assumes nothing.
 use Prim.Native.Nat.{ℕ, _<_, _≤_}
 use mathlib.Core.Path.{_≡_, refl, ap, sym, _∙_}
-use mathlib.Core.Bool.{Bool, true, false, _||_, or-assoc, or-false}
-use mathlib.Core.List.{List, [], _∷_, _++_}
+use mathlib.Core.Bool.{Bool, true, false, _||_, or-false}
+use mathlib.Core.List.{List, [], _∷_}
 use lib.ListN.{length}
 use lib.Dec.{ltb}
 use borrow.Author.Tests.{lt-ltb, le-ltb, eq-eqb, ne-eqb}
@@ -19,6 +19,7 @@ use Rattle.lin_spec.specs.declared.MaybeSpan.{MaybeSpan}
 use Rattle.lin_spec.specs.declared.PbnCall.{PbnCall}
 use Rattle.lin_spec.specs.declared.PbnBoard.{PbnBoard}
 use Rattle.lin_spec.specs.declared.Refusal.the-variants.{TextTooLong, OutOfRange, SpanPastEnd, SpanNotUtf8}
+use Rattle.lin_spec.proofs.Base.{any-append}
 use Rattle.pbn_checks.specs.Checks.{pbnChecks, recordChecked}
 
 -- an entry of the play, by the two tests that are made of it
@@ -26,11 +27,6 @@ pub bad-entry : (c : ℕ) → 51 < c → (c ≡ 255 → ⊥) → true ≡ badEnt
 bad-entry c h k = sym (simp (lt-ltb 51 c h, ne-eqb c 255 k))
 
 -- some element of lists put one after the other passes a test
-pub any-append : {A : Type 0} (f : A → Bool) (x y : List A) → any f (x ++ y) ≡ (any f x || any f y)
-unfolding any
-any-append f [] y = refl
-any-append f (a ∷ x) y = ap (λ (t : Bool). f a || t) (any-append f x y) ∙ sym (or-assoc (f a) (any f x) (any f y))
-
 -- the spans of the calls and of the names, call by call and name by name
 pub raws-any : (f : Span → Bool) (cs : List PbnCall) → any f (rawSpans cs) ≡ any (λ c. any f (spanIn (rawOf c))) cs
 unfolding concat any

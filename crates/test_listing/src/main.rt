@@ -34,6 +34,7 @@ fn runs() {
     list_run(b"full", b"full.lin");
     list_run(b"over", b"over.lin");
     list_run(b"over_ill", b"over_ill.lin");
+    list_run(b"marked", b"marked.lin");
 }
 
 // Whether the input at the first field has the listing in the second.

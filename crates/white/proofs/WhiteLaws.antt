@@ -1,4 +1,4 @@
--- White space and words as the code goes through them: the tests on bytes, the loop from the front, the loop from the end, the loop over
+-- White characters and words as the code goes through them: the tests on bytes, the loop from the front, the loop from the end, the loop over
 -- a word. (01: Records, Tokens)
 -- Assumes nothing.
 use Prim.Native.Nat.{ℕ, zero, suc, _+_, _-_, _≤_, _<_}
@@ -14,7 +14,7 @@ use lib.Dec.{eqb, leb, ltb}
 use borrow.Author.Tests.{eq-eqb, ne-eqb, eqb-true, eqb-false, leb-true, leb-false, ltb-true, le-leb, lt-leb}
 use Rattle.lin_spec.specs.Base.{pick, any, null, starts, eqList, eqAll}
 use Rattle.lin_spec.specs.Utf8.{encode}
-use Rattle.lin_spec.specs.White.{whiteSpace, front, whiteAt, skipWhite, trimStart, blank, trimEnd, trim, lower, sameWord}
+use Rattle.lin_spec.specs.White.{whites, whiteSpace, front, whiteAt, skipWhite, trimStart, blank, trimEnd, trim, lower, sameWord}
 use Rattle.lin_spec.proofs.Base.{picked, list-eq, eq-list, eq-length, starts-split}
 use Rattle.lin_spec.proofs.White.{Character, character, white, blank-encode, skip-at, white-most, end-blank, trim-blank}
 use Rattle.white.specs.White.{isWhite, whiteBack, last}
@@ -54,12 +54,13 @@ pub white₃-is : (a b c : ℕ)
     → ((eqb a 0xE1 && eqb b 0x9A && eqb c 0x80)
     || (eqb a 0xE2 && eqb b 0x80 && ((leb 0x80 c && leb c 0x8A) || eqb c 0xA8 || eqb c 0xA9 || eqb c 0xAF))
     || (eqb a 0xE2 && eqb b 0x81 && eqb c 0x9F)
-    || (eqb a 0xE3 && eqb b 0x80 && eqb c 0x80))
+    || (eqb a 0xE3 && eqb b 0x80 && eqb c 0x80)
+    || (eqb a 0xEF && eqb b 0xBB && eqb c 0xBF))
     ≡ isWhite (a ∷ b ∷ c ∷ [])
 unfolding isWhite any eqAll encode whiteSpace run
 white₃-is a b c = simp (range 0x80 11 c 0x8A refl, and-or-distrib-left, or-assoc, and-assoc, and-true, and-false, or-false)
 
--- no white space character has a byte 0 or more than three bytes
+-- no white character has a byte 0 or more than three bytes
 zero-first : (x : List ℕ) → isWhite (0 ∷ x) ≡ false
 unfolding isWhite any eqAll encode whiteSpace
 zero-first x = refl
@@ -82,7 +83,7 @@ listed x (w ∷ ws) h = go (eqList x (encode w)) refl h (listed x ws)
 
 is-character : (x : List ℕ) → isWhite x ≡ true → Character x
 unfolding isWhite
-is-character x h = let r = listed x whiteSpace h in rw (r .1) (character (r .0))
+is-character x h = let r = listed x whites h in rw (r .1) (character (r .0))
 
 no-character : (x : List ℕ) → (Character x → ⊥) → isWhite x ≡ false
 no-character x k = go (isWhite x) refl
@@ -94,11 +95,11 @@ no-character x k = go (isWhite x) refl
 is-blank : (x : List ℕ) → isWhite x ≡ true → blank x ≡ true
 unfolding isWhite white blank trimStart skipWhite
 is-blank x h =
-    let r = listed x whiteSpace h in
+    let r = listed x whites h in
     let e = blank-encode (r .0) [] in
     rw (r .1) (simp (append-nil, r .2) at e)
 
--- Either end: which of x, y and z, of one, two and three bytes, is a white space character, 0 where none is
+-- Either end: which of x, y and z, of one, two and three bytes, is a white character, 0 where none is
 
 abbrev firstWhite : (x y z : List ℕ) → ℕ
 firstWhite x y z = pick (isWhite x) 1 (pick (isWhite y) 2 (pick (isWhite z) 3 0))
@@ -166,7 +167,7 @@ back-by s a b c ea eb ec = rw (ea, eb, ec) (back-is s)
 
 -- The loop from the front
 
--- the white space before i is passed
+-- the white characters before i are passed
 abbrev pub Start : List ℕ → ℕ → Type 0
 Start s i = (trimStart (drop i s) ≡ trimStart s) × (i ≤ length s)
 
@@ -199,7 +200,7 @@ start-end s i g h = (rw (drop-of-length-le s h) (rw (drop-of-length-le s h) at (
 
 -- The loop from the end
 
--- the white space from n on is passed
+-- the white characters from n on are passed
 abbrev pub End : List ℕ → ℕ → Type 0
 End s n = (trimEnd (take n s) ≡ trimEnd s) × (n ≤ length s)
 
@@ -207,7 +208,7 @@ End s n = (trimEnd (take n s) ≡ trimEnd s) × (n ≤ length s)
 abbrev pub Ends : List ℕ → ℕ → Type 0
 Ends s n = (take n s ≡ trimEnd s) × (n ≤ length s)
 
--- what whiteBack finds: a white space character x at the end
+-- what whiteBack finds: a white character x at the end
 record Split (s : List ℕ) (n : ℕ) : Type 0 where
   y : List ℕ
   x : List ℕ
@@ -237,7 +238,7 @@ back-less s w e h =
     let f : take (length s - w) s ≡ p .y = ap (take (length s - w)) (p .whole) ∙ take-at (p .y) (p .x) (length s - w) k in
     (omega (arith, p .long), ap trimEnd f ∙ sym (ap trimEnd (p .whole) ∙ end-blank (p .y) (p .x) (is-blank (p .x) (p .is-white))))
 
--- where it finds none: none in what is left without the first byte, and the whole is no white space character
+-- where it finds none: none in what is left without the first byte, and the whole is no white character
 back-tail : (a : ℕ) (s : List ℕ) → whiteBack (a ∷ s) ≡ 0 → (whiteBack s ≡ 0) × (isWhite (a ∷ s) ≡ false)
 unfolding whiteBack
 back-tail a s h = go (eqb (whiteBack s) 0) refl (isWhite (a ∷ s)) h
@@ -249,7 +250,7 @@ back-tail a s h = go (eqb (whiteBack s) 0) refl (isWhite (a ∷ s)) h
 
 white-whole : (s : List ℕ) → 0 < length s → whiteAt s ≡ length s → isWhite s ≡ true
 unfolding whiteAt front isWhite any
-white-whole s l h = go (map encode whiteSpace) h
+white-whole s l h = go (map encode whites) h
   where
     one : (w : List ℕ) → starts w s ≡ true → length w ≡ length s → eqList s w ≡ true
     one w e k =
@@ -315,9 +316,9 @@ pub both-ends : (s r : List ℕ) (i : ℕ) → Starts s i → r ≡ trimEnd (tak
 unfolding trim
 both-ends s r i g e = e ∙ ap trimEnd (rest-all s i ∙ g .0)
 
--- Ends of ASCII that are no white space
+-- Ends of ASCII that are not white
 
--- a byte of ASCII above 20 hex, by the tests on it, is no white space character and in none
+-- a byte of ASCII above 20 hex, by the tests on it, is no white character and in none
 plain-white : (b : ℕ) → 0x20 < b → isWhite (b ∷ []) ≡ false
 plain-white b h = sym (white₁-is b) ∙ simp (lt-leb b 0xD (omega arith), and-false, ne-eqb b 0x20 (λ e. omega arith))
 

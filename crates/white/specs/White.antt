@@ -1,4 +1,4 @@
--- White space as the code looks for it: one character by its bytes, and the character at the end of a text. (01: Records)
+-- White characters as the code looks for them: one by its bytes, and the one at the end of a text. (01: Records; 02: N2)
 use Prim.Native.Nat.{ℕ, _-_}
 use mathlib.Core.Bool.{Bool}
 use mathlib.Core.List.{List, [], _∷_, map}
@@ -6,13 +6,13 @@ use lib.ListN.{length, getD}
 use lib.Dec.{eqb, leb}
 use Rattle.lin_spec.specs.Base.{pick, any, eqList}
 use Rattle.lin_spec.specs.Utf8.{encode}
-use Rattle.lin_spec.specs.White.{whiteSpace}
+use Rattle.lin_spec.specs.White.{whites}
 
--- x is the bytes of one white space character
+-- x is the bytes of one white character
 unfoldable pub isWhite : List ℕ → Bool
-isWhite x = any (eqList x) (map encode whiteSpace)
+isWhite x = any (eqList x) (map encode whites)
 
--- how many bytes the white space character at the end of s has, 0 where there is none
+-- how many bytes the white character at the end of s has, 0 where there is none
 unfoldable pub whiteBack : List ℕ → ℕ
 whiteBack [] = 0
 whiteBack (b ∷ s) = pick (eqb (whiteBack s) 0) (pick (isWhite (b ∷ s)) (length (b ∷ s)) 0) (whiteBack s)

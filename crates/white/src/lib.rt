@@ -1,4 +1,4 @@
-// White space and case. (01: Records, Tokens)
+// What trimming removes, and case. (01: Records, Tokens; 02: N2)
 mod white;
 
 pub use white::is_blank;

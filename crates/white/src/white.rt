@@ -1,4 +1,4 @@
-// White space at both ends of a text, and words compared ignoring ASCII case. (01: Records, Tokens)
+// White characters at both ends of a text, which are white space and U+FEFF, and words compared ignoring ASCII case. (01: Records, Tokens; 02: N2)
 ghost use mathlib.Core.Path.{_≡_};
 ghost use mathlib.Core.Bool.{true};
 ghost use mathlib.Core.List.{[], _∷_};
@@ -7,7 +7,7 @@ ghost use lib.ListN.{length, take, drop, getD};
 ghost use Rattle.lin_spec.specs.White.{whiteAt, trimStart, trimEnd, trim, blank, lower, sameWord};
 ghost use Rattle.white.specs.White.{isWhite, whiteBack, last};
 
-// One byte that is a white space character: U+0009 to U+000D, 0020.
+// One byte that is a white character: U+0009 to U+000D, 0020.
 fn white1(a: u8) -> bool
     ensures { λ r. ⌜ r ≡ isWhite (a ∷ []) ⌝ }
 {
@@ -21,7 +21,7 @@ fn white2(a: u8, b: u8) -> bool
     (a == 0xC2) & ((b == 0x85) | (b == 0xA0))
 }
 
-// Three bytes: U+1680, 2000 to 200A, 2028, 2029, 202F, 205F, 3000.
+// Three bytes: U+1680, 2000 to 200A, 2028, 2029, 202F, 205F, 3000, FEFF.
 fn white3(a: u8, b: u8, c: u8) -> bool
     ensures { λ r. ⌜ r ≡ isWhite (a ∷ b ∷ c ∷ []) ⌝ }
 {
@@ -31,6 +31,7 @@ fn white3(a: u8, b: u8, c: u8) -> bool
             & (((0x80 <= c) & (c <= 0x8A)) | (c == 0xA8) | (c == 0xA9) | (c == 0xAF)))
         | ((a == 0xE2) & (b == 0x81) & (c == 0x9F))
         | ((a == 0xE3) & (b == 0x80) & (c == 0x80))
+        | ((a == 0xEF) & (b == 0xBB) & (c == 0xBF))
 }
 
 // The byte at i, 0 beyond the end.
@@ -53,7 +54,7 @@ fn byte_back(s: &[u8], k: usize) -> u8
     0
 }
 
-// The length of the white space character at the front, 0 where there is none.
+// The length of the white character at the front, 0 where there is none.
 fn white_front(s: &[u8]) -> usize
     ensures { λ r. ⌜ r ≡ whiteAt (now (s .entry)) ⌝ }
 {
@@ -75,7 +76,7 @@ fn white_front(s: &[u8]) -> usize
     0
 }
 
-// The length of the white space character at the end, 0 where there is none.
+// The length of the white character at the end, 0 where there is none.
 fn white_back(s: &[u8]) -> usize
     ensures { λ r. ⌜ r ≡ whiteBack (now (s .entry)) ⌝ }
 {
@@ -97,7 +98,7 @@ fn white_back(s: &[u8]) -> usize
     0
 }
 
-// Where the text starts after the white space at its front.
+// Where the text starts after the white characters at its front.
 fn trim_start(s: &[u8]) -> usize
     ensures { λ r. ⌜ (drop r (now (s .entry)) ≡ trimStart (now (s .entry))) × (r ≤ length (now (s .entry))) ⌝ }
 {
@@ -112,7 +113,7 @@ fn trim_start(s: &[u8]) -> usize
     i
 }
 
-// How long the text is without the white space at its end.
+// How long the text is without the white characters at its end.
 fn trim_end(s: &[u8]) -> usize
     ensures { λ r. ⌜ (take r (now (s .entry)) ≡ trimEnd (now (s .entry))) × (r ≤ length (now (s .entry))) ⌝ }
 {
@@ -127,7 +128,7 @@ fn trim_end(s: &[u8]) -> usize
     n
 }
 
-// Whether the first and the last byte are of ASCII and no white space. Where it says true, the text stays.
+// Whether the first and the last byte are of ASCII and not white. Where it says true, the text stays.
 fn plain_ends(s: &[u8]) -> bool
     ensures { λ r. ⌜ (r ≡ true → trim (now (s .entry)) ≡ now (s .entry)) ⌝ }
 {
@@ -139,7 +140,7 @@ fn plain_ends(s: &[u8]) -> bool
     (0x20 < a) & (a < 0x80) & (0x20 < b) & (b < 0x80)
 }
 
-// The text without the white space at its ends.
+// The text without the white characters at its ends.
 fn trim_ends(s: &[u8]) -> &[u8]
     ensures { λ r. ⌜ now r ≡ trim (now (s .entry)) ⌝ }
 {
@@ -149,7 +150,7 @@ fn trim_ends(s: &[u8]) -> &[u8]
     &t[..n]
 }
 
-// The part of the text between the white space at its ends.
+// The part of the text between the white characters at its ends.
 pub fn trim(s: &[u8]) -> &[u8]
     ensures { λ r. ⌜ now r ≡ trim (now (s .entry)) ⌝ }
 {

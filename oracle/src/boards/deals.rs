@@ -12,7 +12,7 @@ const TWO: &str = ",SK75HAJ6DQT82CK94,SJT98H843DAK5CAQ2";
 
 /// Every visible first character after a good md, and some like a dealer.
 pub fn dealers() -> Vec<String> {
-    const ODD: &str = "| |٣|３|³|③|𝟑|é|\u{FEFF}3|3\u{301}|\u{301}3|\t3|,3|33|3,|+3|03";
+    const ODD: &str = "| |٣|３|³|③|𝟑|é|\u{FFFE}3|3\u{301}|\u{301}3|\t3|,3|33|3,|+3|03";
     let odd = ODD.split('|').map(str::to_string);
     let all = visible().map(String::from).chain(odd);
     all.map(|first| format!("md|2SA,HK,DQ,CJ|md|{first}HA,D2|"))
@@ -51,7 +51,7 @@ const HANDS: &[&str] = &[
     "♠A",
     "S A\tK\nQ",
     "S-A.K/Q",
-    "HA,\u{A0},\u{3000}SK,\u{FEFF}DQ",
+    "HA,\u{A0},\u{3000}SK,\u{FFFE}DQ",
     "!SA!",
     "S…,,,",
     "SAKQJT98765432,HAKQJT98765432,DAKQJT98765432",
@@ -88,7 +88,7 @@ const AFTER: &[&str] = &[
     ",SA",
     ",S642",
     ",S642HQ75D963CJT73",
-    ",\u{FEFF}",
+    ",\u{FFFE}",
     ", ",
     ",\t\n\u{A0}\u{2003}\u{3000}",
     ",\0",

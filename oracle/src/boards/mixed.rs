@@ -18,7 +18,7 @@ pub fn records() -> Vec<String> {
     all.extend((1..=6).map(|n| records::lines(rng, 1 + n % 3)));
     all.extend((1..=8).map(|n| records::movie(rng, 2 * n)));
     let record = records::file(rng, 1);
-    all.push(format!("\u{FEFF}{record}"));
+    all.push(format!("\u{FFFE}{record}"));
     all.push(record.replace('\n', "\r\n"));
     all.push(record.replace('\n', "\u{2028}\u{A0}"));
     all.push(record.replace("||", "|"));

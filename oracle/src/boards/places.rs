@@ -8,8 +8,8 @@ use super::{
 };
 use crate::texts::{SAMPLES, WHITE};
 
-/// No white space: without a mark, with the last or the first bytes of a white
-/// space character, or beside one in the table.
+/// None that trimming removes: without a mark, with the last or the first bytes of a
+/// white space character or of the byte order mark, or beside one in the table.
 const ALIKE: &[char] = &[
     // without a mark
     '\0',
@@ -26,7 +26,7 @@ const ALIKE: &[char] = &[
     '\u{2060}',
     '\u{2800}',
     '\u{3164}',
-    '\u{FEFF}',
+    '\u{FFFE}',
     // the last bytes A0, 85, 8A
     '\u{E0}',
     '\u{C5}',
@@ -41,12 +41,16 @@ const ALIKE: &[char] = &[
     '\u{302F}',
     '\u{305F}',
     '\u{1A680}',
-    // the first bytes C2, E1 9A, E2 80, E2 81, E3 80
+    // BB BF, of the byte order mark
+    '\u{EFF}',
+    '\u{1EFF}',
+    // the first bytes C2, E1 9A, E2 80, E2 81, E3 80, EF BB
     '\u{80}',
     '\u{169F}',
     '\u{2010}',
     '\u{2040}',
     '\u{3003}',
+    '\u{FEC0}',
     // beside one in the table
     '\u{8}',
     '\u{E}',
@@ -64,6 +68,8 @@ const ALIKE: &[char] = &[
     '\u{205E}',
     '\u{2FFF}',
     '\u{3001}',
+    '\u{FEFE}',
+    '\u{FF00}',
 ];
 
 /// White space, and what is like it.
@@ -82,7 +88,7 @@ fn ends(c: char, word: &str) -> [String; 3] {
 
 /// All commands with the character at their ends, then each value that is
 /// trimmed, then the field of East.
-fn at_the_ends(c: char) -> Vec<String> {
+pub fn at_the_ends(c: char) -> Vec<String> {
     let commands = |n: usize| joined(&TOKENS.map(|(word, v)| (ends(c, word)[n].clone(), v)));
     let value =
         |old, command: &str, word| ends(c, word).map(|v| format!("{command}|{old}|{command}|{v}|"));
@@ -103,7 +109,7 @@ pub fn trimmed() -> Vec<String> {
 
 /// A text in every place that is not trimmed: with others, alone, and within
 /// the values that are.
-fn everywhere(x: &str) -> Vec<String> {
+pub fn everywhere(x: &str) -> Vec<String> {
     vec![
         format!("mn|{x}t{x}|qx|{x}r{x}|ah|{x}h{x}|pn|{x}a{x},{x}b,{x}|"),
         format!("mb|{x}1C!{x}|an|{x}n{x}|mb|{x}1D{x}!|an|{x}|mb|{x}!{x}!|"),

@@ -79,13 +79,13 @@ pub fn near(word: &str) -> Vec<String> {
         format!("{a} {b}"),
         format!("{word}\u{301}"),
         format!("{a}\u{301}{b}"),
-        format!("\u{FEFF}{word}"),
+        format!("\u{FFFE}{word}"),
         format!("{word}\0"),
     ]
 }
 
 /// All tokens, with the command of one of them written in another way.
-fn rewritten(i: usize, command: String) -> String {
+pub fn rewritten(i: usize, command: String) -> String {
     let mut tokens = TOKENS.map(|(c, v)| (c.to_string(), v));
     tokens[i].0 = command;
     joined(&tokens)
@@ -168,7 +168,7 @@ pub fn titles() -> Vec<String> {
 /// sv: every spelling in every case, and others.
 pub fn vulnerable() -> Vec<String> {
     const OTHERS: &str = "| |o|O|0|-|x|none|nse|n s|s|w|sn|we|n/s|ns.|nn|bo|bot|botH!|bothh|al|\
-        alll|n\u{17F}|\u{17F}|ＮＳ|ｂ|ns\u{301}|e\u{301}w|é|\u{FEFF}b|b\u{FEFF}|b\0|+b|n,s|Ⓑ|\
+        alll|n\u{17F}|\u{17F}|ＮＳ|ｂ|ns\u{301}|e\u{301}w|é|\u{FFFE}b|b\u{FFFE}|b\0|+b|n,s|Ⓑ|\
         \u{130}|\u{212A}";
     let words = ["n", "ns", "e", "ew", "b", "both", "all"];
     let known = words.into_iter().flat_map(mixes);
@@ -181,7 +181,7 @@ pub fn vulnerable() -> Vec<String> {
 /// mb and an: every order of up to four tokens, and bids alone.
 pub fn calls() -> Vec<String> {
     const BIDS: &str = "|!|!!|! !|1C! | 1C!|1C !|1C\n!|1C!\n|!1C|!1C!|1C!!!!!!!!|1C!?|1C?!|1C！|\
-        1C!\u{301}|1C\u{301}!|1C!\u{A0}|1C!\0|1C!\u{FEFF}|ż!|é!!|\u{1F621}!|p!p!p!";
+        1C!\u{301}|1C\u{301}!|1C!\u{A0}|1C!\0|1C!\u{FFFE}|ż!|é!!|\u{1F621}!|p!p!p!";
     let mut all = texts::words(&["mb|1C|", "mb|p!|", "an|x|", "an||"], 4);
     for bid in BIDS.split('|') {
         all.push(format!("mb|{bid}|"));
@@ -200,7 +200,7 @@ fn pack(suits: &str, ranks: &str) -> String {
 /// pc: every letter beside a suit and beside a rank, and other values.
 pub fn cards() -> Vec<String> {
     const VALUES: &str = "|S|A|s|AS|SAK|SSA|!SA|SA!|S A|S,A|10|S1|S10|ST|sT|St|♠A|ＳＡ|S\u{301}A|\
-        SA\u{301}|\u{301}SA|\u{15A}A|S\u{C1}|\u{17F}A|S\u{212A}|SK\0|\0SK|SA\u{FEFF}|NA|?|S٢|S２|\
+        SA\u{301}|\u{301}SA|\u{15A}A|S\u{C1}|\u{17F}A|S\u{212A}|SK\0|\0SK|SA\u{FFFE}|NA|?|S٢|S２|\
         -S2|S2SA";
     let mut all = vec![
         pack("SHDC", "23456789TJQKA"),
@@ -219,7 +219,7 @@ pub fn claims() -> Vec<String> {
     const VALUES: &str = "|+|++|-|-0|+0|+00|-9|+9|++5|+-5|-+5|+ 7|7 7|7+|1,0|1.0|1_0|0x9|1e1|x|9x|\
         x9|9!|+255|+256|0256|000|00255|999|1000|2550|65535|65536|65545|4294967296|4294967305|\
         18446744073709551616|18446744073709551625|340282366920938463463374607431768211465|٩|９|\
-        ²|9²|Ⅸ|9\u{301}|\u{301}9|\u{FEFF}9|9\u{FEFF}|9\0|\09|+\u{A0}9|＋9|−9";
+        ²|9²|Ⅸ|9\u{301}|\u{301}9|\u{FFFE}9|9\u{FFFE}|9\0|\09|+\u{A0}9|＋9|−9";
     let (zeros, spaces) = ("0".repeat(65_000), "\u{2003} ".repeat(150));
     let numbers = (0..=14).chain(95..=101).chain(195..=201).chain(245..=261);
     let mut all: Vec<String> = numbers.map(|n| format!("mc|{n}|")).collect();

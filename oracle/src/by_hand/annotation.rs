@@ -27,12 +27,12 @@ fn is_text(s: &mut Steps, text: &[u8]) {
 }
 
 /// Pipes and ends of lines, which annotation_text leaves as they are; from_board cleans
-/// them. So many bytes are the raw annotation and the rest note 1, which give this text
+/// them. Byte order marks, which nothing removes here. So many bytes are the raw annotation and the rest note 1, which give this text
 /// or none.
 fn kept(s: &mut Steps) {
     s.mark(64);
     s.set(ROOM, &[64]);
-    let cases: [(&[u8], u32, Option<&[u8]>); 9] = [
+    let cases: [(&[u8], u32, Option<&[u8]>); 11] = [
         (b"=|=", 3, Some(b"=|=")),
         (b"=\r\n=", 4, Some(b"=\r\n=")),
         (b"!|?\n$1", 6, Some(b"! ? !")),
@@ -42,6 +42,9 @@ fn kept(s: &mut Steps) {
         (b"=1=!=01=|", 8, Some(b"| ! |")),
         (b"=1=\n", 3, Some(b"\n")),
         (b"=1=", 3, None),
+        // A byte order mark beside the number: it is not trimmed, so the reference stays.
+        (b"=\xEF\xBB\xBF1=weak", 6, Some(b"=\xEF\xBB\xBF1=")),
+        (b"=1\xEF\xBB\xBF=$1weak", 8, Some(b"=1\xEF\xBB\xBF= !")),
     ];
     for (text, raw, made) in cases {
         s.go(CLEARED);

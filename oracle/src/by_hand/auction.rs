@@ -326,7 +326,7 @@ fn contracts(s: &mut Steps) {
 
 /// Texts of one board. Alerts and annotations change nothing, and the marks of an alert are no
 /// part of a bid, but a space after them is.
-const TEXTS: [(&str, Told); 10] = [
+const TEXTS: [(&str, Told); 12] = [
     ("", OPEN),
     ("md|1|", OPEN),
     ("md|1|mb|p|mb|p|mb|p|mb|p|", PASSED_OUT),
@@ -344,6 +344,9 @@ const TEXTS: [(&str, Told); 10] = [
     ("md|2|mb|1C! |", unknown(0)),
     ("md|2|mb|p|mb|!!|", unknown(1)),
     ("md|2|mb|1C|mb|pass|an|x|", unknown(1)),
+    // A byte order mark is taken off a command, and not off a bid.
+    ("\u{FEFF}mb|p|mb|p|mb|p|mb|p|", PASSED_OUT),
+    ("md|2|mb|1C|mb|p\u{FEFF}|", unknown(1)),
 ];
 
 /// Rows that were read, lent to the check with the dealer that was read.

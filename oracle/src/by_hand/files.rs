@@ -110,6 +110,11 @@ fn names(s: &mut Steps) {
     finds_in(s, b"pn|a|\xFF", b"a\xFF", 2, 5);
     finds_in(s, b"pn|a|\npn|b,a|\npn|A|", b"a", 0, 2);
     finds_in(s, b"md|1|pn|a|qx||md|2|", b"", 0, 2);
+    // A byte order mark is a part of a name, wherever the name stands.
+    finds_in(s, b"pn|\xEF\xBB\xBFa,b|", b"a", 0, 0);
+    finds_in(s, b"pn|\xEF\xBB\xBFa,b|", b"\xEF\xBB\xBFa", 0, 1);
+    finds_in(s, b"\xEF\xBB\xBFpn|a,b|", b"a", 0, 1);
+    finds_in(s, b"\xEF\xBB\xBFpn|a,b|", b"\xEF\xBB\xBFa", 0, 0);
     // A long text beside a short one: the long one stands at the front of the bytes, and
     // the short one elsewhere.
     spaces(s, b"", LONG);

@@ -44,19 +44,21 @@ pub fn separators() -> Vec<String> {
     all
 }
 
-/// A line of each character that is white space or like it: alone, among
-/// others, between two boards, at the ends of one, and after an LF at the end.
+/// A line of a character: alone, among others, between two boards, at the ends of
+/// one, and after an LF at the end.
+pub fn lines_of(c: char) -> [String; 5] {
+    [
+        format!("{c}"),
+        format!(" {c}\u{3000}{c}\r"),
+        format!("md|1|\n{c}\nmd|2|"),
+        format!("{c}md{c}|1|{c}\n{c}hello{c}\n\n"),
+        format!("x\n{c}"),
+    ]
+}
+
+/// Lines of each character that is white space or like it.
 pub fn blank() -> Vec<String> {
-    let texts = |c: char| {
-        [
-            format!("{c}"),
-            format!(" {c}\u{3000}{c}\r"),
-            format!("md|1|\n{c}\nmd|2|"),
-            format!("{c}md{c}|1|{c}\n{c}hello{c}\n\n"),
-            format!("x\n{c}"),
-        ]
-    };
-    characters().flat_map(texts).collect()
+    characters().flat_map(lines_of).collect()
 }
 
 /// The same characters beside the commands of a file with qx, and after its

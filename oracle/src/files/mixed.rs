@@ -31,7 +31,7 @@ pub fn records() -> Vec<String> {
     all.extend((0..=3).map(|n| records::file(rng, n)));
     all.extend((1..=4).map(|n| records::movie(rng, 4 * n) + &records::file(rng, n / 2)));
     let file = brief(rng, 3, 4);
-    all.push(format!("\u{FEFF}{file}"));
+    all.push(format!("\u{FFFE}{file}"));
     all.push(format!(
         "vg|Final,Segment 1,I,1,16,Home,0,Away,0|\nrs|4SN=|\npw|a,b|\n{file}"
     ));

@@ -84,7 +84,7 @@ pub fn runs() -> Vec<String> {
 
 /// The same with another token among them: only what follows it is moved back.
 pub fn separated() -> Vec<String> {
-    let between = ["rh||", "ah|h|", "zz|z|", "|x|", "an|x|", "\u{FEFF}mn|t|"];
+    let between = ["rh||", "ah|h|", "zz|z|", "|x|", "an|x|", "\u{FFFE}mn|t|"];
     let mut all = Vec::new();
     for run in texts::words(&["m", "p"], 3) {
         for at in 0..=run.len() {

@@ -1,4 +1,4 @@
--- `white::white::plain_ends` meets its contract: neither end has white space. (01: Records)
+-- `white::white::plain_ends` meets its contract: neither end is white. (01: Records)
 -- Assumes nothing.
 use mathlib.Core.Bool.{false≢true}
 use Rattle.white.proofs.WhiteLaws.{plain-trim}

@@ -1,4 +1,4 @@
--- `white::white::trim_end` meets its contract: the white space from n on is passed. The measure is n. (01: Records)
+-- `white::white::trim_end` meets its contract: the white characters from n on are passed. The measure is n. (01: Records)
 -- Assumes nothing.
 use native.Mathlib.Omega.{arith}
 use mathlib.Core.Path.{ap, sym}

@@ -1,4 +1,4 @@
--- `white::white::trim_start` meets its contract: the white space before i is passed. The measure is what is left. (01: Records)
+-- `white::white::trim_start` meets its contract: the white characters before i are passed. The measure is what is left. (01: Records)
 -- Assumes nothing.
 use Prim.Native.Nat.{_-_}
 use native.Mathlib.Omega.{arith}
