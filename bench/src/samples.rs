@@ -212,9 +212,12 @@ fn md(rng: &mut Rng) -> String {
         (0..rng.below(6)).map(|_| hand(rng)).collect()
     };
     if rng.once_in(3) && hands.len() >= 3 {
-        let east = rng.pick(EASTS);
         hands.truncate(3);
-        hands.push(east.to_string());
+        hands.push(rng.pick(EASTS).to_string());
+        if rng.once_in(2) {
+            // what stands in East's field is not at the value's end
+            hands.push(hand(rng));
+        }
     }
     format!("{dealer}{}", hands.join(","))
 }

@@ -176,7 +176,7 @@ pub fn pair(rng: &mut Rng) -> (LinData, LinData) {
 }
 
 /// The same board but for one field, a card of a hand more and another less, or
-/// byte order marks.
+/// byte order marks in one text.
 fn varied(rng: &mut Rng, board: &LinData) -> LinData {
     let mut other = board.clone();
     match rng.below(15) {
@@ -205,7 +205,7 @@ fn varied(rng: &mut Rng, board: &LinData) -> LinData {
             _ => other.play.reverse(),
         },
         12 => other.claim = claim(rng),
-        _ => other = marks::board(rng, other),
+        _ => marks::one_text(rng, &mut other),
     }
     other
 }

@@ -115,8 +115,7 @@ pub fn texts(rng: &mut Rng, texts: Vec<&mut String>) {
     }
 }
 
-/// The board, at times with marks in its texts.
-pub fn board(rng: &mut Rng, mut board: LinData) -> LinData {
+fn texts_of(board: &mut LinData) -> Vec<&mut String> {
     let given = [
         &mut board.title,
         &mut board.room_board,
@@ -128,8 +127,20 @@ pub fn board(rng: &mut Rng, mut board: LinData) -> LinData {
         all.push(&mut call.bid);
         all.extend(&mut call.annotation);
     }
-    texts(rng, all);
+    all
+}
+
+/// The board, at times with marks in its texts.
+pub fn board(rng: &mut Rng, mut board: LinData) -> LinData {
+    texts(rng, texts_of(&mut board));
     board
+}
+
+/// Puts marks into one text of a board.
+pub fn one_text(rng: &mut Rng, board: &mut LinData) {
+    let mut all = texts_of(board);
+    let text = all.swap_remove(rng.below(all.len()));
+    *text = with(rng, text, MARK);
 }
 
 /// The record, at times with marks in its texts.

@@ -27,6 +27,7 @@ pub or-none : (t u : Bool) → (t || u) ≡ false → (t ≡ false) × (u ≡ fa
 or-none true u h = absurd (false≢true (sym h))
 or-none false u h = (refl, h)
 
+-- some element of lists put one after the other passes a test
 pub any-append : {A : Type 0} (f : A → Bool) (x y : List A) → any f (x ++ y) ≡ (any f x || any f y)
 unfolding any
 any-append f [] y = refl

@@ -21,7 +21,8 @@ pub mod Listing
 pub mod Hands
 pub mod Deals
 pub mod Cases
-pub mod Marks
+pub mod MarkCases
+pub mod FrontMark
 pub mod Clean
 pub mod BoardTokens
 pub mod Sound

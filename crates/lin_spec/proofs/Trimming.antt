@@ -54,6 +54,7 @@ found s = go whites
         (λ e _. (w, simp (eq-eqb w w refl), starts-split (encode w) s e))
         (λ _ h. let r = go ws h in (r .0, rw (r .1) (or-true (eqb (r .0) w)), r .2))
 
+-- a character has a byte
 long : (c : ℕ) → length (encode c) ≡ 0 → ⊥
 long c = go (encode c) (character c)
   where
@@ -61,6 +62,7 @@ long c = go (encode c) (character c)
     go [] k h = k
     go (b ∷ x) k h = omega arith
 
+-- that no character is found at the front, and that none stands there
 none-begins : (s : List ℕ) → whiteAt s ≡ 0 → (c : ℕ) (y : List ℕ) → white c ≡ true → s ≡ encode c ++ y → ⊥
 none-begins s h c y k e =
     let f : whiteAt s ≡ length (encode c) = ap whiteAt e ∙ white-encode c y ∙ simp k in
@@ -94,6 +96,7 @@ fronts zero (b ∷ s) h = go (whiteAt (b ∷ s)) (white-most (b ∷ s)) (found (
         rw (ne-eqb (suc n) 0 (λ e. omega arith), e)
         (r .0 ∷ q .0, (r .1, q .1), r .2 ∙ ap (λ (y : List ℕ). encode (r .0) ++ y) (q .2) ∙ sym (append-assoc (encode (r .0)) (encodeAll (q .0)) (skipWhite n s)))
 
+-- no white character is left at the front
 skip-bare : (n : ℕ) (s : List ℕ) → whiteAt (skipWhite n s) ≡ 0
 unfolding skipWhite
 skip-bare n [] = let h = white-most [] in omega arith
@@ -102,6 +105,7 @@ skip-bare zero (b ∷ s) = picked (λ x. whiteAt x ≡ 0) (eqb (whiteAt (b ∷ s
 
 -- Characters at the end
 
+-- white characters one after the other are blank
 white-blank : (cs : List ℕ) → Whites cs → blank (encodeAll cs) ≡ true
 unfolding concat blank trimStart skipWhite
 white-blank [] h = refl
@@ -133,6 +137,7 @@ one-blank : (c : ℕ) → white c ≡ true → blank (encode c) ≡ true
 unfolding blank trimStart skipWhite
 one-blank c h = sym (ap blank (append-nil (encode c))) ∙ blank-encode c [] ∙ simp h
 
+-- a text that keeps its end when it is trimmed ends with no white character, and the other way round (`ends-none`)
 none-ends : (s : List ℕ) → trimEnd s ≡ s → (c : ℕ) (y : List ℕ) → white c ≡ true → s ≡ y ++ encode c → ⊥
 none-ends s h c y k e =
     let f : s ≡ trimEnd y = sym h ∙ ap trimEnd e ∙ end-blank y (encode c) (one-blank c k) in
@@ -188,10 +193,10 @@ skip-whites (c ∷ cs) h s =
     ap (skipWhite 0) (append-assoc (encode c) (encodeAll cs) s) ∙ skip-encode c (encodeAll cs ++ s) ∙ simp (h .0) (skip-whites cs (h .1) s)
 
 -- a character after some bytes is part of none that begins before it
-white-before : (b : ℕ) (x cs : List ℕ) → whiteAt (b ∷ (x ++ encodeAll cs)) ≡ whiteAt (b ∷ x)
+white-apart : (b : ℕ) (x cs : List ℕ) → whiteAt (b ∷ (x ++ encodeAll cs)) ≡ whiteAt (b ∷ x)
 unfolding concat
-white-before b x [] = ap (λ (y : List ℕ). whiteAt (b ∷ y)) (append-nil x)
-white-before b x (c ∷ cs) = go (encode c) (character c)
+white-apart b x [] = ap (λ (y : List ℕ). whiteAt (b ∷ y)) (append-nil x)
+white-apart b x (c ∷ cs) = go (encode c) (character c)
   where
     go : (y : List ℕ) → Character y → whiteAt (b ∷ (x ++ (y ++ encodeAll cs))) ≡ whiteAt (b ∷ x)
     go [] k = absurd k
@@ -201,7 +206,7 @@ trim-between : (x : List ℕ) → Bare x → (cs : List ℕ) → Whites cs → t
 unfolding trim trimStart trimEnd blank
 trim-between [] n cs h = ap trimEnd (null-none (skipWhite 0 (encodeAll cs)) (white-blank cs h))
 trim-between (b ∷ x) n cs h =
-    let z : whiteAt (b ∷ (x ++ encodeAll cs)) ≡ 0 = white-before b x cs ∙ begins-none (b ∷ x) (n .at-front) in
+    let z : whiteAt (b ∷ (x ++ encodeAll cs)) ≡ 0 = white-apart b x cs ∙ begins-none (b ∷ x) (n .at-front) in
     let e : skipWhite 0 (b ∷ x ++ encodeAll cs) ≡ b ∷ x ++ encodeAll cs = skip-at (b ∷ x ++ encodeAll cs) ∙ simp z in
     ap trimEnd e ∙ end-blank (b ∷ x) (encodeAll cs) (white-blank cs h) ∙ ends-none (b ∷ x) n
 

@@ -1,6 +1,7 @@
 -- Trimming: white space and U+FEFF are white (`white-is`). On well-formed text exactly the white characters go, whole, from both ends (`trim-chars`);
--- without U+FEFF these are white space alone (`trim-unmarked`). On any bytes, what is nothing but white at the end goes (`end-blank`), and a text of
--- visible bytes stays (`trim-visible`). No other law looks at the list: they hold of every list of characters. (01: Records; 02: N2)
+-- without U+FEFF these are white space alone (`trim-without-mark`). On any bytes, what is nothing but white at the end goes (`end-blank`), and a text of
+-- visible bytes stays (`trim-visible`). No law but these, and those of visible bytes and of LF, looks at the list: the others hold of every list of
+-- characters. (01: Records; 02: N2)
 -- Assumes nothing.
 use Prim.Native.Nat.{ℕ, zero, suc, _+_, _-_, _*_, _/_, _≤_, _<_}
 use native.Mathlib.Nat.{not-suc-le-zero, le-of-suc-le-suc}
@@ -235,19 +236,19 @@ module _ (f g : ℕ → Bool) where
   same-end [] h = refl
   same-end (c ∷ cs) h = simp (same-all (c ∷ cs) h, same-end cs (h .1))
 
-unmarked : (cs : List ℕ) → any (λ c. eqb c 0xFEFF) cs ≡ false → All (λ c. white c ≡ any (eqb c) whiteSpace) cs
+no-mark : (cs : List ℕ) → any (λ c. eqb c 0xFEFF) cs ≡ false → All (λ c. white c ≡ any (eqb c) whiteSpace) cs
 unfolding any
-unmarked [] h = tt
-unmarked (c ∷ cs) h =
+no-mark [] h = tt
+no-mark (c ∷ cs) h =
     let p = or-none (eqb c 0xFEFF) (any (λ w. eqb w 0xFEFF) cs) h in
-    (white-is c ∙ simp (p .0, or-false), unmarked cs (p .1))
+    (white-is c ∙ simp (p .0, or-false), no-mark cs (p .1))
 
 -- A text without U+FEFF loses white space alone, as it does by the Rust.
-pub trim-unmarked : (cs : List ℕ) → any (λ c. eqb c 0xFEFF) cs ≡ false
+pub trim-without-mark : (cs : List ℕ) → any (λ c. eqb c 0xFEFF) cs ≡ false
     → trim (encodeAll cs) ≡ encodeAll (trimChars (λ c. any (eqb c) whiteSpace) cs)
 unfolding trimChars
-trim-unmarked cs h =
-    let u = unmarked cs h in
+trim-without-mark cs h =
+    let u = no-mark cs h in
     let e = same-end white (λ c. any (eqb c) whiteSpace) (dropFront white cs) (all-less _ white cs u) in
     trim-chars cs ∙ ap encodeAll (e ∙ ap (dropEnd (λ c. any (eqb c) whiteSpace)) (same-front white (λ c. any (eqb c) whiteSpace) cs u))
 
@@ -263,7 +264,7 @@ white-most s = go (map encode whites)
 
 -- f is no later byte, so it is part of no character that begins before it
 module _ (f : ℕ) (r : List ℕ) (l : Later f → ⊥) where
-  pub starts-past : (x y : List ℕ) → All Later x → starts x (y ++ f ∷ r) ≡ starts x y
+  starts-past : (x y : List ℕ) → All Later x → starts x (y ++ f ∷ r) ≡ starts x y
   unfolding starts
   starts-past [] y h = refl
   starts-past (b ∷ x) [] h = simp (ne-eqb f b (λ e. l (rw (← e) at (h .0))))

@@ -26,7 +26,6 @@ use Rattle.pbn_checks.specs.Checks.{pbnChecks, recordChecked}
 pub bad-entry : (c : ℕ) → 51 < c → (c ≡ 255 → ⊥) → true ≡ badEntry c
 bad-entry c h k = sym (simp (lt-ltb 51 c h, ne-eqb c 255 k))
 
--- some element of lists put one after the other passes a test
 -- the spans of the calls and of the names, call by call and name by name
 pub raws-any : (f : Span → Bool) (cs : List PbnCall) → any f (rawSpans cs) ≡ any (λ c. any f (spanIn (rawOf c))) cs
 unfolding concat any

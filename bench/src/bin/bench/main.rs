@@ -1,20 +1,25 @@
 //! Times upstream's calls against the exports, interleaved in one run of one
 //! driver: `bench [RUNS [WORD]]`, over all inputs or those whose name has the
 //! word; the export of auctions against the model, for the word `auctions`; and the
-//! exports alone over hostile records, for the word `hostile`. docs/BENCHMARKS.md
-//! says what the rows are.
+//! exports alone, over texts of which most is trimmed, for the word `trimmed`, and over
+//! hostile records, for the word `hostile`. docs/BENCHMARKS.md says what the rows are.
 
 mod auctions;
 mod inputs;
+mod white;
 mod works;
 
 use lin_bench::samples::hostile::{self, Hostile};
 use lin_host_rust::LIMIT;
 use std::env;
+use white::White;
 use works::Times;
 
 /// The word for the calls that upstream has not.
 const AUCTIONS: &str = "auctions";
+
+/// The word for texts of white space and byte order marks.
+const TRIMMED: &str = "trimmed";
 
 /// The word for the records that have no match in upstream.
 const HOSTILE: &str = "hostile records";
@@ -41,6 +46,12 @@ fn main() {
         for all in auctions::ALL {
             let times = [LIMIT / 4, LIMIT / 2, LIMIT].map(|len| all.time(len, runs));
             report(all.name, times);
+        }
+    }
+    if TRIMMED.contains(&word) {
+        println!("{TRIMMED}");
+        for white in white::ALL {
+            report_white(white, runs);
         }
     }
     if HOSTILE.contains(&word) {
@@ -82,12 +93,26 @@ fn report(name: &str, [quarter, half, whole]: [Times; 3]) {
     line(name, cells);
 }
 
+/// The rows of a text of which most is trimmed, one for each character.
+fn report_white(white: &White, runs: usize) {
+    for (name, character) in white::CHARACTERS {
+        let time = |len| white.time(character, len, runs);
+        let times = [LIMIT / 4, LIMIT / 2, LIMIT].map(time);
+        report_alone(&format!("{}, {name}", white.name), times);
+    }
+}
+
 /// The row of a hostile record, which upstream's types can't hold.
 fn report_hostile(hostile: &Hostile, runs: usize) {
-    let [quarter, half, whole] = [LIMIT / 4, LIMIT / 2, LIMIT].map(|len| {
+    let times = [LIMIT / 4, LIMIT / 2, LIMIT].map(|len| {
         let asked = (hostile.made)(len);
         works::alone(runs, || asked.answer())
     });
+    report_alone(hostile.name, times);
+}
+
+/// The row of exports that stand alone, by their times over three texts.
+fn report_alone(name: &str, [quarter, half, whole]: [f64; 3]) {
     let empty = String::new;
     let cells = [
         format!("{LIMIT}"),
@@ -98,7 +123,7 @@ fn report_hostile(hostile: &Hostile, runs: usize) {
         format!("{:.2}", half / quarter),
         format!("{:.2}", whole / half),
     ];
-    line(hostile.name, cells);
+    line(name, cells);
 }
 
 fn line(what: &str, cells: [String; 7]) {

@@ -1,4 +1,5 @@
--- U+FEFF in every place that is trimmed and in every place that is not, proved of the definitions by computation: the smallest text for each. (02: N2)
+-- U+FEFF in every place of a board or a file that is trimmed, and in values that are not, proved of the definitions by computation: a small text for each.
+-- (02: N2)
 -- Assumes nothing.
 use Prim.Native.Nat.{ℕ, _+_}
 use mathlib.Core.Path.{_≡_, refl}
@@ -29,14 +30,15 @@ marked x y = x ++ (encode 0xFEFF ++ y)
 abbrev threeSuits : List ℕ
 threeSuits = ascii "md|1SAKQJT98765432,HAKQJT98765432,DAKQJT98765432"
 
-pub record Marks : Type 0 where
+pub record MarkCases : Type 0 where
   -- "commands, md, sv, pc, mc, East's field and blank lines"
   command : parseLin (marked [] (ascii "md|1|")) .dealt ≡ record { dealer = South; deal = replicate 208 0 }
   md : parseLin (marked (ascii "md|") (ascii "1|")) .dealt ≡ record { dealer = South; deal = replicate 208 0 }
   sv : parseLin (marked (ascii "sv|") (ascii "b|")) .vulnerability ≡ Both
   pc : parseLin (marked (ascii "pc|SA") (ascii "|")) .play ≡ 12 ∷ []
   mc : parseLin (marked (ascii "mc|") (ascii "9|")) .claim ≡ some 9
-  east : drop 156 (parseLin (marked (threeSuits ++ ascii ",") (ascii "|")) .dealt .deal) ≡ replicate 39 0 ++ replicate 13 1
+  -- a field after East's, so that the mark is not at the end of the md
+  east : drop 156 (parseLin (marked (threeSuits ++ ascii ",") (ascii ",|")) .dealt .deal) ≡ replicate 39 0 ++ replicate 13 1
   line : countBoards (marked [] []) ≡ accepted 0
   -- a qx that is recognised makes parts of the file's lines
   parts : countBoards (marked [] (ascii "qx|a|sv|n|")) ≡ accepted 0
@@ -50,9 +52,9 @@ pub record Marks : Type 0 where
   -- "read as mc's digits but untrimmed": the note 1 is there, and the reference stays as written
   note : annotationText (marked (ascii "=") (ascii "1=")) (replicate 3 0 ++ (1 ∷ 0 ∷ 1 ∷ replicate 762 0)) (marked (ascii "=") (ascii "1=")) ≡ some (marked (ascii "=") (ascii "1="))
 
-pub marks : Marks
+pub mark-cases : MarkCases
 unfolding marked countBoards unless utf8 utf utfStep first fileSpans sections keep any partsFrom linesFrom stream placed tokens cut paired parseLin boardFrom over undealt isCommand sameWord lower trim trimEnd trimStart skipWhite blank whiteAt front whiteSpace encode starts eqAll readMd dealerOf dealOf eastOf field readHand handFrom suitOf rankOf indexOf sum unheldCards readSv named annotated numberIn all valueFrom readCard withoutEnd endsIn part annotationText annotationParts partsUpTo partLength run partWord nagWord noteOf joinBy
-marks =
+mark-cases =
     record {
       command = refl;
       md = refl;
