@@ -67,9 +67,9 @@ const ASIDE: usize = KEPT;
 
 /// The groups: the one with the other, the other with the one, both in one text;
 /// and the one with the other in texts of their own.
-const LINES: [&str; 3] = ["left", "right", "apart"];
+pub(crate) const LINES: [&str; 3] = ["left", "right", "apart"];
 
-fn define(s: &mut Steps) {
+pub(crate) fn define(s: &mut Steps) {
     lent::define(s, lent::ONE_BOARD);
     lent::define(s, lent::OTHER_BOARD);
     s.block(ASKED, |b| {
@@ -92,8 +92,8 @@ fn define(s: &mut Steps) {
     });
 }
 
-fn put(s: &mut Steps, pair: &Pair) {
-    let [left, right] = answer(pair);
+/// The one equals the other so, and the other the one.
+pub(crate) fn put(s: &mut Steps, pair: &Pair, [left, right]: [u8; 2]) {
     let mut texts = Vec::new();
     let mut own = Vec::new();
     lent::board(s, lent::ONE_BOARD, &pair.0, &mut texts);
@@ -122,7 +122,7 @@ pub fn vectors() -> Vectors {
     let mut s = Steps::new();
     define(&mut s);
     for pair in all() {
-        put(&mut s, &pair);
+        put(&mut s, &pair, answer(&pair));
     }
     s.say("equality", &LINES);
     s.done()

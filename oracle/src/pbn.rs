@@ -4,7 +4,7 @@
 pub mod calls;
 pub mod heads;
 pub mod mixed;
-mod replayed;
+pub(crate) mod replayed;
 
 use crate::{
     annotation::{put_notes, Notes},
@@ -202,7 +202,7 @@ pub fn vectors() -> Vectors {
     let mut s = Steps::new();
     replayed::define(&mut s);
     for record in all() {
-        replayed::put(&mut s, &record);
+        replayed::put(&mut s, &record, &made(&record));
     }
     s.say("pbn", &replayed::LINES);
     s.done()

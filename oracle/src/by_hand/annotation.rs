@@ -27,12 +27,12 @@ fn is_text(s: &mut Steps, text: &[u8]) {
 }
 
 /// Pipes and ends of lines, which annotation_text leaves as they are; from_board cleans
-/// them. Byte order marks, which nothing removes here. So many bytes are the raw annotation and the rest note 1, which give this text
-/// or none.
+/// them. Byte order marks, which are not trimmed here. So many bytes are the raw
+/// annotation and the rest note 1, which give this text or none.
 fn kept(s: &mut Steps) {
     s.mark(64);
     s.set(ROOM, &[64]);
-    let cases: [(&[u8], u32, Option<&[u8]>); 11] = [
+    let cases: [(&[u8], u32, Option<&[u8]>); 15] = [
         (b"=|=", 3, Some(b"=|=")),
         (b"=\r\n=", 4, Some(b"=\r\n=")),
         (b"!|?\n$1", 6, Some(b"! ? !")),
@@ -45,6 +45,11 @@ fn kept(s: &mut Steps) {
         // A byte order mark beside the number: it is not trimmed, so the reference stays.
         (b"=\xEF\xBB\xBF1=weak", 6, Some(b"=\xEF\xBB\xBF1=")),
         (b"=1\xEF\xBB\xBF=$1weak", 8, Some(b"=1\xEF\xBB\xBF= !")),
+        // Beside other parts it goes, as any other character does; a note's text keeps it.
+        (b"\xEF\xBB\xBF", 3, None),
+        (b"\xEF\xBB\xBF=1=\xEF\xBB\xBFweak", 9, Some(b"weak")),
+        (b"=1=$1\xEF\xBB\xBF", 5, Some(b"\xEF\xBB\xBF !")),
+        (b"$\xEF\xBB\xBF1!\xEF\xBB\xBF?", 10, Some(b"! ?")),
     ];
     for (text, raw, made) in cases {
         s.go(CLEARED);

@@ -1,21 +1,24 @@
 //! Byte order marks: every place that is trimmed, every place that is not, the lines and
-//! parts of a file, tokens, written boards, and bytes that are a part of a mark. (Document
-//! 02, N2)
+//! parts of a file, tokens, boards that are written, compared and made of records, and bytes
+//! that are a part of a mark. (Document 02, N2)
 //!
-//! Upstream's trim does not know the mark. Where a text has marks at the ends of trimmed
-//! places alone, the answer is upstream's for the text without them: that they go is
-//! document 02's rule. All other answers are written out.
+//! Upstream's trim does not know the mark. The smallest texts have their answers written
+//! out, and so has whatever keeps a mark. Where a text has marks only where they go or
+//! change nothing, the answer is upstream's for the text without them: that they go is
+//! document 02's rule.
 
 use super::*;
 use crate::{
     boards::{deals::THREE as HANDS, places, traps},
     built::{self, cards},
+    equality,
     files::{self, lines},
     lin::{parse_lin, parse_lin_file, LinData},
+    pbn::{replayed, Record},
     random::Rng,
     records, texts, tokens, writer,
 };
-use bridge_types::{Direction, Vulnerability};
+use bridge_types::{AnnotatedCall, Direction, Vulnerability};
 
 /// The text with the mark for each `@`.
 fn marked(text: &str) -> String {
@@ -155,9 +158,9 @@ fn within(s: &mut Steps) {
     for text in like.into_iter().flat_map(texts) {
         reads(s, &text, &built::fresh());
     }
-    let three = format!("md|1{HANDS},@\u{200B}|");
+    // East's field is not blank, and holds no card.
     let Ok(without_east) = parse_lin(&format!("md|1{HANDS},x|"));
-    reads(s, &three, &without_east);
+    reads(s, &format!("md|1{HANDS},@\u{200B},|"), &without_east);
 }
 
 /// The file without its marks has the same boards.
@@ -239,6 +242,52 @@ fn marked_board() -> LinData {
     }
 }
 
+/// Boards that are equal but for a mark are not equal, in whichever text it stands.
+fn compared(s: &mut Steps) {
+    let board = marked_board();
+    equality::put(s, &(board.clone(), board.clone()), [1, 1]);
+    for place in 0..built::PLACES {
+        let mut other = board.clone();
+        built::put(&mut other, place, "x");
+        let mut one = board.clone();
+        built::put(&mut one, place, &marked("x@"));
+        equality::put(s, &(one, other), [0, 0]);
+    }
+}
+
+/// A record with marks in all its texts, and the board that is made of it. A mark alone in a
+/// raw annotation goes, as any other character does; in a note it stays.
+fn made(s: &mut Steps) {
+    let text = |text: &str| Some(marked(text));
+    let call = AnnotatedCall {
+        call: bridge_types::Call::Pass,
+        annotation: text("@=1=$1@=@1="),
+    };
+    let record = Record {
+        names: [text("@,a|"), None, text("@"), text("d@")],
+        event: text("@"),
+        date: text("@May"),
+        id: text("@"),
+        calls: vec![call],
+        notes: [(1, marked("@\n"))].into(),
+        play: cards("SA").into_iter().map(Some).collect(),
+        ..Record::default()
+    };
+    let mut board = with_texts([
+        "@a/",
+        "",
+        "@",
+        "d@",
+        "@ - @May",
+        "o@,BOARD @",
+        "Board @",
+        "p",
+        "@  ! =@1=",
+    ]);
+    board.play = cards("SA");
+    replayed::put(s, &record, &board);
+}
+
 /// The step of a board cursor from the first byte of any bytes, and whether its section,
 /// all of them, is a board.
 fn visits(s: &mut Steps, bytes: &[u8], in_lines: bool, board: bool) {
@@ -288,6 +337,8 @@ pub fn put(s: &mut Steps) {
     files::define(s);
     whole_files(s);
     files::put(s, &marked(WRITTEN), &[marked_board()]);
+    let twice = [marked_board(), marked_board()];
+    files::put(s, &marked(&WRITTEN.repeat(2)), &twice);
     s.say("by hand marks files", &files::LINES);
     // The numbers that no board has are behind us: a place is of 32 bits from here on.
     s.long(NUMBER, 0);
@@ -297,6 +348,12 @@ pub fn put(s: &mut Steps) {
     writer::define(s);
     writer::put(s, &marked_board(), &marked(WRITTEN));
     s.say("by hand marks writer", &writer::LINES);
+    equality::define(s);
+    compared(s);
+    s.say("by hand marks equality", &equality::LINES);
+    replayed::define(s);
+    made(s);
+    s.say("by hand marks pbn", &replayed::LINES);
     cut_short(s);
     s.say("by hand marks cut", &["steps", "refused"]);
 }

@@ -2,7 +2,7 @@
 //! The texts made stand back to back in the output (document 01, "The texts made go
 //! into a lent output from its first byte .."), so that every word is known.
 
-use super::{call_bytes, entry, made, Record};
+use super::{call_bytes, entry, Record};
 use crate::{
     annotation::{define_notes, lend_notes},
     boards::{held, number, seat, text_of, vulnerability},
@@ -202,9 +202,9 @@ pub fn define(s: &mut Steps) {
     });
 }
 
-pub fn put(s: &mut Steps, record: &Record) {
-    let board = made(record);
-    let (head, rows, texts) = words(&board);
+/// This board is made of the record.
+pub fn put(s: &mut Steps, record: &Record, board: &LinData) {
+    let (head, rows, texts) = words(board);
     lend(s, record);
     let (calls, cards) = (board.auction.len() as u32, board.play.len() as u32);
     s.set(CALLS_OF, &[calls, cards]);
