@@ -91,6 +91,57 @@ fn about(text: &str) -> Vec<String> {
 /// What a board must be.
 type Test = fn(&LinData) -> bool;
 
+/// The table of docs/DIFFERENCES.md: a text for each place, what upstream reads and what is
+/// read here.
+#[test]
+fn as_the_table_says() {
+    let east = format!("md|1{THREE},\u{FEFF},|");
+    let boards: [(&str, Test, Test); 6] = [
+        (
+            "\u{FEFF}md|1|",
+            |b| b.dealer == Direction::North,
+            |b| b.dealer == Direction::South,
+        ),
+        (
+            "md|\u{FEFF}1|",
+            |b| b.dealer == Direction::North,
+            |b| b.dealer == Direction::South,
+        ),
+        (
+            "sv|\u{FEFF}b|",
+            |b| b.vulnerability == Vulnerability::None,
+            |b| b.vulnerability == Vulnerability::Both,
+        ),
+        (
+            "pc|SA\u{FEFF}|",
+            |b| play(b).is_empty(),
+            |b| play(b) == ["SA"],
+        ),
+        (
+            "mc|\u{FEFF}9|",
+            |b| b.claim.is_none(),
+            |b| b.claim == Some(9),
+        ),
+        (
+            &east,
+            |b| hands(b)[3].is_empty(),
+            |b| hands(b)[3].len() == 26,
+        ),
+    ];
+    for (text, theirs, ours) in boards {
+        let Ok(upstreams) = lin::parse_lin(text);
+        assert!(theirs(&upstreams) && ours(&read(text)), "{text:?}");
+    }
+    for text in ["\u{FEFF}", "\u{FEFF}qx|a|sv|n|"] {
+        let Ok(upstreams) = lin::parse_lin_file(text);
+        assert_eq!(
+            (upstreams.len(), self::boards(text).len()),
+            (1, 0),
+            "{text:?}"
+        );
+    }
+}
+
 // What is trimmed
 
 #[test]
@@ -472,6 +523,12 @@ fn written_and_read_back() {
     let list = vec![lent; 3];
     holds(&board, compare::appends(vec![7; 500], &list));
     assert_eq!(boards(&written.repeat(3)).len(), 3);
+    // what is written has no mark where trimming looks, so upstream finds the same boards
+    let Ok(upstreams) = lin::parse_lin_file(&written.repeat(3));
+    assert_eq!(upstreams.len(), 3);
+    for read in upstreams {
+        holds(&board, compare::same_boards(&read, &settled));
+    }
 }
 
 /// Boards with a mark are not those without it.

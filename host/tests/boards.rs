@@ -207,7 +207,7 @@ fn commands_in_any_dress() {
     assert_eq!(dressed.board_header, None);
 }
 
-/// Trimming removes the mark as well as white space, and nothing else does.
+/// Trimming removes the mark as well as white space, and what is not trimmed keeps it.
 #[test]
 fn byte_order_marks() {
     let trimmed = "\u{FEFF}md\u{FEFF}|\u{FEFF}1SA\u{FEFF}|sv| \u{FEFF}b\u{FEFF} |\
@@ -244,13 +244,13 @@ fn hands() {
 fn implied_east() {
     let suits = ["S", "H", "D"].map(|s| format!("{s}AKQJT98765432"));
     let three = suits.join(",");
-    for east in ["", ",", ", \u{3000}", ",\u{FEFF}", ",,SA", ", ,x"] {
+    for east in ["", ",", ", \u{3000}", ",\u{FEFF},", ",,SA", ", ,x"] {
         let text = format!("md|1{three}{east}|");
         let all = heading(&text);
         assert_eq!(lengths(&all), [13; 4], "{east:?}");
         assert_eq!(all.deal.hand(Seat::East)[39..], [1; 13]);
     }
-    for (east, cards) in [(",x", 0), (",S", 0), (",\u{200B}", 0), (",SA", 1)] {
+    for (east, cards) in [(",x", 0), (",S", 0), (",\u{200B},", 0), (",SA", 1)] {
         let text = format!("md|1{three}{east}|");
         assert_eq!(lengths(&heading(&text))[3], cards, "{east:?}");
     }

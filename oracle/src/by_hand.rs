@@ -1,8 +1,9 @@
-//! Cases by hand, from documents 01 and 02 and not from upstream, which refuses nothing,
-//! checks no auction and does not trim a byte order mark: the refusals with what each
-//! carries, beside the nearest input that is accepted; their order; places of spans;
-//! outputs longer than their room; the laws of an auction; texts with byte order marks. A
-//! module for each subject makes its cases; the file is `by_hand.bin`.
+//! Cases by hand, from documents 01 and 02: no answer is upstream's to the text that is
+//! lent, since upstream refuses nothing, checks no auction and does not trim a byte order
+//! mark. They are the refusals with what each carries, beside the nearest input that is
+//! accepted; their order; places of spans; outputs longer than their room; the laws of an
+//! auction; texts with byte order marks. A module for each subject makes its cases; the
+//! file is `by_hand.bin`.
 
 mod annotation;
 mod auction;

@@ -1,5 +1,6 @@
--- A command between white characters is the command alone. A text with U+FEFF at its front is the board that it is without one, and it has a qx,
--- and so parts and not lines, exactly when it has one without the mark. (02: N2)
+-- A command between white characters is the command alone (`command-around`). For all bytes: a text with U+FEFF at its front is the board that it is
+-- without it (`front-mark`), it has a qx exactly when it has one without the mark (`front-mark-holds`), and as a file it has the same boards
+-- (`front-mark-file`). (02: N2)
 -- Assumes nothing.
 use Prim.Native.Nat.{ℕ, suc, _+_, _-_, _<_}
 use native.Mathlib.Omega.{arith}
@@ -18,7 +19,7 @@ use Rattle.lin_spec.specs.Tokens.Pieces.{end, piece}
 use Rattle.lin_spec.specs.Tokens.TokenOf.{token}
 use Rattle.lin_spec.specs.Board.{BoardOf, over, boardFrom}
 use Rattle.lin_spec.specs.Reading.{bytesText, placed, stream, parseLin}
-use Rattle.lin_spec.specs.File.{Section, section, holds, leads, tokensIn, partAt, partsFrom, linesFrom, sections, boardsOf, parseLinFile}
+use Rattle.lin_spec.specs.File.{Section, section, holds, leads, partAt, partsFrom, linesFrom, sections, boardsOf, parseLinFile}
 use Rattle.lin_spec.specs.declared.Span.{Span}
 use Rattle.lin_spec.proofs.Base.{picked}
 use Rattle.lin_spec.proofs.White.{white, trim-white, blank-encode}

@@ -8,10 +8,11 @@ use super::{
 };
 use crate::texts::{SAMPLES, WHITE};
 
-/// None that trimming removes: without a mark, with the last or the first bytes of a
-/// white space character or of the byte order mark, or beside one in the table.
+/// None that trimming removes: those that show nothing, those with the last or the first
+/// bytes of a white space character or of the byte order mark, and those beside one in the
+/// table.
 const ALIKE: &[char] = &[
-    // without a mark
+    // that show nothing
     '\0',
     '\u{1C}',
     '\u{1D}',
