@@ -91,54 +91,49 @@ fn about(text: &str) -> Vec<String> {
 /// What a board must be.
 type Test = fn(&LinData) -> bool;
 
-/// The table of docs/DIFFERENCES.md: a text for each place, what upstream reads and what is
-/// read here.
+/// The table of docs/DIFFERENCES.md but East and files: a text for each place, what upstream
+/// reads and what is read here.
+const TABLE: [(&str, Test, Test); 5] = [
+    ("\u{FEFF}md|1|", dealt_by_north, dealt_by_south),
+    ("md|\u{FEFF}1|", dealt_by_north, dealt_by_south),
+    (
+        "sv|\u{FEFF}b|",
+        |b| b.vulnerability == Vulnerability::None,
+        |b| b.vulnerability == Vulnerability::Both,
+    ),
+    (
+        "pc|SA\u{FEFF}|",
+        |b| play(b).is_empty(),
+        |b| play(b) == ["SA"],
+    ),
+    (
+        "mc|\u{FEFF}9|",
+        |b| b.claim.is_none(),
+        |b| b.claim == Some(9),
+    ),
+];
+
+fn dealt_by_north(board: &LinData) -> bool {
+    board.dealer == Direction::North
+}
+
+fn dealt_by_south(board: &LinData) -> bool {
+    board.dealer == Direction::South
+}
+
 #[test]
 fn as_the_table_says() {
-    let east = format!("md|1{THREE},\u{FEFF},|");
-    let boards: [(&str, Test, Test); 6] = [
-        (
-            "\u{FEFF}md|1|",
-            |b| b.dealer == Direction::North,
-            |b| b.dealer == Direction::South,
-        ),
-        (
-            "md|\u{FEFF}1|",
-            |b| b.dealer == Direction::North,
-            |b| b.dealer == Direction::South,
-        ),
-        (
-            "sv|\u{FEFF}b|",
-            |b| b.vulnerability == Vulnerability::None,
-            |b| b.vulnerability == Vulnerability::Both,
-        ),
-        (
-            "pc|SA\u{FEFF}|",
-            |b| play(b).is_empty(),
-            |b| play(b) == ["SA"],
-        ),
-        (
-            "mc|\u{FEFF}9|",
-            |b| b.claim.is_none(),
-            |b| b.claim == Some(9),
-        ),
-        (
-            &east,
-            |b| hands(b)[3].is_empty(),
-            |b| hands(b)[3].len() == 26,
-        ),
-    ];
-    for (text, theirs, ours) in boards {
+    for (text, theirs, ours) in TABLE {
         let Ok(upstreams) = lin::parse_lin(text);
         assert!(theirs(&upstreams) && ours(&read(text)), "{text:?}");
     }
+    let text = format!("md|1{THREE},\u{FEFF},|");
+    let Ok(upstreams) = lin::parse_lin(&text);
+    let easts = [upstreams, read(&text)].map(|b| hands(&b)[3].clone());
+    assert_eq!(easts, ["", "CACKCQCJCTC9C8C7C6C5C4C3C2"]);
     for text in ["\u{FEFF}", "\u{FEFF}qx|a|sv|n|"] {
         let Ok(upstreams) = lin::parse_lin_file(text);
-        assert_eq!(
-            (upstreams.len(), self::boards(text).len()),
-            (1, 0),
-            "{text:?}"
-        );
+        assert_eq!((upstreams.len(), boards(text).len()), (1, 0), "{text:?}");
     }
 }
 
