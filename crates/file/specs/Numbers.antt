@@ -1,13 +1,12 @@
--- Counts, boards by number and the finder, as the code gives them. (01: File)
+-- Counts and boards by number, as the code gives them. (01: File)
 use Prim.Native.Nat.{ℕ, _<_, _≤_}
 use mathlib.Core.Path.{_≡_}
-use mathlib.Core.Bool.{false, _&&_}
+use mathlib.Core.Bool.{false}
 use mathlib.Core.List.{List}
 use lib.ListN.{length, getD}
-use Rattle.lin_spec.specs.Base.{pick}
 use Rattle.lin_spec.specs.Refusals.{Answer}
 use Rattle.lin_spec.specs.Refusals.Answer.{refused, accepted}
-use Rattle.lin_spec.specs.File.{section, sections, boardsOf, boardIn, hasName}
+use Rattle.lin_spec.specs.File.{section, sections, boardsOf}
 use Rattle.file_sections.specs.Sections.{sectionOf, Inside}
 use Rattle.file_sections.specs.declared.sections.Section.{Section}
 use Rattle.file.specs.declared.numbers.Counted.{Counted}
@@ -31,6 +30,3 @@ pub record NumberedBoard (s : List ℕ) (n : ℕ) (p : Section) : Type 0 where
 abbrev pub Numbers : List ℕ → ℕ → Numbered → Type 0
 Numbers s n (At p) = NumberedBoard s n p
 Numbers s n (Missing k) = (k ≡ length (boardsOf (sections s))) × (k ≤ n)
-
-abbrev pub Finds : (s name : List ℕ) → Section → ℕ → Type 0
-Finds s name p r = r ≡ pick (p .board && hasName s name (boardIn s (sectionOf p))) 1 0

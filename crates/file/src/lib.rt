@@ -1,8 +1,6 @@
-// The boards of a file: their count, a board by its number, and the name finder. (01: File, names; upstream's mod.rs)
-mod finder;
+// The boards of a file: their count, and a board by its number. (01: File; upstream's mod.rs)
 mod numbers;
 
-pub use finder::find_name;
 pub use numbers::Counted;
 pub use numbers::Numbered;
 pub use numbers::count_boards;

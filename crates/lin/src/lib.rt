@@ -37,7 +37,7 @@ pub use file::Counted;
 pub use file::count_boards;
 pub use file::file_board;
 pub use file::file_heading;
-pub use file::find_name;
+pub use file_finder::find_name;
 pub use file_reader::BoardRead;
 pub use file_reader::NextBoard;
 pub use file_reader::read_board;

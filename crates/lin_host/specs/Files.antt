@@ -1,19 +1,27 @@
--- The board cursor and its step as numbers. (01: File)
+-- The finder, the board cursor and its step as numbers. (01: File; names; 02: N3)
 use Prim.Native.Nat.{ℕ}
+use mathlib.Core.Path.{_≡_}
 use mathlib.Core.Bool.{not}
 use mathlib.Core.List.{List}
 use lib.Dec.{eqb}
+use lib.ListN.{length}
 use Rattle.lin_spec.specs.Refusals.{Answer}
 use Rattle.lin_spec.specs.Refusals.Answer.{refused, accepted}
 use Rattle.lin_spec.specs.Reading.{flag}
 use Rattle.lin_spec.specs.File.{Standing, Visit, ReadStep}
 use Rattle.lin_spec.specs.File.Visit.{found, ended}
+use Rattle.file_finder.specs.Finder.{findName, WorkAfter}
 use Rattle.lin_host_numbers.specs.Answers.{numbersOf}
 use Rattle.lin_host_numbers.specs.Boards.{boardNumbers}
 use Rattle.lin_host_numbers.specs.declared.answers.LinAnswer.{LinAnswer}
 use Rattle.lin_host.specs.declared.files.LinBoards.{LinBoards}
 use Rattle.lin_host.specs.declared.files.LinRead.{LinRead}
 use Rattle.lin_host.specs.declared.files.LinSection.{LinSection}
+
+-- the finder's answer as numbers, and the work space afterwards
+pub record FindsNumbers (s name w : List ℕ) (a : LinAnswer) (v : List ℕ) : Type 0 where
+  pub answer : a ≡ numbersOf (findName s name (length w))
+  pub work : WorkAfter (findName s name (length w)) w v
 
 -- a cursor of any numbers: `lines` other than 0 counts as 1
 abbrev pub standing : (at number lines : ℕ) → Standing

@@ -1,9 +1,9 @@
-// The entries of files: how many boards, a board by its number, the name finder and the board cursor. (01: File; names)
+// The entries of files: how many boards, a board by its number, the name finder and the board cursor. (01: File; names; 02: N3)
 use file::Counted;
 use file::count_boards;
 use file::file_board;
 use file::file_heading;
-use file::find_name;
+use file_finder::find_name;
 use file_reader::NextBoard;
 use file_reader::read_board;
 use file_sections::BoardCursor;
@@ -18,13 +18,13 @@ use lin_host_numbers::heading_numbers;
 use lin_host_numbers::refusal;
 ghost use mathlib.Core.Path.{_≡_};
 ghost use Rattle.lin_spec.specs.Reading.{flag};
-ghost use Rattle.lin_spec.specs.File.{countBoards, fileHeading, fileBoard, findName, openBoards, visit, readStep};
+ghost use Rattle.lin_spec.specs.File.{countBoards, fileHeading, fileBoard, openBoards, visit, readStep};
 ghost use Rattle.file.specs.Numbers.{countedOf};
 ghost use Rattle.file_sections.specs.Sections.{openedOf, visitOf};
 ghost use Rattle.lin_host_numbers.specs.Answers.{numbersOf};
 ghost use Rattle.lin_host_numbers.specs.Boards.{headingNumbers, Reading, readingNumbers};
 ghost use Rattle.file_reader.specs.Steps.{nextOf, cursorOf};
-ghost use Rattle.lin_host.specs.Files.{standing, openedNumbers, visitNumbers, stepAnswer, stepVisit, StepRead, readNumbers};
+ghost use Rattle.lin_host.specs.Files.{FindsNumbers, standing, openedNumbers, visitNumbers, stepAnswer, stepVisit, StepRead, readNumbers};
 
 // The verdict and the cursor: the place of the next part or line, the number of the next board, lines 0 or 1. An accepted call has the value 0; a refusal
 // has the cursor 0, 0, 0.
@@ -194,11 +194,12 @@ pub extern "C" fn lin_file_board(
     heading_numbers(file_board(text, number as usize, rows, cards))
 }
 
+// A refusal leaves the work space as it was; after a success it may hold anything.
 #[no_mangle]
-pub extern "C" fn lin_find_name(text: &[u8], name: &[u8]) -> LinAnswer
-    ensures { λ r. ⌜ r ≡ numbersOf (findName (now (text .entry)) (now (name .entry))) ⌝ }
+pub extern "C" fn lin_find_name(text: &[u8], name: &[u8], work: &mut [u32]) -> LinAnswer
+    ensures { λ r. ⌜ FindsNumbers (now (text .entry)) (now (name .entry)) (now (work .entry)) r (now (work .exit)) ⌝ }
 {
-    counted(find_name(text, name))
+    counted(find_name(text, name, work))
 }
 
 #[no_mangle]

@@ -280,17 +280,25 @@ sections-bounded s u =
     (λ _. parts-at (Between s) s (stream s 0) (placed-between s 0 (cut pipe s) (sym j) nil-utf8 (ap utf8 j ∙ u)) 0 0 0 nil-utf8 nil-utf8 nil-utf8)
     (λ _. lines-bounded s 0 (cut 0x0A s) (sym l) nil-utf8 (ap utf8 l ∙ u) u)
 
--- so each board of a file is such a board
+-- what holds of each element holds of the one at any place, and of what stands for those beyond the end
 all-getD : {A : Type 0} (P : A → Type 0) (x : List A) (n : ℕ) (d : A) → All P x → P d → P (getD x n d)
 all-getD P [] n d h k = k
 all-getD P (a ∷ x) zero d h k = h .0
 all-getD P (a ∷ x) (suc n) d h k = all-getD P x n d (h .1) k
 
+-- so each section has such a board, and each board of a file is one
+pub sections-legal : (s : List ℕ) → Utf8 s → All (λ (p : Section). Legal s (boardIn s p)) (sections s)
+sections-legal s u =
+    all-each (Bounded s) (λ (p : Section). Legal s (boardIn s p))
+    (λ p h. section-legal s p (between-utf8 s (p .start) (p .stop) (h .0) (h .1)))
+    (sections s) (sections-bounded s u)
+
 pub file-legal : (s : List ℕ) → Utf8 s → (n : ℕ) → Legal s (numbered s n)
 unfolding fileSpans
 file-legal s u n =
+    let L : Section → Type 0 = λ (p : Section). Legal s (boardIn s p) in
     all-getD (Legal s) (fileSpans s) n (boardIn s (section 0 0 false))
-    (all-map (Bounded s) (Legal s) (boardIn s) (λ p h. section-legal s p (between-utf8 s (p .start) (p .stop) (h .0) (h .1))) (boardsOf (sections s)) (all-keep (Bounded s) (Bounded s) (λ p. p .board) (λ p h _. h) (sections s) (sections-bounded s u)))
+    (all-map L (Legal s) (boardIn s) (λ p h. h) (boardsOf (sections s)) (all-keep L L (λ p. p .board) (λ p h _. h) (sections s) (sections-legal s u)))
     (section-legal s (section 0 0 false) nil-utf8)
 
 -- The sections that begin at a place and after it, in any text: only the bytes from that place to a section's stop need be UTF-8

@@ -1,12 +1,12 @@
--- The boards of a file: its parts or its lines, by number, and those that a name is found in. (01: File; names)
+-- The boards of a file: its parts or its lines, and a board by its number. (01: File)
 use Prim.Native.Nat.{ℕ, _+_, _-_}
 use mathlib.Core.Bool.{Bool, false, _||_, not}
 use mathlib.Core.List.{List, [], _∷_, map}
 use mathlib.Core.Option.{Option}
 use lib.ListN.{length, take, drop, getD}
 use lib.Dec.{ltb, leb}
-use Rattle.lin_spec.specs.Base.{pick, any, keep, countIf, null, eqList, ascii}
-use Rattle.lin_spec.specs.Records.{endOf, part, bytesAt}
+use Rattle.lin_spec.specs.Base.{pick, any, keep, null, ascii}
+use Rattle.lin_spec.specs.Records.{endOf, part}
 use Rattle.lin_spec.specs.White.{blank, isCommand}
 use Rattle.lin_spec.specs.Tokens.{Pieces, cut, TokenOf}
 use Rattle.lin_spec.specs.Tokens.Pieces.{end, piece}
@@ -187,15 +187,3 @@ unfoldable pub fileBoard : (s : List ℕ) (number : ℕ) (rows cards : List ℕ)
 fileBoard s n rows cards =
     let b = numbered s n in
     stored (unless (tooLong s ∷ notUtf8 s ∷ noBoard n (length (fileSpans s)) ∷ fewRows b rows cards) b) rows cards
-
--- "names being the same when their bytes are"
-abbrev pub sameName : (a b : List ℕ) → Bool
-sameName a b = eqList a b
-
--- "at any seat"
-abbrev pub hasName : (s name : List ℕ) → BoardOf Span → Bool
-hasName s name b = any (λ x. sameName (bytesAt s x) name) (b .names)
-
--- "the finder counts a file's boards with a given name, a second text checked after the file"
-unfoldable pub findName : (s name : List ℕ) → Answer ℕ
-findName s name = unless (tooLong s ∷ tooLong name ∷ notUtf8 s ∷ notUtf8 name ∷ []) (countIf (hasName s name) (fileSpans s))

@@ -1,0 +1,10 @@
+pub mod MappingLaws
+pub mod OrderingLaws
+pub mod ClassLaws
+pub mod CanonicalLaws
+pub mod MarkLaws
+pub mod LineLaws
+pub mod CharLaws
+pub mod FullLaws
+pub mod AsciiLaws
+pub mod NameLaws

@@ -1,0 +1,4 @@
+pub mod MeasureLaws
+pub mod FinderLaws
+pub mod MeaningLaws
+pub mod Cases
