@@ -40,8 +40,8 @@ pub data Mapping : Type 0 where
   one : (c a : ℕ) → Mapping
   two : (c a b : ℕ) → Mapping
 
-unfoldable pub table : List Mapping
-table =
+unfoldable pub mappingTable : List Mapping
+mappingTable =
 """
     out += "\n".join("    " + ("∷ " if i else "") + " ∷ ".join(r) for i, r in enumerate(rows(line, 5))) + "\n    ∷ []\n"
     out += """

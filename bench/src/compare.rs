@@ -5,13 +5,15 @@ mod auction;
 mod boards;
 mod files;
 mod guards;
+mod names;
 mod pbn;
 mod reader;
 mod writer;
 
 pub use auction::{auction, bids};
 pub use boards::{board, fields_of, read, same_boards};
-pub use files::{file, name, visit, visits};
+pub use files::{file, visit, visits};
+pub use names::{name, name_in, names};
 pub use pbn::{annotation, annotations, converted, record, Sizes};
 pub use reader::{read_board, reads, walk, Standing};
 pub use writer::{append, appends, equality, play_text, written};

@@ -33,6 +33,8 @@ pub enum Kind {
     Reads,
     /// Files walked by them.
     Walks,
+    /// Names looked for.
+    Names,
     /// Boards written.
     Written,
     /// Play texts.
@@ -57,7 +59,7 @@ pub enum Kind {
 
 impl Kind {
     /// Every kind, with its line of a report.
-    pub const ALL: [(Kind, &'static str); 18] = [
+    pub const ALL: [(Kind, &'static str); 19] = [
         (Kind::Texts, "texts, by tokens"),
         (Kind::Bytes, "runs of bytes, opened"),
         (Kind::Places, "places that a cursor steps from"),
@@ -66,6 +68,7 @@ impl Kind {
         (Kind::Files, "files read"),
         (Kind::Reads, "steps that read a board, from any place"),
         (Kind::Walks, "files walked by them"),
+        (Kind::Names, "names with accents, looked for"),
         (Kind::Written, "boards written"),
         (Kind::Plays, "play texts"),
         (Kind::Pairs, "pairs of boards, compared both ways"),

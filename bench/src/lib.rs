@@ -1,7 +1,8 @@
 //! The exports of the crate `lin_host`, reached through `lin_host_rust`, compared
 //! with the upstream Rust and with documents 01 and 02 in plain Rust. Trimming removes
 //! byte order marks (document 02, N2), and upstream's leaves them: upstream is asked
-//! only about texts without one.
+//! only about texts without one. It has no finder: names are compared by the model
+//! (document 02, N3).
 //!
 //! | module | what it holds |
 //! |---|---|
@@ -10,7 +11,7 @@
 //! | [`expected`] | upstream's answer, which the model's must equal, or the model's alone where a byte order mark stands |
 //! | [`log`] | document 01's plain book of appends |
 //! | [`compare`] | the comparisons, each of which gives what differs |
-//! | [`samples`] | random records, files, boards, PBN records and auctions, and hostile ones |
+//! | [`samples`] | random records, files, names, boards, PBN records and auctions, and hostile ones |
 //! | [`differential`] | random cases of every kind, compared for a time that is given |
 //! | [`clock`] | processor time |
 //!

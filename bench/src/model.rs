@@ -6,6 +6,7 @@
 pub mod auction;
 mod boards;
 mod files;
+pub mod names;
 pub mod pbn;
 mod reader;
 mod records;

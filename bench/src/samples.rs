@@ -5,8 +5,11 @@
 pub mod auctions;
 pub mod built;
 pub mod hostile;
+#[path = "../../host/tests/common/hostile_names.rs"]
+pub mod hostile_names;
 pub mod lent;
 pub mod marks;
+pub mod names;
 pub mod pbn;
 
 use oracle::{

@@ -350,7 +350,7 @@ fn tokens_are_as_they_stand() {
 }
 
 #[test]
-fn names_are_found_by_their_bytes() {
+fn names_are_not_trimmed() {
     for (text, name, many) in [
         ("\u{FEFF}pn|Ann|", "Ann", 1),
         ("pn|\u{FEFF}Ann|", "Ann", 0),

@@ -13,9 +13,9 @@
  * The order is the same in all functions:
  *
  *     1. the text, then the board or the record whose spans are in it
- *     2. what else is read: rows or calls, cards or plays, notes
+ *     2. what else is read: rows or calls, cards or plays, notes, a name
  *     3. the output
- *     4. the rows and the cards that are filled
+ *     4. the rows and the cards that are filled, or work space
  *
  * Numbers stand behind the list that they belong to: a place, the number of a
  * board, or a dealer, behind the text; the trailing span of a document behind its
@@ -52,7 +52,7 @@
  * The length of rows is in words. A rest of fewer than six words is no row.
  *
  * A text has at most LIN_LIMIT bytes. The room of an output is the lesser of its
- * length and LIN_LIMIT.
+ * length and LIN_LIMIT. Work space is no output: all of its length counts.
  */
 #ifndef LIN_HOST_H
 #define LIN_HOST_H
@@ -80,9 +80,10 @@ extern "C" {
  * The refusals, by the numbers of documents 01 and 02. A refused call changes
  * nothing that was lent to it. Behind each: the value that comes with it.
  *
- * Calls that read a text check 1, 2, 4, 3; all other calls check 1, 8, 5, 6, 9, 3,
- * 7, of which 9 meets lin_check_auction alone. Each is checked over the whole
- * input before the next, and the first that is met is the answer.
+ * Calls that read a text check 1, 2, 4, 3, and lin_find_name checks 1, 2, 7; all
+ * other calls check 1, 8, 5, 6, 9, 3, 7, of which 9 meets lin_check_auction alone.
+ * Each is checked over the whole input before the next, and the first that is met
+ * is the answer.
  */
 enum {
     /* No refusal. */
@@ -102,7 +103,8 @@ enum {
     /* The bytes of a span are not UTF-8. Nothing. */
     LIN_SPAN_NOT_UTF8 = 6,
     /* The output is too small. The bytes that this call would write, or 2^64 - 1
-     * for any number beyond it. */
+     * for any number beyond it. Of lin_find_name: the work space is too small. The
+     * places of 32 bits that it needs. */
     LIN_OUTPUT_TOO_SMALL = 7,
     /* A card, a level, a flag or another number is outside its range, or the used
      * bytes are beyond the room. Nothing. */
@@ -371,10 +373,29 @@ LinHeading lin_file_board(const uint8_t *text, size_t text_len, uint64_t number,
                           uint32_t *rows, size_t rows_len,
                           uint8_t *cards, size_t cards_len);
 
-/* The value is the number of boards that have the name at any seat, byte by byte.
- * Refusals 1 and 2, each of the file and then of the name. */
+/* The value is the number of boards that have the name at any seat. Two names are
+ * the same if their characters are equal after these were mapped by the canonical
+ * mappings of Unicode for U+00C0 to U+024F, U+0300 to U+036F and U+1E00 to U+1EFF,
+ * until none applies, and the marks U+0300 to U+036F ordered by combining class
+ * within each run of nonzero classes. All other characters stay as they are, and
+ * their class is 0. Refusals 1 and 2, each of the file and then of the name, and
+ * last 7.
+ *
+ * The characters are mapped into the work space, each into a place of 32 bits. 7
+ * carries the places that are needed: as many as the sought name has characters
+ * when mapped, plus the most that a name of the file's boards has, 0 without boards;
+ * a name that a later pn of its board replaces is none. So many places are always
+ * enough, rounded up:
+ *
+ *     3 * (text_len + name_len) / 2
+ *
+ * With the places of the sought name and 3 * text_len / 2 more, or with those above,
+ * the file is walked once; with fewer it is walked for the places needed before.
+ * What the work space holds before the call changes nothing. It is as it was after a
+ * refusal, and may hold anything after an answer. */
 LinAnswer lin_find_name(const uint8_t *text, size_t text_len,
-                        const uint8_t *name, size_t name_len);
+                        const uint8_t *name, size_t name_len,
+                        uint32_t *work, size_t work_len);
 
 /* A board cursor at the start of a file, all of which is looked at. Refusals 1
  * and 2. */

@@ -277,6 +277,8 @@ extern "C" {
         text_len: usize,
         name: *const u8,
         name_len: usize,
+        work: *mut u32,
+        work_len: usize,
     ) -> LinAnswer;
     pub fn lin_open_boards(text: *const u8, text_len: usize) -> LinBoards;
     pub fn lin_next_board(

@@ -23,7 +23,7 @@ use crate::{
     ffi,
     gathered::shown,
     tokens::Part,
-    Refusal,
+    Refusal, LIMIT,
 };
 
 pub use ffi::{LinBoards, LinRead, LinSection};
@@ -88,9 +88,88 @@ pub fn file_board(text: &[u8], number: u64) -> Result<Board<'_>, Refusal> {
 
 /// How many boards of a file have a name at any seat; refusals 1 and 2, each
 /// of the file and then of the name.
+///
+/// An accent may be spelled in either way: two names are the same when they have the
+/// same characters after these were mapped by Unicode's canonical mappings of U+00C0
+/// to U+024F, U+0300 to U+036F and U+1E00 to U+1EFF, until none applies, and the marks
+/// U+0300 to U+036F ordered by their combining class (document 02, N3). All else
+/// counts: nothing is trimmed, and other letters and another case are another name. A
+/// board counts once. The empty name is that of a seat without a name.
+///
+/// ```
+/// use lin_host_rust::{files, Refusal};
+///
+/// let text = "pn|José|qx|o1|md|1|pn|Jose\u{301},Ann|qx|o2|md|2|".as_bytes();
+/// assert_eq!(files::find_name(text, "José".as_bytes())?, 2);
+/// assert_eq!(files::find_name(text, "Jose\u{301}".as_bytes())?, 2);
+/// assert_eq!(files::find_name(text, b"Jose")?, 0);
+/// # Ok::<(), Refusal>(())
+/// ```
+///
+/// The call has work space of its own, with [`enough_places`]; to [`find_name_in`] it
+/// is lent.
 pub fn find_name(text: &[u8], name: &[u8]) -> Result<u64, Refusal> {
-    // SAFETY: each pointer and length are those of one slice.
-    unsafe { ffi::lin_find_name(text.as_ptr(), text.len(), name.as_ptr(), name.len()) }.read()
+    let places = enough_places(text, name);
+    // Not zeroed, which for a long file took half as long as the search.
+    let mut work = Vec::<u32>::with_capacity(places);
+    // SAFETY: each pointer and length are those of one slice, or within what the
+    // list has reserved, which overlaps no other. The answer depends on how many
+    // places there are and not on what they hold, and any bits are a place's.
+    unsafe { found(text, name, work.as_mut_ptr(), places) }
+}
+
+/// The same in work space that is lent, of places of 32 bits; refusals 1 and 2, each
+/// of the file and then of the name, and last 7, if the places are too few, with how
+/// many are needed: one for each character that the sought name is mapped to, and one
+/// for each of the name that is mapped to most among those of the file's boards.
+///
+/// After a refusal the places are as they were, and otherwise they hold anything.
+/// With [`enough_places`] the file is walked once; with fewer it is walked for the
+/// names' lengths before.
+///
+/// ```
+/// use lin_host_rust::{files, Refusal};
+///
+/// let text = "pn|José,Åsa Öberg|md|1|".as_bytes();
+/// let name = "Jose\u{301}".as_bytes();
+/// // 5 characters, and 11 of Åsa Öberg
+/// let few = files::find_name_in(text, name, &mut [0; 15]);
+/// assert_eq!(few, Err(Refusal::OutputTooSmall(16)));
+/// assert_eq!(files::find_name_in(text, name, &mut [0; 16])?, 1);
+///
+/// // the same places for one name after another
+/// let mut work = vec![0; files::enough_places(text, name)];
+/// for name in ["José", "Ann"] {
+///     let found = files::find_name_in(text, name.as_bytes(), &mut work)?;
+///     assert_eq!(found, u64::from(name == "José"));
+/// }
+/// # Ok::<(), Refusal>(())
+/// ```
+pub fn find_name_in(text: &[u8], name: &[u8], work: &mut [u32]) -> Result<u64, Refusal> {
+    // SAFETY: each pointer and length are those of one slice, and the work space,
+    // being borrowed alone, overlaps no other.
+    unsafe { found(text, name, work.as_mut_ptr(), work.len()) }
+}
+
+/// How many places of work space are enough to find any name of as many bytes in any
+/// file of as many: a text of n bytes is mapped to at most n + n / 2 characters. Of a
+/// text longer than [`LIMIT`], which is refused by 1, no more than that many bytes
+/// count.
+pub fn enough_places(text: &[u8], name: &[u8]) -> usize {
+    let bytes = text.len().min(LIMIT) + name.len().min(LIMIT);
+    (3 * bytes).div_ceil(2)
+}
+
+/// The finder in work space of so many places.
+///
+/// # Safety
+///
+/// The pointer is aligned and valid for so many places, and these overlap neither
+/// text.
+unsafe fn found(text: &[u8], name: &[u8], work: *mut u32, places: usize) -> Result<u64, Refusal> {
+    let (at, len) = (text.as_ptr(), text.len());
+    // SAFETY: as above, and each text's pointer and length are those of one slice.
+    unsafe { ffi::lin_find_name(at, len, name.as_ptr(), name.len(), work, places) }.read()
 }
 
 /// The cursor of a file's start as the export gives it.

@@ -87,7 +87,8 @@ pub enum Refusal {
     SpanPastEnd,
     /// A span's bytes are not UTF-8.
     SpanNotUtf8,
-    /// The output is too small: the bytes that the call would write.
+    /// The output is too small: the bytes that the call would write; or the work space
+    /// of the finder: the places that it needs.
     OutputTooSmall(u64),
     /// A card, level or number is outside its range, or the used bytes are beyond
     /// the room.
@@ -136,7 +137,10 @@ impl fmt::Display for Refusal {
             Refusal::NoBoard(n) => write!(f, "no board of that number among {n}"),
             Refusal::SpanPastEnd => write!(f, "a span passes its text's end"),
             Refusal::SpanNotUtf8 => write!(f, "the bytes of a span are not UTF-8"),
-            Refusal::OutputTooSmall(n) => write!(f, "the output is too small for {n} bytes"),
+            Refusal::OutputTooSmall(n) => write!(
+                f,
+                "an output of {n} bytes, or work space of {n} places, is needed"
+            ),
             Refusal::OutOfRange => write!(f, "a card, a level or a number is outside its range"),
             Refusal::BidUnknown(n) => write!(f, "call {n} is none of p, d, r and 1C to 7N"),
         }

@@ -417,7 +417,7 @@ fn names() {
     assert_eq!((found("BOB"), found("Bob "), found("Bo")), (0, 0, 0));
     // an empty name is that of a seat never set too
     assert_eq!(found(""), 2);
-    // other spellings are other bytes
+    // an accent is spelled in either way
     assert_eq!(
         (found("José"), found("Jose\u{301}"), found("Jose")),
         (1, 1, 0)

@@ -1,10 +1,13 @@
 //! How the time of reading a file grows with its text, for the shapes of file
-//! that a reader could be slow on.
+//! that a reader could be slow on; and that of looking for a name.
 
 #[path = "common/clock.rs"]
 mod clock;
+#[path = "common/hostile_names.rs"]
+mod hostile_names;
 
 use clock::milliseconds;
+use hostile_names::{Asked, HostileName};
 use lin_host_rust::{
     boards::{Seat, ROW},
     files::{self, BoardCursor, Boards},
@@ -189,4 +192,58 @@ fn half_a_million_boards() {
     assert_eq!(none, Err(Refusal::NoBoard(500_000)));
     let numbers = Boards::open(&lines).unwrap().map(|b| b.number);
     assert!(numbers.eq(0..500_000));
+}
+
+// The finder
+
+/// How many places the finder needs.
+fn needed(asked: &Asked) -> usize {
+    let none = files::find_name_in(asked.text.as_bytes(), asked.name.as_bytes(), &mut []);
+    match none {
+        Err(Refusal::OutputTooSmall(places)) => places as usize,
+        other => panic!("{other:?}"),
+    }
+}
+
+/// The least of some times of the finder in so many places, in milliseconds.
+fn finding(asked: &Asked, places: usize) -> f64 {
+    let mut work = vec![0; places];
+    let mut once = || {
+        let start = milliseconds();
+        let (text, name) = (asked.text.as_bytes(), asked.name.as_bytes());
+        let found = files::find_name_in(text, name, &mut work);
+        assert_eq!(found, Ok(asked.boards));
+        milliseconds() - start
+    };
+    (0..3).map(|_| once()).fold(f64::INFINITY, f64::min)
+}
+
+/// A search of the limit's length within the bound, and in at most three times the
+/// time of one of half the length.
+fn search_grows(hostile: &HostileName, places: fn(&Asked) -> usize) {
+    let (half, whole) = ((hostile.made)(LIMIT / 2), (hostile.made)(LIMIT));
+    assert!(whole.text.len() > LIMIT - 8_000 && whole.text.len() <= LIMIT);
+    let (few, many) = (places(&half), places(&whole));
+    let mut seen = Vec::new();
+    for _ in 0..4 {
+        let (short, long) = (finding(&half, few), finding(&whole, many));
+        assert!(long < 5000.0, "{long:?}");
+        if long <= 3.0 * short + 2.0 {
+            return;
+        }
+        seen.push((short, long));
+    }
+    panic!("{}: {seen:?}", hostile.name);
+}
+
+/// Half a million marks, in one name or in many, and a long name among short ones, in
+/// places for one walk over the file and in no more than are needed.
+#[test]
+fn growth_of_the_finder() {
+    for hostile in hostile_names::ALL {
+        search_grows(hostile, needed);
+        search_grows(hostile, |asked| {
+            files::enough_places(asked.text.as_bytes(), asked.name.as_bytes())
+        });
+    }
 }

@@ -1,9 +1,10 @@
 //! Cases by hand, from documents 01 and 02: no answer is upstream's to the text that is
-//! lent, since upstream refuses nothing, checks no auction and does not trim a byte order
-//! mark. They are the refusals with what each carries, beside the nearest input that is
-//! accepted; their order; places of spans; outputs longer than their room; the laws of an
-//! auction; texts with byte order marks. A module for each subject makes its cases; the
-//! file is `by_hand.bin`.
+//! lent, since upstream refuses nothing, checks no auction, does not trim a byte order
+//! mark and has no rule for accents. They are the refusals with what each carries, beside
+//! the nearest input that is accepted; their order; places of spans; outputs longer than
+//! their room; the laws of an auction; texts with byte order marks; names with accents and
+//! the work space that they take. A module for each subject makes its cases; the file is
+//! `by_hand.bin`.
 
 mod annotation;
 mod auction;
@@ -11,6 +12,7 @@ mod boards;
 mod equality;
 mod files;
 mod marks;
+mod names;
 mod pbn;
 mod tokens;
 mod writer;
@@ -96,9 +98,11 @@ fn first_of(faults: usize) -> u32 {
 pub fn vectors() -> Vectors {
     let mut s = Steps::new();
     readers::define(&mut s, Call::ParseHeading, Call::ParseLin, 0);
+    finder::define(&mut s, 0);
     tokens::put(&mut s);
     boards::put(&mut s);
     files::put(&mut s);
+    names::put(&mut s);
     writer::put(&mut s);
     equality::put(&mut s);
     annotation::put(&mut s);

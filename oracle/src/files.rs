@@ -1,5 +1,7 @@
 //! File cases: texts as files, every board that `parse_lin_file` gives, and how
-//! many of them have a name at one seat or more.
+//! many of them have a name at one seat or more. Names are compared by their bytes, so
+//! only those are asked for that have no character that the finder maps or orders
+//! (document 02, N3).
 
 mod cursor;
 pub mod lines;
@@ -64,13 +66,15 @@ pub(crate) fn put(s: &mut Steps, text: &str, list: &[LinData]) {
     s.go(MISSING);
     for name in names::asked(text, list) {
         s.lend(TEXT2, name.as_bytes());
-        s.set(HAVING, &[having(list, &name) as u32]);
-        s.go(FOUND);
+        match names::places(&name, list) {
+            Some(places) => finder::finds_in(s, having(list, &name), places),
+            None => finder::finds(s, having(list, &name)),
+        }
     }
 }
 
 /// The groups: a case for each text, for each board or for each name.
-pub(crate) const LINES: [&str; 10] = [
+pub(crate) const LINES: [&str; 12] = [
     "counts",
     "headings",
     "boards",
@@ -81,25 +85,16 @@ pub(crate) const LINES: [&str; 10] = [
     "missing",
     "cursor",
     "names",
+    "names exactly",
+    "names a place less",
 ];
-
-/// How many boards have the name, and the block that asks.
-const HAVING: usize = OWN_NUMBER;
-const FOUND: usize = OWN_BLOCK;
 
 /// The blocks of these groups.
 pub(crate) fn define(s: &mut Steps) {
     readers::define(s, Call::FileHeading, Call::FileBoard, 1);
     readers::define_file(s, 0, 7);
     cursor::define(s, 8);
-    s.block(FOUND, |b| {
-        b.call(Call::FindName);
-        b.is(ANSWER, &[0, 0]);
-        b.same(ANSWER + 2, HAVING);
-        b.is(ANSWER + 3, &[0; 5]);
-        b.is(HIGH, &[0; 8]);
-        b.case(9);
-    });
+    finder::define(s, 9);
 }
 
 /// The file `files.bin`: the boards of each text by their numbers and by the
@@ -128,6 +123,21 @@ mod tests {
     fn rows_are_enough() {
         for board in texts().iter().flat_map(|t| boards(t)) {
             assert!(board.auction.len() < 32 && board.play.len() < 64);
+        }
+    }
+
+    /// The places that are lent to spare are enough for every name that is asked for: a
+    /// name of n bytes is mapped to at most n + n/2 characters.
+    #[test]
+    fn places_are_enough() {
+        for text in texts() {
+            let list = boards(&text);
+            let names = list.iter().flat_map(|b| &b.player_names);
+            let longest = names.map(String::len).max().unwrap_or(0);
+            for name in names::asked(&text, &list) {
+                let most = (3 * (name.len() + longest)).div_ceil(2);
+                assert!(most <= finder::TO_SPARE as usize, "{most}");
+            }
         }
     }
 

@@ -11,6 +11,7 @@ pub mod error;
 #[path = "../upstream/src/lin/mod.rs"]
 pub mod lin;
 
+pub mod accents;
 pub mod annotation;
 pub mod appends;
 pub mod boards;

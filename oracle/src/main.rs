@@ -1,8 +1,9 @@
-//! Writes the upstream's answers, and the cases by hand, as vector files:
-//! `oracle SUBJECT DIR`; and the stored runs of linlist: `oracle runs CRATES`.
+//! Writes the upstream's answers, Python's about names with accents, and the cases by hand,
+//! as vector files: `oracle SUBJECT DIR`; and the stored runs of linlist:
+//! `oracle runs CRATES`.
 
 use oracle::{
-    annotation, appends, boards, by_hand, equality, files, listing, pbn, tokens, utf8,
+    accents, annotation, appends, boards, by_hand, equality, files, listing, pbn, tokens, utf8,
     vectors::Vectors, writer,
 };
 use std::{env, fs, io, path::Path, process::ExitCode};
@@ -65,8 +66,14 @@ const SUBJECTS: &[Subject] = &[
         vectors: pbn::vectors,
     },
     Subject {
+        name: "accents",
+        about: "no answers of upstream: names that are the same, by Python's unicodedata",
+        vectors: accents::vectors,
+    },
+    Subject {
         name: "by_hand",
-        about: "no answers of upstream: refusals, places and auctions, by hand from the documents",
+        about:
+            "no answers of upstream: refusals, auctions and the like, by hand from the documents",
         vectors: by_hand::vectors,
     },
 ];
@@ -154,7 +161,7 @@ mod tests {
         let mark = BYTE_ORDER_MARK.encode_utf8(&mut buffer).as_bytes();
         for s in SUBJECTS
             .iter()
-            .filter(|s| !["utf8", "by_hand"].contains(&s.name))
+            .filter(|s| !["utf8", "accents", "by_hand"].contains(&s.name))
         {
             let bytes = (s.vectors)();
             assert!(bytes.bytes().windows(3).all(|w| w != mark), "{}", s.name);

@@ -8,6 +8,7 @@
 use crate::vectors::Vectors;
 
 pub mod expected;
+pub mod finder;
 pub mod lent;
 pub mod memory;
 pub mod readers;
@@ -37,7 +38,7 @@ pub enum Call {
     ParseLin,
     /// The board of a number, with its calls and its play.
     FileBoard,
-    /// How many boards have the second text as a name.
+    /// How many boards have the second text as a name, with work space.
     FindName,
     /// Writes the rows as tokens, and what trails them.
     WriteDocument,
@@ -298,6 +299,43 @@ impl Steps {
 #[cfg(test)]
 mod tests {
     use super::*;
+    use std::{collections::HashMap, fs, path::Path};
+
+    /// The constants of a source below the repository's root, by their names.
+    fn constants(file: &str) -> HashMap<String, String> {
+        let root = Path::new(env!("CARGO_MANIFEST_DIR")).join("..");
+        let source = fs::read_to_string(root.join(file)).unwrap();
+        let parts = |line: &str| {
+            let (name, rest) = line.strip_prefix("pub const ")?.split_once(": ")?;
+            let value = rest.split_once(" = ")?.1.strip_suffix(';')?;
+            Some((name.to_string(), value.to_string()))
+        };
+        source.lines().filter_map(parts).collect()
+    }
+
+    /// The places and sizes that these files go by are those of the program.
+    #[test]
+    fn places_are_the_programs() {
+        let ours = constants("oracle/src/steps/memory.rs");
+        let memory = constants("crates/test_memory/src/memory.rt");
+        let both = ours.iter().filter(|(name, _)| memory.contains_key(*name));
+        let mut n = 0;
+        for (name, value) in both {
+            assert_eq!(value, &memory[name], "{name}");
+            n += 1;
+        }
+        assert!(n >= 24, "{n}");
+        let lent = constants("crates/test_memory/src/lent_parts.rt");
+        for (our, their) in [
+            ("WORD", "WORD"),
+            ("MARK", "MARK"),
+            ("MOST_WORDS", "CALLS"),
+            ("MOST_CARDS", "PLACES"),
+            ("MOST_WORK", "SPACE"),
+        ] {
+            assert_eq!(ours[our], lent[their], "{our}");
+        }
+    }
 
     #[test]
     fn forms_of_steps() {

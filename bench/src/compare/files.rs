@@ -1,16 +1,17 @@
 //! The boards of a file against the expected ones, by number and through the
-//! cursor; their count and the finder; the cursor's step over sections against the
-//! model.
+//! cursor; their count and the finder for their names; the cursor's step over sections
+//! against the model.
 
 use super::{
     boards::{fields_of, lent, refused_heading, refused_in_any},
+    names::{among, name},
     reader::{reads, walk},
     same, Same,
 };
 use crate::{expected, model};
 use lin_host_rust::{
     files::{self, Boards, LinBoards},
-    Refusal, LIMIT,
+    Refusal,
 };
 use oracle::lin::LinData;
 
@@ -99,22 +100,17 @@ fn walked(bytes: &[u8]) -> Same {
     walk(bytes, 1)
 }
 
-/// The finder for the first names of the file, for names beside them and for
-/// one that is no text.
+/// The finder for the first names of the file, for names beside them, for the same
+/// taken apart, and for one that is no text.
 fn names(bytes: &[u8], want: &[LinData]) -> Same {
     let first = want.iter().take(8).flat_map(|b| &b.player_names);
-    let beside = first.flat_map(|n| [n.clone(), format!("{n} "), n.to_uppercase()]);
+    let apart = |n: &str| String::from_iter(model::names::mapped(n));
+    let beside = first.flat_map(|n| [n.clone(), format!("{n} "), n.to_uppercase(), apart(n)]);
     let mut all: Vec<String> = beside.chain(["".to_string()]).collect();
     all.sort();
     all.dedup();
-    for wanted in all {
-        let has = |b: &&LinData| b.player_names.contains(&wanted);
-        let count = want.iter().filter(has).count() as u64;
-        let got = files::find_name(bytes, wanted.as_bytes());
-        same(&format!("boards with {wanted:?}"), got, Ok(count))?;
-    }
-    let got = files::find_name(bytes, b"a\xFF");
-    same("a name that is no text", got, Err(Refusal::NotUtf8(1)))
+    let all = all.iter().map(String::as_bytes);
+    among(bytes, want, all.chain([&b"a\xFF"[..]]))
 }
 
 fn refused(bytes: &[u8], refusal: Refusal) -> Same {
@@ -132,25 +128,6 @@ fn refused(bytes: &[u8], refusal: Refusal) -> Same {
     same("boards", answer.read(), Err(refusal))?;
     same("cursor refused", (at, number, lines), (0, 0, 0))?;
     walked(bytes)
-}
-
-/// The finder over any bytes: refused by 1 and 2, each of the file and then of
-/// the name, or the count of the boards expected.
-pub fn name(bytes: &[u8], name: &[u8]) -> Same {
-    let refused = if bytes.len().max(name.len()) > LIMIT {
-        Err(Refusal::TextTooLong)
-    } else {
-        model::open(bytes).and_then(|_| model::open(name))
-    };
-    let want = match refused {
-        Err(refusal) => Err(refusal),
-        Ok(_) => {
-            let boards = expected::file(&String::from_utf8_lossy(bytes))?;
-            let has = |b: &&LinData| b.player_names.iter().any(|n| n.as_bytes() == name);
-            Ok(boards.iter().filter(has).count() as u64)
-        }
-    };
-    same("finder", files::find_name(bytes, name), want)
 }
 
 /// The board cursor's step from one place, as the model has it; any number but

@@ -26,19 +26,24 @@ impl<T: Copy + PartialEq + Debug> Guarded<T> {
         &mut self.all[GUARD..end]
     }
 
+    /// Whether the guards are as they were, whatever the buffer holds after the call.
+    pub fn kept(&self) -> Same {
+        let end = self.all.len() - GUARD;
+        if self.all[..GUARD] != self.guards[..GUARD] || self.all[end..] != self.guards[GUARD..] {
+            return Err(format!("{}: changed outside of it", self.what));
+        }
+        Ok(())
+    }
+
     /// Whether the buffer holds this after the call, and the guards are as they
     /// were.
     pub fn holds(&self, want: &[T]) -> Same {
-        let (before, rest) = self.all.split_at(GUARD);
-        let (held, after) = rest.split_at(rest.len() - GUARD);
-        let what = self.what;
-        if before != &self.guards[..GUARD] || after != &self.guards[GUARD..] {
-            return Err(format!("{what}: changed outside of it"));
-        }
+        self.kept()?;
+        let held = &self.all[GUARD..self.all.len() - GUARD];
         if held == want {
             return Ok(());
         }
-        same(what, held, want)
+        same(self.what, held, want)
     }
 }
 
@@ -73,6 +78,8 @@ mod tests {
             assert_eq!(buffer.holds(&held(3)), Ok(()));
             buffer.all[place] ^= 1;
             assert!(buffer.holds(&held(3)).is_err(), "{place}");
+            let within = (GUARD..GUARD + 3).contains(&place);
+            assert_eq!(buffer.kept().is_ok(), within, "{place}");
         }
         let mut rows = words("rows", &held_words(2));
         rows.lent()[1] = 7;

@@ -3,7 +3,7 @@
 use super::{Kind, Report};
 use crate::{
     compare::{self, Same},
-    samples::{self, auctions, built, lent, marks, pbn},
+    samples::{self, auctions, built, lent, marks, names, pbn},
 };
 use lin_host_rust::{tokens::Span, writer::Gathered, LIMIT};
 use oracle::{random::Rng, records, texts};
@@ -26,6 +26,7 @@ pub fn round(rng: &mut Rng, report: &mut Report) {
     written(rng, report);
     pair(rng, report);
     reads(rng, report);
+    names(rng, report);
     match rng.below(3) {
         0 => file(rng, report),
         1 => appends(rng, report),
@@ -216,6 +217,26 @@ fn reads(rng: &mut Rng, report: &mut Report) {
     report.add(Kind::Walks, &bytes, outcome, || {
         format!("file {}, lines {lines}", bytes.escape_ascii())
     });
+}
+
+/// Names looked for in a file whose names have accents, most of them there in another
+/// spelling or nearly there; in work space of several lengths, and of any.
+fn names(rng: &mut Rng, report: &mut Report) {
+    let names::Asked { text, names } = names::asked(rng);
+    for name in names {
+        let places = rng.below(40);
+        let outcome =
+            compare::name(&text, &name).and_then(|()| compare::name_in(&text, &name, places));
+        report.add(
+            Kind::Names,
+            &[&text[..], &name].join(&b'|'),
+            outcome,
+            || {
+                let (text, name) = (text.escape_ascii(), name.escape_ascii());
+                format!("name {name} in file {text}, {places} places")
+            },
+        );
+    }
 }
 
 /// A file of some boards, at times with a fault anywhere or near its end or with

@@ -1,11 +1,11 @@
 //! The sweep over every Unicode scalar value, the byte order mark as any other, in
-//! every place that is trimmed or matched.
+//! every place that is trimmed or matched, and in names.
 
 use super::{Kind, Report};
 use crate::{
     compare::{self, Same},
     expected,
-    model::MARK,
+    model::{names::mapped, MARK},
 };
 use lin_host_rust::{files, pbn::NoteWords, tokens::Span};
 
@@ -59,12 +59,35 @@ fn each(report: &mut Report, what: &str, texts: &[String], compared: fn(&str) ->
     }
 }
 
-/// A character in every place that is trimmed or matched.
+/// A character in every place that is trimmed or matched, and in names.
 fn one(c: char, report: &mut Report) {
     each(report, "board", &board_texts(c), board);
     each(report, "file", &file_texts(c), file);
     each(report, "bid", &bid_texts(c), bid);
     each(report, "annotation", &annotation_texts(c), annotation);
+    let (text, sought) = names(c);
+    let outcome = compare::names(text.as_bytes(), &sought.each_ref().map(|n| n.as_bytes()));
+    report.add(Kind::Scalars, text.as_bytes(), outcome, || {
+        format!("file {text:?}")
+    });
+}
+
+/// A file whose boards have the character as a name, as it is and mapped, after a letter
+/// and among marks; and such names to look for. A character of class 0 ends a run of
+/// marks.
+fn names(c: char) -> (String, [String; 4]) {
+    let apart = String::from_iter(mapped(&c.to_string()));
+    let marked = [
+        format!("e\u{301}{c}\u{323}"),
+        format!("e\u{323}{apart}\u{301}"),
+    ];
+    let names = [format!("{c},a{c}"), format!("{apart},a{apart}")];
+    let boards = names.iter().chain(&marked);
+    let text = boards
+        .map(|names| format!("qx||pn|{names}|md|1|"))
+        .collect();
+    let [one, other] = marked;
+    (text, [c.to_string(), apart, one, other])
 }
 
 /// Around commands and values, for each letter and digit that is looked for, and

@@ -4,7 +4,10 @@ use super::{
     scalars::{annotation, board, file},
     Kind, Report,
 };
-use crate::compare::{self, Same};
+use crate::{
+    compare::{self, Same},
+    model::names::{canonical, mapped},
+};
 
 /// Letters, the longest word of them, what stands before and after a word, and
 /// how it is compared.
@@ -91,6 +94,14 @@ const LETTERS: &[Letters] = &[
         compared: bid_alone,
     },
     Letters {
+        letters: &[
+            "e", "é", "\u{1EB9}", "\u{300}", "\u{301}", "\u{323}", "\u{31B}", "\u{34F}", "\u{59A}",
+        ],
+        longest: 4,
+        around: ["", ""],
+        compared: spelled,
+    },
+    Letters {
         letters: &["\u{FEFF}", "|", "a", "\n"],
         longest: 6,
         around: ["", ""],
@@ -167,6 +178,19 @@ fn auction(text: &str) -> Same {
 /// A word as the one bid of an auction, and after a pass.
 fn bid_alone(bid: &str) -> Same {
     compare::bids(&[bid]).and_then(|()| compare::bids(&["p", bid]))
+}
+
+/// A word as a name among those of the same letters: mapped, ordered, from the last to
+/// the first, and with the last two exchanged.
+fn spelled(word: &str) -> Same {
+    let mut exchanged: Vec<char> = word.chars().collect();
+    let last = exchanged.len();
+    exchanged[last.saturating_sub(2)..].reverse();
+    let apart = [mapped(word), canonical(word), exchanged].map(String::from_iter);
+    let back: String = word.chars().rev().collect();
+    let all = [word, &apart[0], &apart[1], &apart[2], &back];
+    let text: String = all.map(|name| format!("pn|{name}|\n")).concat();
+    compare::names(text.as_bytes(), &all.map(str::as_bytes))
 }
 
 fn whole_file(text: &str) -> Same {

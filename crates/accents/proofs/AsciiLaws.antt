@@ -1,5 +1,5 @@
 -- Texts of UTF-8 are told by their characters, and a name of ASCII is the same as no other: so it is compared by its bytes. (02: N3) Assumes nothing.
-use Prim.Native.Nat.{ℕ, _<_}
+use Prim.Native.Nat.{ℕ, zero, suc, _<_}
 use native.Mathlib.Omega.{arith}
 use mathlib.Core.Path.{_≡_, refl, ap, sym, subst, _∙_}
 use mathlib.Core.Bool.{Bool, true, false, _&&_, _||_}
@@ -10,12 +10,12 @@ use Rattle.lin_spec.specs.Base.{All, all}
 use Rattle.lin_spec.specs.Utf8.{utf8, encodeAll, scalar}
 use Rattle.lin_spec.proofs.Base.{and-right, picked}
 use Rattle.lin_spec.proofs.Utf8.{decoded}
-use Rattle.accents.specs.Table.{Mapping, table}
+use Rattle.accents.specs.Table.{Mapping, mappingTable}
 use Rattle.accents.specs.Table.Mapping.{one, two}
 use Rattle.accents.specs.Mapping.{given, lookup, mapOnce, mapTimes, mapped}
-use Rattle.accents.specs.Ordering.{lower, insert, order, Fits, InOrder, canonical}
+use Rattle.accents.specs.Ordering.{goesBefore, insert, order, FitsBefore, InOrder, canonical}
 use Rattle.accents.specs.Chars.{charsAfter, chars}
-use Rattle.accents.proofs.MappingLaws.{at-each, lookup-cases}
+use Rattle.accents.proofs.MappingLaws.{at-each, lookup-cases, fixed-times}
 use Rattle.accents.proofs.OrderingLaws.{lower-not, ordered-stays}
 use Rattle.accents.proofs.ClassLaws.{class-below}
 use Rattle.accents.proofs.LineLaws.{below-lines}
@@ -60,7 +60,7 @@ unfolding mapOnce
 small-once [] h = refl
 small-once (c ∷ s) h = let l : c < 0xC0 = omega (arith, h .0) in simp (sym (below-lines c l), small-once s (h .1))
 
-small-fits : (c : ℕ) (t : List ℕ) → Small c → Fits c t
+small-fits : (c : ℕ) (t : List ℕ) → Small c → FitsBefore c t
 small-fits c [] h = tt
 small-fits c (d ∷ t) h = lower-not c d (omega (arith, class-below c (omega arith)))
 
@@ -70,16 +70,16 @@ small-ordered (c ∷ s) h = (small-fits c s (h .0), small-ordered s (h .1))
 
 -- a text of ASCII stays, mapped and ordered
 pub small-mapped : (s : List ℕ) → All Small s → mapped s ≡ s
-unfolding mapped mapTimes
-small-mapped s h = ap mapOnce (small-once s h) ∙ small-once s h
+unfolding mapped
+small-mapped s h = fixed-times _ s (small-once s h)
 
 pub small-stays : (s : List ℕ) → All Small s → canonical s ≡ s
 unfolding canonical
 small-stays s h = ap order (small-mapped s h) ∙ ordered-stays s (small-ordered s h)
 
 -- the last that a line gives is not of ASCII, by one test of the table
-table-past : all (λ (m : Mapping). leb 0x80 (lastOf m)) table ≡ true
-unfolding table all lastOf
+table-past : all (λ (m : Mapping). leb 0x80 (lastOf m)) mappingTable ≡ true
+unfolding mappingTable all lastOf
 table-past = refl
 
 line-past : (c : ℕ) (m : Mapping) → leb 0x80 (lastOf m) ≡ true → All Small (given m) → Small c
@@ -92,10 +92,10 @@ lines-past c [] h = tt
 lines-past c (m ∷ t) h = (line-past c m (h .0), lines-past c t (h .1))
 
 -- what is mapped to ASCII is ASCII
-small-before : (c : ℕ) → All Small (lookup table c) → Small c
+small-before : (c : ℕ) → All Small (lookup mappingTable c) → Small c
 small-before c =
-    lookup-cases (λ (s : List ℕ). All Small s → Small c) c table (λ _ h. h .0)
-    (lines-past c table (at-each (λ (m : Mapping). leb 0x80 (lastOf m)) table table-past))
+    lookup-cases (λ (s : List ℕ). All Small s → Small c) c mappingTable (λ _ h. h .0)
+    (lines-past c mappingTable (at-each (λ (m : Mapping). leb 0x80 (lastOf m)) mappingTable table-past))
 
 all-left : (x y : List ℕ) → All Small (x ++ y) → All Small x
 all-left [] y h = tt
@@ -108,13 +108,18 @@ all-right (c ∷ x) y h = all-right x y (h .1)
 once-before : (s : List ℕ) → All Small (mapOnce s) → All Small s
 unfolding mapOnce
 once-before [] h = tt
-once-before (c ∷ s) h = (small-before c (all-left (lookup table c) (mapOnce s) h), once-before s (all-right (lookup table c) (mapOnce s) h))
+once-before (c ∷ s) h = (small-before c (all-left (lookup mappingTable c) (mapOnce s) h), once-before s (all-right (lookup mappingTable c) (mapOnce s) h))
+
+times-before : (n : ℕ) (s : List ℕ) → All Small (mapTimes n s) → All Small s
+unfolding mapTimes
+times-before zero s h = h
+times-before (suc n) s h = once-before s (times-before n (mapOnce s) h)
 
 insert-before : (c : ℕ) (t : List ℕ) → All Small (insert c t) → Small c × All Small t
 unfolding insert
 insert-before c [] h = (h .0, tt)
 insert-before c (d ∷ t) h =
-    picked (λ (s : List ℕ). All Small s → Small c × All Small (d ∷ t)) (lower c d)
+    picked (λ (s : List ℕ). All Small s → Small c × All Small (d ∷ t)) (goesBefore c d)
     (λ _ k. let r = insert-before c t (k .1) in (r .0, (k .0, r .1)))
     (λ _ k. (k .0, k .1))
     h
@@ -126,10 +131,10 @@ order-before (c ∷ s) h = let r = insert-before c (order s) h in (r .0, order-b
 
 -- a text of ASCII has no other text's form
 pub small-alone : (x y : List ℕ) → All Small x → canonical y ≡ canonical x → y ≡ x
-unfolding canonical mapped mapTimes
+unfolding canonical mapped
 small-alone x y h e =
     let f : canonical y ≡ x = e ∙ small-stays x h in
-    let k : All Small y = once-before y (once-before (mapOnce y) (order-before (mapped y) (subst (All Small) (sym f) h))) in
+    let k : All Small y = times-before _ y (order-before (mapped y) (subst (All Small) (sym f) h)) in
     sym (small-stays y k) ∙ f
 
 -- a name of ASCII is the same as a name of UTF-8 exactly when the bytes are the same

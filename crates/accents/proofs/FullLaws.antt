@@ -8,16 +8,16 @@ use lib.ListN.{length, drop, length-append, length-take, drop-of-length-le}
 use borrow.Author.Tests.{not-true}
 use Rattle.lin_spec.specs.Base.{All, all, any}
 use Rattle.lin_spec.proofs.Base.{every}
-use Rattle.accents.specs.Table.{Mapping, table}
+use Rattle.accents.specs.Table.{Mapping, mappingTable}
 use Rattle.accents.specs.Table.Mapping.{one, two}
-use Rattle.accents.specs.Mapping.{given, lookup, has, mapOnce, mapTimes, mapped}
+use Rattle.accents.specs.Mapping.{given, lookup, applies, mapOnce, mapTimes, mapped}
 use Rattle.accents.specs.Lines.{EndsPlain, answered, FullIs}
 use Rattle.accents.specs.Chars.{charsAfter, chars, CharAt}
 use Rattle.accents.specs.Names.{places}
 use Rattle.accents.specs.declared.full.Full.{Full}
 use Rattle.accents.specs.declared.lookup.Mapped.{Mapped}
 use Rattle.accents.specs.declared.lookup.Mapped.the-variants.{Itself, One, Two}
-use Rattle.accents.proofs.MappingLaws.{at-each, lookup-cases, lookup-plain, mapped-append}
+use Rattle.accents.proofs.MappingLaws.{at-each, lookup-cases, lookup-plain, char-ends, until-none, mapped-append}
 
 -- the last that a line gives
 unfoldable pub lastOf : Mapping → ℕ
@@ -25,76 +25,78 @@ lastOf (one c a) = a
 lastOf (two c a b) = b
 
 -- no mapping applies to the last that a line gives, by one test of the table
-table-last : all (λ (m : Mapping). not (has table (lastOf m))) table ≡ true
-unfolding table all has any lastOf
+table-last : all (λ (m : Mapping). not (applies mappingTable (lastOf m))) mappingTable ≡ true
+unfolding mappingTable all applies any lastOf
 table-last = refl
 
-ends-plain : (m : Mapping) → has table (lastOf m) ≡ false → EndsPlain (given m)
+ends-plain : (m : Mapping) → applies mappingTable (lastOf m) ≡ false → EndsPlain (given m)
 unfolding lastOf
 ends-plain (one c a) h = h
 ends-plain (two c a b) h = h
 
-lines-end : (t : List Mapping) → All (λ (m : Mapping). not (has table (lastOf m)) ≡ true) t → All (λ (m : Mapping). EndsPlain (given m)) t
+lines-end : (t : List Mapping) → All (λ (m : Mapping). not (applies mappingTable (lastOf m)) ≡ true) t → All (λ (m : Mapping). EndsPlain (given m)) t
 lines-end [] h = tt
-lines-end (m ∷ t) h = (ends-plain m (not-true (has table (lastOf m)) (h .0)), lines-end t (h .1))
+lines-end (m ∷ t) h = (ends-plain m (not-true (applies mappingTable (lastOf m)) (h .0)), lines-end t (h .1))
 
 -- nor to the last that any character is mapped to
-last-plain : (c : ℕ) → EndsPlain (lookup table c)
-last-plain c = lookup-cases EndsPlain c table (λ h. h) (lines-end table (at-each (λ (m : Mapping). not (has table (lastOf m))) table table-last))
+last-plain : (c : ℕ) → EndsPlain (lookup mappingTable c)
+last-plain c = lookup-cases EndsPlain c mappingTable (λ h. h) (lines-end mappingTable (at-each (λ (m : Mapping). not (applies mappingTable (lastOf m))) mappingTable table-last))
 
-mapped-one : (c : ℕ) → mapped (c ∷ []) ≡ mapOnce (lookup table c)
-unfolding mapped mapTimes mapOnce
-mapped-one c = ap mapOnce (append-nil (lookup table c))
+mapped-one : (c : ℕ) → mapped (c ∷ []) ≡ mapOnce (lookup mappingTable c)
+unfolding mapTimes mapOnce
+mapped-one c =
+    let e : mapTimes 2 (c ∷ []) ≡ mapOnce (lookup mappingTable c) = ap mapOnce (append-nil (lookup mappingTable c)) in
+    sym (until-none 2 (c ∷ []) (rw e (char-ends c))) ∙ e
 
 -- the last stays, and what stands before it is mapped
-once-last : (a : ℕ) → has table a ≡ false → mapOnce (a ∷ []) ≡ a ∷ []
+once-last : (a : ℕ) → applies mappingTable a ≡ false → mapOnce (a ∷ []) ≡ a ∷ []
 unfolding mapOnce
-once-last a h = append-nil (lookup table a) ∙ lookup-plain a table h
+once-last a h = append-nil (lookup mappingTable a) ∙ lookup-plain a mappingTable h
 
-once-two : (a b : ℕ) → has table b ≡ false → mapOnce (a ∷ b ∷ []) ≡ lookup table a ++ b ∷ []
+once-two : (a b : ℕ) → applies mappingTable b ≡ false → mapOnce (a ∷ b ∷ []) ≡ lookup mappingTable a ++ b ∷ []
 unfolding mapOnce
-once-two a b h = ap (λ (l : List ℕ). lookup table a ++ l) (once-last b h)
+once-two a b h = ap (λ (l : List ℕ). lookup mappingTable a ++ l) (once-last b h)
 
 -- a character is mapped to three at the most
 line-two : (m : Mapping) → length (given m) ≤ 2
 line-two (one c a) = omega arith
 line-two (two c a b) = omega arith
 
-lookup-two : (c : ℕ) → length (lookup table c) ≤ 2
-lookup-two c = lookup-cases (λ (s : List ℕ). length s ≤ 2) c table (λ _. omega arith) (every (λ (m : Mapping). length (given m) ≤ 2) line-two table)
+lookup-two : (c : ℕ) → length (lookup mappingTable c) ≤ 2
+lookup-two c = lookup-cases (λ (s : List ℕ). length s ≤ 2) c mappingTable (λ _. omega arith) (every (λ (m : Mapping). length (given m) ≤ 2) line-two mappingTable)
 
 once-three : (s : List ℕ) → length s ≤ 2 → EndsPlain s → length (mapOnce s) ≤ 3
 unfolding mapOnce
 once-three [] h p = omega arith
 once-three (a ∷ []) h p = rw (once-last a p) (omega arith)
-once-three (a ∷ b ∷ []) h p = rw (once-two a b p, length-append (lookup table a) (b ∷ [])) (omega (arith, lookup-two a))
+once-three (a ∷ b ∷ []) h p = rw (once-two a b p, length-append (lookup mappingTable a) (b ∷ [])) (omega (arith, lookup-two a))
 once-three (a ∷ b ∷ d ∷ s) h p = absurd (omega arith)
 
 pub mapped-three : (c : ℕ) → length (mapped (c ∷ [])) ≤ 3
-mapped-three c = rw (mapped-one c) (once-three (lookup table c) (lookup-two c) (last-plain c))
+mapped-three c = rw (mapped-one c) (once-three (lookup mappingTable c) (lookup-two c) (last-plain c))
 
 -- what an answer says
-known : (c : ℕ) (r v : Mapped) → answered c r ≡ lookup table c → r ≡ v → lookup table c ≡ answered c v
+known : (c : ℕ) (r v : Mapped) → answered c r ≡ lookup mappingTable c → r ≡ v → lookup mappingTable c ≡ answered c v
 known c r v e f = sym e ∙ ap (answered c) f
 
-module _ (c : ℕ) (r : Mapped) (e : answered c r ≡ lookup table c) where
+module _ (c : ℕ) (r : Mapped) (e : answered c r ≡ lookup mappingTable c) where
   pub full-itself : r ≡ Itself → FullIs c (record { count = 1; first = c; second = 0; third = 0 })
   unfolding mapOnce
   full-itself f =
       let l = known c r Itself e f in
-      record { are = sym (mapped-one c ∙ ap mapOnce l ∙ append-nil (lookup table c) ∙ l); some = omega arith; few = omega arith }
+      record { are = sym (mapped-one c ∙ ap mapOnce l ∙ append-nil (lookup mappingTable c) ∙ l); some = omega arith; few = omega arith }
 
   pub full-one : (a : ℕ) → r ≡ One a → FullIs c (record { count = 1; first = a; second = 0; third = 0 })
   full-one a f =
       let l = known c r (One a) e f in
-      let p : has table a ≡ false = subst EndsPlain l (last-plain c) in
+      let p : applies mappingTable a ≡ false = subst EndsPlain l (last-plain c) in
       record { are = sym (mapped-one c ∙ ap mapOnce l ∙ once-last a p); some = omega arith; few = omega arith }
 
-  module _ (a b : ℕ) (f : r ≡ Two a b) (q : Mapped) (d : answered a q ≡ lookup table a) where
-    over : mapped (c ∷ []) ≡ lookup table a ++ b ∷ []
+  module _ (a b : ℕ) (f : r ≡ Two a b) (q : Mapped) (d : answered a q ≡ lookup mappingTable a) where
+    over : mapped (c ∷ []) ≡ lookup mappingTable a ++ b ∷ []
     over =
         let l = known c r (Two a b) e f in
-        let p : has table b ≡ false = subst EndsPlain l (last-plain c) in
+        let p : applies mappingTable b ≡ false = subst EndsPlain l (last-plain c) in
         mapped-one c ∙ ap mapOnce l ∙ once-two a b p
 
     further : (v : Mapped) → q ≡ v → answered a v ++ b ∷ [] ≡ mapped (c ∷ [])

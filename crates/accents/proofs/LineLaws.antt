@@ -10,15 +10,15 @@ use lib.ListN.{length, getD}
 use borrow.Author.Tests.{eq-eqb, ne-eqb, ltb-true, lt-ltb, le-ltb, lt-leb}
 use Rattle.lin_spec.specs.Base.{pick, All, all, eqAll, eqList}
 use Rattle.lin_spec.proofs.Base.{and-left, and-right, picked, split, eq-list}
-use Rattle.accents.specs.Table.{Mapping, table}
+use Rattle.accents.specs.Table.{Mapping, mappingTable}
 use Rattle.accents.specs.Mapping.{charOf, given, lookup, rising}
-use Rattle.accents.specs.Lines.{firstOf, secondOf, word, words, near, line, place}
+use Rattle.accents.specs.Lines.{firstGiven, secondGiven, lineWord, tableWords, near, mappingAt, linesBelow}
 use Rattle.accents.proofs.MappingLaws.{table-rises, at-each}
 
 -- The number of a line
 
-word-is : (t : List Mapping) (i : ℕ) → i < length t → getD (words t) i 0 ≡ word (line t i)
-unfolding words
+word-is : (t : List Mapping) (i : ℕ) → i < length t → getD (tableWords t) i 0 ≡ lineWord (mappingAt t i)
+unfolding tableWords
 word-is [] i h = absurd (not-suc-le-zero h)
 word-is (m ∷ t) zero h = refl
 word-is (m ∷ t) (suc i) h = word-is t i (le-of-suc-le-suc h)
@@ -35,14 +35,14 @@ second-part c a b k = omega arith
 
 -- The place of a character
 
-pub place-most : (t : List Mapping) (c : ℕ) → place t c ≤ length t
-unfolding place
+pub place-most : (t : List Mapping) (c : ℕ) → linesBelow t c ≤ length t
+unfolding linesBelow
 place-most [] c = omega arith
 place-most (m ∷ t) c = picked (λ (n : ℕ). n ≤ suc (length t)) (ltb (charOf m) c) (λ _. omega (arith, place-most t c)) (λ _. omega arith)
 
 -- a line that is not for a character below c is not before the place
-place-before : (t : List Mapping) (c i : ℕ) → i < length t → c ≤ charOf (line t i) → place t c ≤ i
-unfolding place
+place-before : (t : List Mapping) (c i : ℕ) → i < length t → c ≤ charOf (mappingAt t i) → linesBelow t c ≤ i
+unfolding linesBelow
 place-before [] c i h k = absurd (not-suc-le-zero h)
 place-before (m ∷ t) c zero h k = simp (le-ltb (charOf m) c k) (omega arith)
 place-before (m ∷ t) c (suc i) h k = picked (λ (n : ℕ). n ≤ suc i) (ltb (charOf m) c) (λ _. omega (arith, place-before t c i (le-of-suc-le-suc h) k)) (λ _. omega arith)
@@ -57,20 +57,20 @@ rises-first : (m n : Mapping) (t : List Mapping) → rising (m ∷ n ∷ t) ≡ 
 unfolding rising
 rises-first m n t h = ltb-true (charOf m) (charOf n) (and-left (ltb (charOf m) (charOf n)) (rising (n ∷ t)) h)
 
-rises-at : (m : Mapping) (t : List Mapping) (i : ℕ) → rising (m ∷ t) ≡ true → i < length t → charOf m < charOf (line t i)
+rises-at : (m : Mapping) (t : List Mapping) (i : ℕ) → rising (m ∷ t) ≡ true → i < length t → charOf m < charOf (mappingAt t i)
 rises-at m [] i h k = absurd (not-suc-le-zero k)
 rises-at m (n ∷ t) zero h k = rises-first m n t h
 rises-at m (n ∷ t) (suc i) h k = omega (arith, rises-first m n t h, rises-at n t i (rises-rest m (n ∷ t) h) (le-of-suc-le-suc k))
 
-rises-two : (t : List Mapping) (i j : ℕ) → rising t ≡ true → i < j → j < length t → charOf (line t i) < charOf (line t j)
+pub rises-two : (t : List Mapping) (i j : ℕ) → rising t ≡ true → i < j → j < length t → charOf (mappingAt t i) < charOf (mappingAt t j)
 rises-two [] i j r l h = absurd (not-suc-le-zero h)
 rises-two (m ∷ t) i zero r l h = absurd (not-suc-le-zero l)
 rises-two (m ∷ t) zero (suc j) r l h = rises-at m t j r (le-of-suc-le-suc h)
 rises-two (m ∷ t) (suc i) (suc j) r l h = rises-two t i j (rises-rest m t r) (le-of-suc-le-suc l) (le-of-suc-le-suc h)
 
 -- a line for a character below c is before the place
-place-after : (t : List Mapping) (c i : ℕ) → rising t ≡ true → i < length t → charOf (line t i) < c → i < place t c
-unfolding place
+place-after : (t : List Mapping) (c i : ℕ) → rising t ≡ true → i < length t → charOf (mappingAt t i) < c → i < linesBelow t c
+unfolding linesBelow
 place-after [] c i r h k = absurd (not-suc-le-zero h)
 place-after (m ∷ t) c zero r h k = simp (lt-ltb (charOf m) c k) (omega arith)
 place-after (m ∷ t) c (suc i) r h k =
@@ -81,13 +81,13 @@ place-after (m ∷ t) c (suc i) r h k =
 -- What the place says
 
 -- the line there is for c
-lookup-there : (t : List Mapping) (c i : ℕ) → i ≡ place t c → i < length t → charOf (line t i) ≡ c → lookup t c ≡ given (line t i)
-unfolding place lookup
+lookup-there : (t : List Mapping) (c i : ℕ) → i ≡ linesBelow t c → i < length t → charOf (mappingAt t i) ≡ c → lookup t c ≡ given (mappingAt t i)
+unfolding linesBelow lookup
 lookup-there [] c i e h k = absurd (not-suc-le-zero h)
 lookup-there (m ∷ t) c zero e h k = simp (eq-eqb (charOf m) c k)
 lookup-there (m ∷ t) c (suc i) e h k = go (ltb (charOf m) c) refl e (λ f. lookup-there t c i f (le-of-suc-le-suc h) k)
   where
-    go : (b : Bool) → ltb (charOf m) c ≡ b → suc i ≡ pick b (suc (place t c)) 0 → (i ≡ place t c → lookup t c ≡ given (line t i)) → pick (eqb (charOf m) c) (given m) (lookup t c) ≡ given (line t i)
+    go : (b : Bool) → ltb (charOf m) c ≡ b → suc i ≡ pick b (suc (linesBelow t c)) 0 → (i ≡ linesBelow t c → lookup t c ≡ given (mappingAt t i)) → pick (eqb (charOf m) c) (given m) (lookup t c) ≡ given (mappingAt t i)
     go true f e ih =
         let l = ltb-true (charOf m) c f in
         let n : charOf m ≡ c → ⊥ = λ d. omega arith in
@@ -95,113 +95,113 @@ lookup-there (m ∷ t) c (suc i) e h k = go (ltb (charOf m) c) refl e (λ f. loo
     go false f e ih = absurd (omega arith)
 
 -- no line is for c
-lookup-none : (t : List Mapping) (c : ℕ) → ((i : ℕ) → i < length t → charOf (line t i) ≡ c → ⊥) → lookup t c ≡ c ∷ []
+lookup-none : (t : List Mapping) (c : ℕ) → ((i : ℕ) → i < length t → charOf (mappingAt t i) ≡ c → ⊥) → lookup t c ≡ c ∷ []
 unfolding lookup
 lookup-none [] c h = refl
 lookup-none (m ∷ t) c h = simp (ne-eqb (charOf m) c (h 0 (omega arith)), lookup-none t c (λ i k. h (suc i) (omega arith)))
 
 -- The table
 
-pub lines : length table ≡ 501
-unfolding table
+pub lines : length mappingTable ≡ 501
+unfolding mappingTable
 lines = refl
 
 -- the numbers of a line are those that it gives: no second is 0 where there are two
 fits-given : Mapping → Bool
-fits-given m = eqList (given m) (pick (eqb (secondOf m) 0) (firstOf m ∷ []) (firstOf m ∷ secondOf m ∷ []))
+fits-given m = eqList (given m) (pick (eqb (secondGiven m) 0) (firstGiven m ∷ []) (firstGiven m ∷ secondGiven m ∷ []))
 
-table-given : all fits-given table ≡ true
-unfolding table all fits-given eqAll
+table-given : all fits-given mappingTable ≡ true
+unfolding mappingTable all fits-given eqAll
 table-given = refl
 
 -- the lines are for characters of their runs, by one test of the table
-table-near : all (λ (m : Mapping). near (charOf m)) table ≡ true
-unfolding table all near
+table-near : all (λ (m : Mapping). near (charOf m)) mappingTable ≡ true
+unfolding mappingTable all near
 table-near = refl
 
 -- what a line gives fits 16 bits
 narrow : Mapping → Bool
-narrow m = ltb (firstOf m) 65536 && ltb (secondOf m) 65536
+narrow m = ltb (firstGiven m) 65536 && ltb (secondGiven m) 65536
 
-table-narrow : all narrow table ≡ true
-unfolding table all narrow
+table-narrow : all narrow mappingTable ≡ true
+unfolding mappingTable all narrow
 table-narrow = refl
 
 -- what holds of each line holds of the line of a number
-line-of : (P : Mapping → Type 0) (t : List Mapping) → All P t → (i : ℕ) → i < length t → P (line t i)
+line-of : (P : Mapping → Type 0) (t : List Mapping) → All P t → (i : ℕ) → i < length t → P (mappingAt t i)
 line-of P [] h i k = absurd (not-suc-le-zero k)
 line-of P (m ∷ t) h zero k = h .0
 line-of P (m ∷ t) h (suc i) k = line-of P t (h .1) i (le-of-suc-le-suc k)
 
 -- Steps of the code, over the numbers w of the table
 
-pub place-within : (c : ℕ) → place table c ≤ 501
-place-within c = omega (arith, place-most table c, lines)
+pub place-within : (c : ℕ) → linesBelow mappingTable c ≤ 501
+place-within c = omega (arith, place-most mappingTable c, lines)
 
-module _ (w : List ℕ) (e : w ≡ words table) (c i x : ℕ) (d : x ≡ getD w i 0 / 4294967296) (h : i < 501) where
-  within : i < length table
+module _ (w : List ℕ) (e : w ≡ tableWords mappingTable) (c i x : ℕ) (d : x ≡ getD w i 0 / 4294967296) (h : i < 501) where
+  within : i < length mappingTable
   within = omega (arith, lines)
 
-  there : getD w i 0 ≡ word (line table i)
-  there = ap (λ (l : List ℕ). getD l i 0) e ∙ word-is table i within
+  there : getD w i 0 ≡ lineWord (mappingAt mappingTable i)
+  there = ap (λ (l : List ℕ). getD l i 0) e ∙ word-is mappingTable i within
 
-  fits : (firstOf (line table i) < 65536) × (secondOf (line table i) < 65536)
+  fits : (firstGiven (mappingAt mappingTable i) < 65536) × (secondGiven (mappingAt mappingTable i) < 65536)
   unfolding narrow
   fits =
-      let n = line-of (λ (m : Mapping). narrow m ≡ true) table (at-each narrow table table-narrow) i within in
-      (ltb-true (firstOf (line table i)) 65536 (and-left (ltb (firstOf (line table i)) 65536) (ltb (secondOf (line table i)) 65536) n), ltb-true (secondOf (line table i)) 65536 (and-right (ltb (firstOf (line table i)) 65536) (ltb (secondOf (line table i)) 65536) n))
+      let n = line-of (λ (m : Mapping). narrow m ≡ true) mappingTable (at-each narrow mappingTable table-narrow) i within in
+      (ltb-true (firstGiven (mappingAt mappingTable i)) 65536 (and-left (ltb (firstGiven (mappingAt mappingTable i)) 65536) (ltb (secondGiven (mappingAt mappingTable i)) 65536) n), ltb-true (secondGiven (mappingAt mappingTable i)) 65536 (and-right (ltb (firstGiven (mappingAt mappingTable i)) 65536) (ltb (secondGiven (mappingAt mappingTable i)) 65536) n))
 
-  char-is : x ≡ charOf (line table i)
-  char-is = d ∙ ap (λ (v : ℕ). v / 4294967296) there ∙ char-part (charOf (line table i)) (firstOf (line table i)) (secondOf (line table i)) (fits .0) (fits .1)
+  char-is : x ≡ charOf (mappingAt mappingTable i)
+  char-is = d ∙ ap (λ (v : ℕ). v / 4294967296) there ∙ char-part (charOf (mappingAt mappingTable i)) (firstGiven (mappingAt mappingTable i)) (secondGiven (mappingAt mappingTable i)) (fits .0) (fits .1)
 
-  pub go-up : x < c → i + 1 ≤ place table c
-  go-up l = omega (arith, place-after table c i table-rises within (omega (arith, char-is)))
+  pub go-up : x < c → i + 1 ≤ linesBelow mappingTable c
+  go-up l = omega (arith, place-after mappingTable c i table-rises within (omega (arith, char-is)))
 
-  pub go-down : c ≤ x → place table c ≤ i
-  go-down l = place-before table c i within (omega (arith, char-is))
+  pub go-down : c ≤ x → linesBelow mappingTable c ≤ i
+  go-down l = place-before mappingTable c i within (omega (arith, char-is))
 
   -- the line at the place is for another character: none is for c
-  pub other-there : i ≡ place table c → (x ≡ c → ⊥) → c ∷ [] ≡ lookup table c
-  other-there p n = sym (lookup-none table c none)
+  pub other-there : i ≡ linesBelow mappingTable c → (x ≡ c → ⊥) → c ∷ [] ≡ lookup mappingTable c
+  other-there p n = sym (lookup-none mappingTable c none)
     where
-      none : (j : ℕ) → j < length table → charOf (line table j) ≡ c → ⊥
+      none : (j : ℕ) → j < length mappingTable → charOf (mappingAt mappingTable j) ≡ c → ⊥
       none j k f =
-          split j i (λ l. omega (arith, place-before table c j k (omega arith)))
+          split j i (λ l. omega (arith, place-before mappingTable c j k (omega arith)))
           (λ g.
-          split i j (λ l. omega (arith, place-after table c i table-rises within (omega (arith, rises-two table i j table-rises l k))))
+          split i j (λ l. omega (arith, place-after mappingTable c i table-rises within (omega (arith, rises-two mappingTable i j table-rises l k))))
           (λ l.
           let b : j ≡ i = omega arith in
-          n (char-is ∙ ap (λ (r : ℕ). charOf (line table r)) (sym b) ∙ f)))
+          n (char-is ∙ ap (λ (r : ℕ). charOf (mappingAt mappingTable r)) (sym b) ∙ f)))
 
   -- it is for c
-  module _ (p : i ≡ place table c) (f : x ≡ c) (a b : ℕ) (u : a ≡ getD w i 0 / 65536 % 65536) (v : b ≡ getD w i 0 % 65536) where
-    found : pick (eqb b 0) (a ∷ []) (a ∷ b ∷ []) ≡ lookup table c
+  module _ (p : i ≡ linesBelow mappingTable c) (f : x ≡ c) (a b : ℕ) (u : a ≡ getD w i 0 / 65536 % 65536) (v : b ≡ getD w i 0 % 65536) where
+    found : pick (eqb b 0) (a ∷ []) (a ∷ b ∷ []) ≡ lookup mappingTable c
     unfolding fits-given
     found =
-        let y : a ≡ firstOf (line table i) = u ∙ ap (λ (n : ℕ). n / 65536 % 65536) there ∙ first-part (charOf (line table i)) (firstOf (line table i)) (secondOf (line table i)) (fits .0) (fits .1) in
-        let z : b ≡ secondOf (line table i) = v ∙ ap (λ (n : ℕ). n % 65536) there ∙ second-part (charOf (line table i)) (firstOf (line table i)) (secondOf (line table i)) (fits .1) in
-        let g = eq-list _ _ (line-of (λ (m : Mapping). fits-given m ≡ true) table (at-each fits-given table table-given) i within) in
-        rw (y, z) (sym g ∙ sym (lookup-there table c i p within (sym char-is ∙ f)))
+        let y : a ≡ firstGiven (mappingAt mappingTable i) = u ∙ ap (λ (n : ℕ). n / 65536 % 65536) there ∙ first-part (charOf (mappingAt mappingTable i)) (firstGiven (mappingAt mappingTable i)) (secondGiven (mappingAt mappingTable i)) (fits .0) (fits .1) in
+        let z : b ≡ secondGiven (mappingAt mappingTable i) = v ∙ ap (λ (n : ℕ). n % 65536) there ∙ second-part (charOf (mappingAt mappingTable i)) (firstGiven (mappingAt mappingTable i)) (secondGiven (mappingAt mappingTable i)) (fits .1) in
+        let g = eq-list _ _ (line-of (λ (m : Mapping). fits-given m ≡ true) mappingTable (at-each fits-given mappingTable table-given) i within) in
+        rw (y, z) (sym g ∙ sym (lookup-there mappingTable c i p within (sym char-is ∙ f)))
 
-    pub one-there : b ≡ 0 → a ∷ [] ≡ lookup table c
+    pub one-there : b ≡ 0 → a ∷ [] ≡ lookup mappingTable c
     one-there q = sym (simp (eq-eqb b 0 q)) ∙ found
 
-    pub two-there : (b ≡ 0 → ⊥) → a ∷ b ∷ [] ≡ lookup table c
+    pub two-there : (b ≡ 0 → ⊥) → a ∷ b ∷ [] ≡ lookup mappingTable c
     two-there q = sym (simp (ne-eqb b 0 q)) ∙ found
 
 -- past the last line none is for c
-pub past-lines : (c i : ℕ) → i ≡ place table c → 501 ≤ i → c ∷ [] ≡ lookup table c
-past-lines c i p h = sym (lookup-none table c (λ j k f. omega (arith, place-before table c j k (omega arith), lines)))
+pub past-lines : (c i : ℕ) → i ≡ linesBelow mappingTable c → 501 ≤ i → c ∷ [] ≡ lookup mappingTable c
+past-lines c i p h = sym (lookup-none mappingTable c (λ j k f. omega (arith, place-before mappingTable c j k (omega arith), lines)))
 
 -- and none is for a character outside of the runs
-pub outside-lines : (c : ℕ) → near c ≡ false → c ∷ [] ≡ lookup table c
+pub outside-lines : (c : ℕ) → near c ≡ false → c ∷ [] ≡ lookup mappingTable c
 outside-lines c h =
     sym
-    (lookup-none table c
-    (λ j k f. false≢true (sym h ∙ ap near (sym f) ∙ line-of (λ (m : Mapping). near (charOf m) ≡ true) table (at-each (λ (m : Mapping). near (charOf m)) table table-near) j k)))
+    (lookup-none mappingTable c
+    (λ j k f. false≢true (sym h ∙ ap near (sym f) ∙ line-of (λ (m : Mapping). near (charOf m) ≡ true) mappingTable (at-each (λ (m : Mapping). near (charOf m)) mappingTable table-near) j k)))
 
 -- as is one below C0 hex
-pub below-lines : (c : ℕ) → c < 0xC0 → c ∷ [] ≡ lookup table c
+pub below-lines : (c : ℕ) → c < 0xC0 → c ∷ [] ≡ lookup mappingTable c
 unfolding near
 below-lines c h =
     let a : c < 0x340 = omega arith in

@@ -2,8 +2,8 @@
 ghost use mathlib.Core.Path.{_≡_};
 ghost use Prim.Native.Nat.{_<_};
 ghost use lib.ListN.{length};
-ghost use Rattle.accents.specs.Table.{table};
-ghost use Rattle.accents.specs.Lines.{words, FullIs};
+ghost use Rattle.accents.specs.Table.{mappingTable};
+ghost use Rattle.accents.specs.Lines.{tableWords, FullIs};
 ghost use Rattle.accents.specs.Names.{places};
 use crate::chars::char_at;
 use crate::lookup::Mapped;
@@ -20,7 +20,7 @@ pub struct Full {
 // What `c` is mapped to until no mapping applies, by a copy of the table. Of what a line gives only the first can have a mapping, and what that
 // gives has none.
 pub fn full_of(mappings: &[u64; 501], c: u32) -> Full
-    requires { ⌜ now mappings ≡ words table ⌝ }
+    requires { ⌜ now mappings ≡ tableWords mappingTable ⌝ }
     ensures { λ r. ⌜ FullIs c r ⌝ }
 {
     match mapping_of(mappings, c) {
@@ -61,7 +61,7 @@ pub fn full_of(mappings: &[u64; 501], c: u32) -> Full
 
 // How many characters a text is mapped to.
 pub fn mapped_len(mappings: &[u64; 501], s: &[u8]) -> usize
-    requires { ⌜ (now mappings ≡ words table) × (length (now s) < 4294967296) ⌝ }
+    requires { ⌜ (now mappings ≡ tableWords mappingTable) × (length (now s) < 4294967296) ⌝ }
     ensures { λ r. ⌜ r ≡ places (now (s .entry)) ⌝ }
 {
     let mut n: usize = 0;

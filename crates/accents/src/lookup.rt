@@ -1,10 +1,10 @@
 // What a character is mapped to, and its class, by the tables. (02: N3)
 ghost use mathlib.Core.Path.{_≡_};
 ghost use Prim.Native.Nat.{_/_, _%_};
-ghost use Rattle.accents.specs.Table.{table, classes as theClasses};
+ghost use Rattle.accents.specs.Table.{mappingTable, classes as theClasses};
 ghost use Rattle.accents.specs.Mapping.{lookup};
 ghost use Rattle.accents.specs.Ordering.{class};
-ghost use Rattle.accents.specs.Lines.{words, near, place, answered};
+ghost use Rattle.accents.specs.Lines.{tableWords, near, linesBelow, answered};
 use crate::table::CLASSES;
 use crate::table::MAPPINGS;
 
@@ -17,7 +17,7 @@ pub enum Mapped {
 
 // A copy of the table. Whoever looks up many takes it once and lends it.
 pub fn mappings() -> [u64; 501]
-    ensures { λ r. ⌜ r ≡ words table ⌝ }
+    ensures { λ r. ⌜ r ≡ tableWords mappingTable ⌝ }
 {
     MAPPINGS
 }
@@ -50,8 +50,8 @@ fn second_of(w: u64) -> u32
 
 // The number of the first line that is not for a character below `c`, by halves.
 fn line_of(mappings: &[u64; 501], c: u32) -> usize
-    requires { ⌜ now mappings ≡ words table ⌝ }
-    ensures { λ r. ⌜ r ≡ place table c ⌝ }
+    requires { ⌜ now mappings ≡ tableWords mappingTable ⌝ }
+    ensures { λ r. ⌜ r ≡ linesBelow mappingTable c ⌝ }
 {
     let mut low: usize = 0;
     let mut high: usize = 501;
@@ -75,8 +75,8 @@ fn near_lines(c: u32) -> bool
 
 // What `c` is mapped to, by a copy of the table.
 pub fn mapping_of(mappings: &[u64; 501], c: u32) -> Mapped
-    requires { ⌜ now mappings ≡ words table ⌝ }
-    ensures { λ r. ⌜ answered c r ≡ lookup table c ⌝ }
+    requires { ⌜ now mappings ≡ tableWords mappingTable ⌝ }
+    ensures { λ r. ⌜ answered c r ≡ lookup mappingTable c ⌝ }
 {
     if !near_lines(c) {
         return Mapped::Itself;

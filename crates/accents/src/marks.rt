@@ -65,7 +65,7 @@ fn same_classes(x: &[u32], y: &[u32]) -> bool
 }
 
 // Whether two texts of one length have the same characters.
-fn same_words(x: &[u32], y: &[u32]) -> bool
+fn same_chars(x: &[u32], y: &[u32]) -> bool
     requires { ⌜ length (now x) ≡ length (now y) ⌝ }
     ensures { λ r. ⌜ r ≡ eqList (now (x .entry)) (now (y .entry)) ⌝ }
 {
@@ -86,7 +86,7 @@ pub fn same_order(x: &[u32], y: &[u32]) -> bool
     if x.len() != y.len() {
         return false;
     }
-    if same_words(x, y) {
+    if same_chars(x, y) {
         return true;
     }
     same_classes(x, y)

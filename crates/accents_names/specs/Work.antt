@@ -6,9 +6,9 @@ use mathlib.Core.List.{List}
 use lib.ListN.{length, take}
 use Rattle.lin_spec.specs.Utf8.{utf8}
 use Rattle.output.specs.Put.{Room}
-use Rattle.accents.specs.Table.{table}
+use Rattle.accents.specs.Table.{mappingTable}
 use Rattle.accents.specs.Mapping.{mapped}
-use Rattle.accents.specs.Lines.{words, full}
+use Rattle.accents.specs.Lines.{tableWords, full}
 use Rattle.accents.specs.Chars.{chars}
 use Rattle.accents.specs.Names.{places, onlyAscii}
 use Rattle.accents.specs.declared.full.Full.{Full}
@@ -22,7 +22,7 @@ pub record FullFits (o : List ℕ) (at : ℕ) (f : Full) : Type 0 where
 
 -- the mapped characters of s fit into o from the place `at` on
 pub record Fillable (w : List ℕ) (s : List ℕ) (o : List ℕ) (at : ℕ) : Type 0 where
-  pub copied : w ≡ words table
+  pub copied : w ≡ tableWords mappingTable
   pub short : length s < 4294967296
   pub room : Room o at (mapped (chars s))
 
@@ -38,7 +38,7 @@ pub record Laid (name : List ℕ) (s : Sought) (o : List ℕ) : Type 0 where
 
 -- the name x can be compared with it: both are UTF-8, and the mapped characters of both fit
 pub record Comparable (w x name : List ℕ) (s : Sought) (o : List ℕ) : Type 0 where
-  pub copied : w ≡ words table
+  pub copied : w ≡ tableWords mappingTable
   pub short : length x < 4294967296
   pub first : utf8 x ≡ true
   pub second : utf8 name ≡ true

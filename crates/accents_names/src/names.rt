@@ -1,13 +1,13 @@
 // The name that is looked for, and whether another is the same. (02: N3, "Two names are the same exactly when the results are equal.")
-use crate::work::fill;
+use crate::work::put_mapped;
 use crate::work::same_parts;
 use accents::mapped_len;
 use text::same_bytes;
 ghost use mathlib.Core.Path.{_≡_};
 ghost use Prim.Native.Nat.{_<_, _≤_};
 ghost use lib.ListN.{length};
-ghost use Rattle.accents.specs.Table.{table};
-ghost use Rattle.accents.specs.Lines.{words};
+ghost use Rattle.accents.specs.Table.{mappingTable};
+ghost use Rattle.accents.specs.Lines.{tableWords};
 ghost use Rattle.accents.specs.Names.{sameName, onlyAscii};
 ghost use Rattle.accents_names.specs.Work.{Fillable, Known, Laid, Comparable};
 
@@ -33,7 +33,7 @@ fn only_ascii(s: &[u8]) -> bool
 
 // What is to be known of a name, by a copy of the table.
 pub fn sought_of(mappings: &[u64; 501], name: &[u8]) -> Sought
-    requires { ⌜ (now mappings ≡ words table) × (length (now name) < 4294967296) ⌝ }
+    requires { ⌜ (now mappings ≡ tableWords mappingTable) × (length (now name) < 4294967296) ⌝ }
     ensures { λ r. ⌜ Known (now (name .entry)) r ⌝ }
 {
     let places = mapped_len(mappings, name);
@@ -49,7 +49,7 @@ pub fn lay_sought(mappings: &[u64; 501], name: &[u8], sought: Sought, work: &mut
     if sought.ascii {
         return;
     }
-    fill(mappings, name, work, 0);
+    put_mapped(mappings, name, work, 0);
 }
 
 // Whether `x` is the same name. Names of different numbers of mapped characters are not, so that a long name costs nothing against short ones.
@@ -73,6 +73,6 @@ pub fn same_name(
     if mapped_len(mappings, x) != n {
         return false;
     }
-    let m = fill(mappings, x, work, n);
+    let m = put_mapped(mappings, x, work, n);
     same_parts(work, n, m)
 }

@@ -32,7 +32,7 @@ fn put_full(work: &mut [u32], at: usize, f: Full) -> usize
 }
 
 // Puts the characters that `s` is mapped to from `at` on, by a copy of the table.
-pub(crate) fn fill(mappings: &[u64; 501], s: &[u8], work: &mut [u32], at: usize) -> usize
+pub(crate) fn put_mapped(mappings: &[u64; 501], s: &[u8], work: &mut [u32], at: usize) -> usize
     requires { ⌜ Fillable (now mappings) (now s) (now work) at ⌝ }
     ensures { λ r. ⌜ Put (now (work .entry)) at (mapped (chars (now (s .entry)))) (now (work .exit)) r ⌝ }
 {

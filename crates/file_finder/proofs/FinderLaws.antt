@@ -22,11 +22,11 @@ use Rattle.lin_spec.specs.declared.Refusal.the-variants.{TextTooLong, NotUtf8, 
 use Rattle.lin_spec.proofs.Base.{picked}
 use Rattle.lin_spec.proofs.Utf8.{short, whole-text}
 use Rattle.lin_spec.proofs.Accepted.{all-left, all-right}
-use Rattle.lin_spec.proofs.Lendable.{Legal}
+use Rattle.lin_spec.proofs.Lendable.{Legal, boards-legal}
 use Rattle.lin_spec.proofs.File.{Found, all-remain}
 use Rattle.board_loop.specs.Head.{boardAt}
-use Rattle.accents.specs.Table.{table}
-use Rattle.accents.specs.Lines.{words}
+use Rattle.accents.specs.Table.{mappingTable}
+use Rattle.accents.specs.Lines.{tableWords}
 use Rattle.accents.specs.Mapping.{mapped}
 use Rattle.accents.specs.Chars.{chars}
 use Rattle.accents.specs.Names.{sameName, places}
@@ -38,9 +38,9 @@ use Rattle.file_sections.specs.declared.sections.Section.{Section}
 use Rattle.file_sections.specs.declared.sections.BoardCursor.{BoardCursor}
 use Rattle.file_sections.proofs.WayLaws.{Way, way-begin, number-board, number-other, way-on}
 use Rattle.file_finder.specs.Finder.{hasName, greatest, placesIn, mostPlaces, placesNeeded, findName, WorkAfter, Finds}
-use Rattle.file_finder.specs.Walk.{RoomIs, Fits, BoardFits, Looking, FoundIn, FindsChecked}
+use Rattle.file_finder.specs.Walk.{RoomIs, NameFits, BoardFits, Looking, FoundIn, FindsChecked}
 use Rattle.file_finder.specs.declared.measure.Room.{Room}
-use Rattle.file_finder.proofs.MeasureLaws.{shown-small, greatest-room, boards-legal, sum-small}
+use Rattle.file_finder.proofs.MeasureLaws.{shown-small, greatest-room, sum-small}
 
 -- The seats of a board
 
@@ -64,9 +64,9 @@ pub looking-on : (w name : List ℕ) (k : Sought) (o o′ : List ℕ) → Lookin
 looking-on w name k o o′ h l = record { copied = h .copied; well = h .well; laid = l }
 
 module _ (w s name : List ℕ) (k : Sought) (names : List Span) (o₀ o : List ℕ) (i : ℕ) (t : Seats w s name k names o₀ o i) where
-  pub seat-fits : length s < 2 ^ 32 → All (Fits s name (length o₀)) names → i < 4 → (d : Span) (x : List ℕ) → x ≡ bytesAt s (getD names i d) → Comparable w x name k o
+  pub seat-fits : length s < 2 ^ 32 → All (NameFits s name (length o₀)) names → i < 4 → (d : Span) (x : List ℕ) → x ≡ bytesAt s (getD names i d) → Comparable w x name k o
   seat-fits l h j d x e =
-      let f = all-at (Fits s name (length o₀)) names i d h (omega (arith, t .four, j)) in
+      let f = all-at (NameFits s name (length o₀)) names i d h (omega (arith, t .four, j)) in
       record {
         copied = t .looking .copied;
         short = shown-small s (getD names i d) x e l;
@@ -114,7 +114,7 @@ module _ (s name : List ℕ) (p : Section) where
 
     module _ (names : List Span) (n : names ≡ boardAt (take (p .stop) s) (p .start) .names) where
       -- what is asked of the names of a board is asked of those that were read
-      pub names-fit : (m : ℕ) → (p .board ≡ true → All (Fits s name m) (boardIn s (sectionOf p) .names)) → All (Fits s name m) names
+      pub names-fit : (m : ℕ) → (p .board ≡ true → All (NameFits s name m) (boardIn s (sectionOf p) .names)) → All (NameFits s name m) names
       unfolding boardIn
       names-fit m f = rw n (f is-board)
 
@@ -171,7 +171,7 @@ module _ (w s name : List ℕ) (k : Sought) (o₀ o : List ℕ) (n : ℕ) (c : S
     front-other : p .board ≡ false → left s c ≡ left s d
     front-other b = front ∙ ap (λ (u : Bool). pick u (boardIn s (sectionOf p) ∷ left s d) (left s d)) b
 
-    pub section-fits : p .board ≡ true → All (Fits s name (length o)) (boardIn s (sectionOf p) .names)
+    pub section-fits : p .board ≡ true → All (NameFits s name (length o)) (boardIn s (sectionOf p) .names)
     section-fits b = rw (t .long) (subst (All (BoardFits s name (length o₀))) (front-board b) (t .fits) .0)
 
     module _ (r : ℕ) (e : FoundIn s name p r) where
@@ -235,7 +235,7 @@ each-list P [] h = tt
 each-list P (x ∷ xs) h = (all-left P x (concat xs) h, each-list P xs (all-right P x (concat xs) h))
 
 module _ (s name : List ℕ) (n : ℕ) where
-  names-fit-all : (xs : List Span) → All (λ (x : Span). (endOf x ≤ length s) × (utf8 (bytesAt s x) ≡ true)) xs → All (λ (k : ℕ). places name + k ≤ n) (map (λ (x : Span). places (bytesAt s x)) xs) → All (Fits s name n) xs
+  names-fit-all : (xs : List Span) → All (λ (x : Span). (endOf x ≤ length s) × (utf8 (bytesAt s x) ≡ true)) xs → All (λ (k : ℕ). places name + k ≤ n) (map (λ (x : Span). places (bytesAt s x)) xs) → All (NameFits s name n) xs
   names-fit-all [] h k = tt
   names-fit-all (x ∷ xs) h k = ((h .0 .1, k .0), names-fit-all xs (h .1) (k .1))
 
@@ -266,7 +266,7 @@ module _ (s name w : List ℕ) (k : Sought) (h : Known name k) where
     pub enough : placesNeeded s name ≤ length w
     enough = omega (arith, f, h .places)
 
-    pub front-fits : (m : List ℕ) → m ≡ words table → length name ≤ limit → Fillable m name w 0
+    pub front-fits : (m : List ℕ) → m ≡ tableWords mappingTable → length name ≤ limit → Fillable m name w 0
     unfolding places
     front-fits m e l = record { copied = e; short = omega (arith, l); room = record { room = omega (arith, f, h .places) } }
 

@@ -18,11 +18,11 @@ use Rattle.lin_spec.specs.File.{fileSpans}
 use Rattle.lin_spec.specs.declared.Span.{Span}
 use Rattle.lin_spec.specs.declared.Refusal.{Refusal}
 use Rattle.lin_spec.specs.declared.Refusal.the-variants.{NotUtf8}
-use Rattle.lin_spec.proofs.Lendable.{Legal}
+use Rattle.lin_spec.proofs.Lendable.{Legal, boards-legal}
 use Rattle.accents.specs.Names.{sameName, places, onlyAscii}
 use Rattle.accents.proofs.NameLaws.{same-alike, same-places, ascii-same}
 use Rattle.file_finder.specs.Finder.{hasName, mostPlaces, placesNeeded, findName}
-use Rattle.file_finder.proofs.MeasureLaws.{boards-legal, needed-most}
+use Rattle.file_finder.proofs.MeasureLaws.{needed-most}
 
 -- Tests that agree on each element
 

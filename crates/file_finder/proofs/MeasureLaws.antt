@@ -1,6 +1,6 @@
 -- Laws of the measuring of names: the greatest of some numbers, the sections measured so far, and how much room is always enough. (02: N3)
 -- Assumes nothing.
-use Prim.Native.Nat.{ℕ, _+_, _*_, _/_, _^_, _≤_, _<_, max}
+use Prim.Native.Nat.{ℕ, _+_, _*_, _^_, _≤_, _<_, max}
 use native.Mathlib.Numerals.{add-one}
 use native.Mathlib.Omega.{arith}
 use mathlib.Core.Path.{_≡_, refl, ap, sym, _∙_}
@@ -14,8 +14,8 @@ use Rattle.lin_spec.specs.Utf8.{utf8}
 use Rattle.lin_spec.specs.Board.{BoardOf}
 use Rattle.lin_spec.specs.File.{Section as Part, Standing, sections, boardsOf, boardIn, fileSpans, remaining}
 use Rattle.lin_spec.specs.declared.Span.{Span}
-use Rattle.lin_spec.proofs.Base.{picked, all-append, all-map, all-keep}
-use Rattle.lin_spec.proofs.Lendable.{Legal, sections-legal}
+use Rattle.lin_spec.proofs.Base.{picked, all-append, all-map}
+use Rattle.lin_spec.proofs.Lendable.{Legal, boards-legal}
 use Rattle.lin_spec.proofs.File.{Found, all-remain}
 use Rattle.board_loop.specs.Head.{boardAt}
 use Rattle.accents.specs.Names.{places}
@@ -126,12 +126,6 @@ measured-on s n c t m p d f r k e q = record { way = way-on s c (t .way) m (sect
 
 -- How much is always enough
 
-pub boards-legal : (s : List ℕ) → utf8 s ≡ true → All (Legal s) (fileSpans s)
-unfolding fileSpans
-boards-legal s u =
-    let L : Part → Type 0 = λ (p : Part). Legal s (boardIn s p) in
-    all-map L (Legal s) (boardIn s) (λ p h. h) (boardsOf (sections s)) (all-keep L L (λ p. p .board) (λ p h _. h) (sections s) (sections-legal s u))
-
 all-concat : (P : ℕ → Type 0) (xs : List (List ℕ)) → All (All P) xs → All P (concat xs)
 unfolding concat
 all-concat P [] h = tt
@@ -150,11 +144,6 @@ file-most s u =
 -- a name of n bytes and a file of m need 3 * (m + n) / 2 places at the most
 pub needed-most : (s name : List ℕ) → utf8 s ≡ true → utf8 name ≡ true → 2 * placesNeeded s name ≤ 3 * (length s + length name)
 needed-most s name u v = omega (arith, file-most s u, places-most name v)
-
--- Steps of the code
-
-pub ample : (s : List ℕ) (n room : ℕ) → utf8 s ≡ true → n + length s * 3 / 2 ≤ room → n + mostPlaces s ≤ room
-ample s n room u h = omega (arith, file-most s u, h)
 
 -- sums of places fit 64 bits
 pub sum-small : (s : List ℕ) (n : ℕ) → utf8 s ≡ true → length s ≤ limit → n < 2 ^ 32 → n + mostPlaces s < 2 ^ 64

@@ -11,8 +11,8 @@ use Rattle.lin_spec.specs.Refusals.{Answer, unless, tooSmall}
 use Rattle.lin_spec.specs.Board.{BoardOf}
 use Rattle.lin_spec.specs.File.{boardIn, fileSpans}
 use Rattle.lin_spec.specs.declared.Span.{Span}
-use Rattle.accents.specs.Table.{table}
-use Rattle.accents.specs.Lines.{words}
+use Rattle.accents.specs.Table.{mappingTable}
+use Rattle.accents.specs.Lines.{tableWords}
 use Rattle.accents.specs.Names.{places}
 use Rattle.accents_names.specs.Work.{Laid}
 use Rattle.accents_names.specs.declared.names.Sought.{Sought}
@@ -36,16 +36,16 @@ RoomIs s n room (Needed k) = (k ≡ n + mostPlaces s) × (room < k)
 -- Comparing
 
 -- the name at x can be compared with the name that is looked for, in n places: it is UTF-8, and the mapped characters of both fit
-abbrev pub Fits : (s name : List ℕ) (n : ℕ) → Span → Type 0
-Fits s name n x = (utf8 (bytesAt s x) ≡ true) × (places name + places (bytesAt s x) ≤ n)
+abbrev pub NameFits : (s name : List ℕ) (n : ℕ) → Span → Type 0
+NameFits s name n x = (utf8 (bytesAt s x) ≡ true) × (places name + places (bytesAt s x) ≤ n)
 
 -- so can each name of a board
 abbrev pub BoardFits : (s name : List ℕ) (n : ℕ) → BoardOf Span → Type 0
-BoardFits s name n b = All (Fits s name n) (b .names)
+BoardFits s name n b = All (NameFits s name n) (b .names)
 
 -- what stays on the way: the copy of the table, and the name that is looked for, which stands in the work space o
 pub record Looking (w name : List ℕ) (k : Sought) (o : List ℕ) : Type 0 where
-  pub copied : w ≡ words table
+  pub copied : w ≡ tableWords mappingTable
   pub well : utf8 name ≡ true
   pub laid : Laid name k o
 

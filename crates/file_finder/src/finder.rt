@@ -29,7 +29,7 @@ ghost use Rattle.accents.specs.Names.{sameName};
 ghost use Rattle.file.specs.Numbers.{countedOf};
 ghost use Rattle.file_sections.specs.Sections.{sectionOf, Inside, AtFirst};
 ghost use Rattle.file_finder.specs.Finder.{hasName, Finds};
-ghost use Rattle.file_finder.specs.Walk.{Fits, BoardFits, Looking, FoundIn, FindsChecked};
+ghost use Rattle.file_finder.specs.Walk.{NameFits, BoardFits, Looking, FoundIn, FindsChecked};
 
 // Whether one of the names is the one that is looked for.
 fn any_same(
@@ -40,7 +40,7 @@ fn any_same(
     sought: Sought,
     work: &mut [u32],
 ) -> bool
-    requires { ⌜ Looking (now mappings) (now name) sought (now work) × All (Fits (now text) (now name) (length (now work))) names × (length (now text) < 2 ^ 32) ⌝ }
+    requires { ⌜ Looking (now mappings) (now name) sought (now work) × All (NameFits (now text) (now name) (length (now work))) names × (length (now text) < 2 ^ 32) ⌝ }
     ensures { λ r. ⌜ (r ≡ any (λ x. sameName (bytesAt (now (text .entry)) x) (now (name .entry))) names) × Looking (now (mappings .entry)) (now (name .entry)) sought (now (work .exit)) × (length (now (work .exit)) ≡ length (now (work .entry))) ⌝ }
 {
     let mut seat = 0;
@@ -63,7 +63,7 @@ fn found_in(
     sought: Sought,
     work: &mut [u32],
 ) -> usize
-    requires { ⌜ Looking (now mappings) (now name) sought (now work) × Inside (now text) p × (p .board ≡ true → All (Fits (now text) (now name) (length (now work))) (boardIn (now text) (sectionOf p) .names)) ⌝ }
+    requires { ⌜ Looking (now mappings) (now name) sought (now work) × Inside (now text) p × (p .board ≡ true → All (NameFits (now text) (now name) (length (now work))) (boardIn (now text) (sectionOf p) .names)) ⌝ }
     ensures { λ r. ⌜ FoundIn (now (text .entry)) (now (name .entry)) p r × Looking (now (mappings .entry)) (now (name .entry)) sought (now (work .exit)) × (length (now (work .exit)) ≡ length (now (work .entry))) ⌝ }
 {
     if !p.board {

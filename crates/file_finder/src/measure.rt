@@ -13,8 +13,8 @@ ghost use Prim.Native.Nat.{_^_, _<_, max};
 ghost use lib.ListN.{length};
 ghost use Rattle.lin_spec.specs.Records.{bytesAt};
 ghost use Rattle.lin_spec.specs.Utf8.{utf8};
-ghost use Rattle.accents.specs.Table.{table};
-ghost use Rattle.accents.specs.Lines.{words};
+ghost use Rattle.accents.specs.Table.{mappingTable};
+ghost use Rattle.accents.specs.Lines.{tableWords};
 ghost use Rattle.accents.specs.Names.{places as placesOf};
 ghost use Rattle.file_sections.specs.Sections.{Inside, AtFirst};
 ghost use Rattle.file_finder.specs.Finder.{greatest, mostPlaces};
@@ -35,7 +35,7 @@ fn greater(a: usize, b: usize) -> usize
 
 // The most places that one of the names takes.
 fn most_of(mappings: &[u64; 501], text: &[u8], names: [Span; 4]) -> usize
-    requires { ⌜ (now mappings ≡ words table) × (length (now text) < 2 ^ 32) ⌝ }
+    requires { ⌜ (now mappings ≡ tableWords mappingTable) × (length (now text) < 2 ^ 32) ⌝ }
     ensures { λ r. ⌜ r ≡ greatest (map (λ x. placesOf (bytesAt (now (text .entry)) x)) names) ⌝ }
 {
     let mut most = 0;
@@ -50,7 +50,7 @@ fn most_of(mappings: &[u64; 501], text: &[u8], names: [Span; 4]) -> usize
 
 // The most that a name of a board takes; 0 for a section that is no board.
 fn most_in(mappings: &[u64; 501], text: &[u8], p: Section) -> usize
-    requires { ⌜ (now mappings ≡ words table) × Inside (now text) p ⌝ }
+    requires { ⌜ (now mappings ≡ tableWords mappingTable) × Inside (now text) p ⌝ }
     ensures { λ r. ⌜ MostIn (now (text .entry)) p r ⌝ }
 {
     if !p.board {
@@ -61,7 +61,7 @@ fn most_in(mappings: &[u64; 501], text: &[u8], p: Section) -> usize
 
 // The most that a name of any board takes, from a cursor at the first section.
 fn most_from(mappings: &[u64; 501], text: &[u8], cursor: BoardCursor) -> usize
-    requires { ⌜ (now mappings ≡ words table) × AtFirst (now text) cursor ⌝ }
+    requires { ⌜ (now mappings ≡ tableWords mappingTable) × AtFirst (now text) cursor ⌝ }
     ensures { λ r. ⌜ r ≡ mostPlaces (now (text .entry)) ⌝ }
 {
     let mut most = 0;
@@ -88,7 +88,7 @@ pub fn room_for(
     places: usize,
     room: usize,
 ) -> Room
-    requires { ⌜ (now mappings ≡ words table) × AtFirst (now text) cursor × (utf8 (now text) ≡ true) × (places < 2 ^ 32) ⌝ }
+    requires { ⌜ (now mappings ≡ tableWords mappingTable) × AtFirst (now text) cursor × (utf8 (now text) ≡ true) × (places < 2 ^ 32) ⌝ }
     ensures { λ r. ⌜ RoomIs (now (text .entry)) places room r ⌝ }
 {
     if places + text.len() * 3 / 2 <= room {

@@ -287,19 +287,20 @@ all-getD P (a ∷ x) zero d h k = h .0
 all-getD P (a ∷ x) (suc n) d h k = all-getD P x n d (h .1) k
 
 -- so each section has such a board, and each board of a file is one
-pub sections-legal : (s : List ℕ) → Utf8 s → All (λ (p : Section). Legal s (boardIn s p)) (sections s)
+sections-legal : (s : List ℕ) → Utf8 s → All (λ (p : Section). Legal s (boardIn s p)) (sections s)
 sections-legal s u =
     all-each (Bounded s) (λ (p : Section). Legal s (boardIn s p))
     (λ p h. section-legal s p (between-utf8 s (p .start) (p .stop) (h .0) (h .1)))
     (sections s) (sections-bounded s u)
 
-pub file-legal : (s : List ℕ) → Utf8 s → (n : ℕ) → Legal s (numbered s n)
+pub boards-legal : (s : List ℕ) → Utf8 s → All (Legal s) (fileSpans s)
 unfolding fileSpans
-file-legal s u n =
+boards-legal s u =
     let L : Section → Type 0 = λ (p : Section). Legal s (boardIn s p) in
-    all-getD (Legal s) (fileSpans s) n (boardIn s (section 0 0 false))
-    (all-map L (Legal s) (boardIn s) (λ p h. h) (boardsOf (sections s)) (all-keep L L (λ p. p .board) (λ p h _. h) (sections s) (sections-legal s u)))
-    (section-legal s (section 0 0 false) nil-utf8)
+    all-map L (Legal s) (boardIn s) (λ p h. h) (boardsOf (sections s)) (all-keep L L (λ p. p .board) (λ p h _. h) (sections s) (sections-legal s u))
+
+pub file-legal : (s : List ℕ) → Utf8 s → (n : ℕ) → Legal s (numbered s n)
+file-legal s u n = all-getD (Legal s) (fileSpans s) n (boardIn s (section 0 0 false)) (boards-legal s u) (section-legal s (section 0 0 false) nil-utf8)
 
 -- The sections that begin at a place and after it, in any text: only the bytes from that place to a section's stop need be UTF-8
 

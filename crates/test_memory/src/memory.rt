@@ -29,12 +29,14 @@ pub const ROWS: usize = 24;
 
 pub const ROWS2: usize = 26;
 
-// How many words of rows, places for cards and bytes of the output are lent to be filled.
+// How many words of rows, places for cards and bytes of the output are lent to be filled, and how many words of work space.
 pub const LENT_WORDS: usize = 28;
 
 pub const LENT_CARDS: usize = 29;
 
 pub const ROOM: usize = 30;
+
+pub const LENT_WORK: usize = 31;
 
 // The numbers of a call, two words each: a place, a board's number or the used bytes; the number of a board cursor. Then its lines, and a span.
 pub const NUMBER: usize = 32;
@@ -67,6 +69,9 @@ pub const NOTES: usize = 2_048;
 pub const FILLED_ROWS: usize = 4_096;
 
 pub const FILLED_CARDS: usize = 7_296;
+
+// The work space after a call that was lent some of it.
+pub const WORK: usize = 24_576;
 
 // The cases of each group and whether one differs, two words for a group.
 pub const GROUPS: usize = 32_000;

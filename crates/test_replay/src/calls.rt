@@ -1,4 +1,4 @@
-// The exports, called with what the memory says is lent, and their answers laid into it. (01: Tokens; Board; File; Writer; From PBN; 02: N1)
+// The exports, called with what the memory says is lent, and their answers laid into it. (01: Tokens; Board; File; Writer; From PBN; 02: N1, N3)
 use crate::answers::lay_answer;
 use crate::answers::lay_auction;
 use crate::answers::lay_boards;
@@ -40,6 +40,7 @@ use test_memory::LENT_BOARD;
 use test_memory::LENT_BOARD2;
 use test_memory::LENT_CARDS;
 use test_memory::LENT_WORDS;
+use test_memory::LENT_WORK;
 use test_memory::LINES;
 use test_memory::MARK;
 use test_memory::NOTES;
@@ -50,11 +51,13 @@ use test_memory::ROOM;
 use test_memory::ROWS;
 use test_memory::ROWS2;
 use test_memory::SECOND;
+use test_memory::SPACE;
 use test_memory::SPAN;
 use test_memory::TEXT;
 use test_memory::TEXT2;
 use test_memory::WORD;
 use test_memory::WORDS;
+use test_memory::WORK;
 use test_memory::front;
 use test_memory::front_words;
 use test_memory::get;
@@ -79,7 +82,7 @@ fn some(rows: &[u32; READ], n: usize) -> &[u32] {
 }
 
 // The calls that take texts and numbers.
-fn reading(call: usize, m: &mut [u32; WORDS], text: &[u8], name: &[u8]) {
+fn reading(call: usize, m: &mut [u32; WORDS], text: &[u8]) {
     let n = long(m, NUMBER);
     let second = long(m, SECOND);
     let lines = get(m, LINES);
@@ -91,9 +94,17 @@ fn reading(call: usize, m: &mut [u32; WORDS], text: &[u8], name: &[u8]) {
         4 => lay_answer(m, lin_count_boards(text)),
         5 => lay_heading(m, lin_file_heading(text, n), 0),
         6 => lay_boards(m, lin_open_boards(text)),
-        7 => lay_section(m, lin_next_board(text, n, second, lines)),
-        _ => lay_answer(m, lin_find_name(text, name)),
+        _ => lay_section(m, lin_next_board(text, n, second, lines)),
     }
+}
+
+// How many boards have the second text as a name, with marked work space.
+fn call_find_name(m: &mut [u32; WORDS], text: &[u8], name: &[u8]) {
+    let mut work = [WORD; SPACE];
+    let w = place(m, LENT_WORK);
+    let a = lin_find_name(text, name, front_words(&mut work, w));
+    lay_answer(m, a);
+    put_all(m, WORK, &work);
 }
 
 // Lays what was lent to be filled.
@@ -259,9 +270,10 @@ pub fn called(call: usize, m: &mut [u32; WORDS], bytes: &[u8; BYTES], out: &mut 
     let text2 = part(bytes, place(m, TEXT2), place(m, TEXT2 + 1));
     let cards2 = part(bytes, place(m, CARDS2), place(m, CARDS2 + 1));
     match call {
-        0..=7 | 10 => reading(call, m, text, text2),
+        0..=7 => reading(call, m, text),
         8 => parse(m, text),
         9 => call_file_board(m, text),
+        10 => call_find_name(m, text, text2),
         17 => call_same_board(m, text, cards, text2, cards2),
         18 => call_read_board(m, text),
         19 => call_check_auction(m, text),

@@ -1,6 +1,6 @@
-// Replays the stored vectors: the oracle's answers, and the cases by hand from documents 01 and 02. The steps of a file lend texts, rows and boards, call the
-// exports of `lin_host`, and compare the answers and all that was lent; each group of cases prints a line. (01: "Entries on numbers and byte slices are
-// exported .."; Eight refusals, "All lent memory stays")
+// Replays the stored vectors: the oracle's answers, Python's about names with accents, and the cases by hand from documents 01 and 02. The steps of a file
+// lend texts, rows, boards and work space, call the exports of `lin_host`, and compare the answers and all that was lent; each group of cases prints a line.
+// (01: "Entries on numbers and byte slices are exported .."; Eight refusals, "All lent memory stays"; 02: N3)
 mod answers;
 mod boards;
 mod calls;
@@ -46,5 +46,6 @@ fn main() {
     replay_steps(b"appends.bin");
     replay_steps(b"annotation.bin");
     replay_steps(b"pbn.bin");
+    replay_steps(b"accents.bin");
     replay_steps(b"by_hand.bin");
 }

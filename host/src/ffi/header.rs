@@ -241,7 +241,7 @@ functions! {
     lin_count_boards(_, _)
     lin_file_heading(_, _, _)
     lin_file_board(_, _, _, _, _, _, _)
-    lin_find_name(_, _, _, _)
+    lin_find_name(_, _, _, _, _, _)
     lin_open_boards(_, _)
     lin_next_board(_, _, _, _, _)
     lin_read_board(_, _, _, _, _, _, _, _, _)
@@ -355,6 +355,8 @@ fn differences_are_refused() {
         "LinAnswer lin_open(const uint8_t *, uint32_t);\n".to_string(),
         "LinAnswer lin_play_text(uint8_t *, size_t, const uint8_t *, size_t);\n".to_string(),
         "LinPart lin_next(const uint8_t *, size_t, uint64_t);\n".to_string(),
+        // the finder without its work space
+        "LinAnswer lin_find_name(const uint8_t *, size_t, const uint8_t *, size_t);\n".to_string(),
         asserted("LIN_LIMIT == 1048575"),
     ] {
         assert!(compiled(&difference).is_err(), "{difference}");

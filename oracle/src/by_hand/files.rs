@@ -8,11 +8,12 @@ mod reader;
 /// Every entry refuses the file so, whatever is lent, and for a board that it has as for
 /// one that it has not.
 fn closed(s: &mut Steps, number: u32, carried: u64) {
-    s.lend(TEXT2, b"");
-    for call in [Call::CountBoards, Call::OpenBoards, Call::FindName] {
+    for call in [Call::CountBoards, Call::OpenBoards] {
         s.call(call);
         s.answer(number, 0, carried);
     }
+    s.lend(TEXT2, b"");
+    finder::refuses(s, number, carried);
     for (board, words) in [(0, 0), (u64::MAX, 18)] {
         s.long(NUMBER, board);
         refused(s, Call::FileHeading, number, 0, carried);
@@ -46,19 +47,6 @@ fn few(s: &mut Steps, text: &[u8], number: u64, words: u32, kind: u32) {
     s.is(ANSWER, &[0, 0, 0]);
     stays(s, Call::FileBoard, [words, 0], 3, kind, 1);
     s.case(0);
-}
-
-/// The finder is answered so.
-fn finds(s: &mut Steps, number: u32, value: u64) {
-    s.call(Call::FindName);
-    s.answer(number, 0, value);
-    s.case(0);
-}
-
-fn finds_in(s: &mut Steps, text: &[u8], name: &[u8], number: u32, value: u64) {
-    s.lend(TEXT, text);
-    s.lend(TEXT2, name);
-    finds(s, number, value);
 }
 
 /// Files that are not UTF-8, with the length of their longest well-formed start. 2 comes
@@ -103,49 +91,10 @@ fn long(s: &mut Steps) {
     s.case(0);
 }
 
-/// The name is checked after the file, number by number.
-fn names(s: &mut Steps) {
-    finds_in(s, b"pn|a|", b"\xFF", 2, 0);
-    finds_in(s, b"pn|a|", b"a\xC3\xA9\xC3", 2, 3);
-    finds_in(s, b"pn|a|\xFF", b"a\xFF", 2, 5);
-    finds_in(s, b"pn|a|\npn|b,a|\npn|A|", b"a", 0, 2);
-    finds_in(s, b"md|1|pn|a|qx||md|2|", b"", 0, 2);
-    // A byte order mark is a part of a name, wherever the name stands.
-    finds_in(s, b"pn|\xEF\xBB\xBFa,b|", b"a", 0, 0);
-    finds_in(s, b"pn|\xEF\xBB\xBFa,b|", b"\xEF\xBB\xBFa", 0, 1);
-    finds_in(s, b"\xEF\xBB\xBFpn|a,b|", b"a", 0, 1);
-    finds_in(s, b"\xEF\xBB\xBFpn|a,b|", b"\xEF\xBB\xBFa", 0, 0);
-    // A long text beside a short one: the long one stands at the front of the bytes, and
-    // the short one elsewhere.
-    spaces(s, b"", LONG);
-    s.lend(TEXT2, b"\xFF");
-    finds(s, 1, 0);
-    s.copy(TEXT2, TEXT, 2, 1);
-    finds(s, 1, 0);
-    s.set(TEXT2, &[SECOND_TEXT]);
-    s.set(TEXT + 1, &[LIMIT as u32]);
-    s.lend(TEXT2, b"\xFF");
-    finds(s, 2, 0);
-    // The name is long.
-    for (text, len, number) in [
-        (b"pn|a|".as_slice(), LONG, 1),
-        (b"pn|a|\xFF", LONG, 1),
-        (b"pn|a|", LIMIT, 0),
-    ] {
-        s.set(TEXT, &[SECOND_TEXT]);
-        s.lend(TEXT, text);
-        s.set(TEXT2, &[0, len as u32]);
-        finds(s, number, 0);
-    }
-    s.set(TEXT, &[0]);
-    s.set(TEXT2, &[SECOND_TEXT]);
-}
-
 pub fn put(s: &mut Steps) {
     not_utf8(s);
     numbers(s);
     long(s);
-    names(s);
     reader::put(s);
     s.say("by hand files", &["refusals", "reading steps"]);
 }

@@ -1,8 +1,8 @@
 //! Names: files in which they stand at several seats, are replaced or moved to
 //! another board, and the names that are asked for in each text. (Document 01,
-//! "the finder counts a file's boards with a given name ..")
+//! "the finder counts a file's boards with a given name .."; document 02, N3)
 
-use crate::{lin::LinData, texts::distinct};
+use crate::{accents::accented, lin::LinData, texts::distinct};
 
 /// How many names of boards are asked for in one text, at the most.
 const ASKED: usize = 12;
@@ -31,16 +31,31 @@ fn near(name: &str) -> Vec<String> {
 }
 
 /// The names to ask for: those of the boards and of every pn, replaced or not,
-/// the empty one, one like the first, and one that is nowhere.
+/// the empty one, one like the first, and one that is nowhere. None is accented: another
+/// name is the same exactly when it has the same bytes, since what an accented one is
+/// mapped to is accented.
 pub fn asked(text: &str, boards: &[LinData]) -> Vec<String> {
     let names = boards.iter().flat_map(|b| b.player_names.clone());
     let mut all = distinct(names.chain(written(text)).collect());
-    all.retain(|name| !name.is_empty());
+    all.retain(|name| !name.is_empty() && !accented(name));
     all.truncate(ASKED);
     let like = all.first().map(|name| near(name)[text.len() % 4].clone());
     all.extend(like);
     all.extend(["", "nowhere"].map(str::to_string));
+    all.retain(|name| !accented(name));
     distinct(all)
+}
+
+/// The places that the finder needs, where no name of the boards is accented: then each
+/// has as many mapped characters as characters. What else they are mapped to is not for
+/// this file to say.
+pub fn places(name: &str, boards: &[LinData]) -> Option<usize> {
+    let all = || boards.iter().flat_map(|b| &b.player_names);
+    if all().any(|n| accented(n)) {
+        return None;
+    }
+    let most = all().map(|n| n.chars().count()).max();
+    Some(name.chars().count() + most.unwrap_or(0))
 }
 
 /// Names of one part or line.

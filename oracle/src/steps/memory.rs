@@ -24,6 +24,8 @@ pub const LENT_WORDS: usize = 28;
 pub const LENT_CARDS: usize = 29;
 /// How many bytes of the output are lent to be filled.
 pub const ROOM: usize = 30;
+/// How many words of work space are lent.
+pub const LENT_WORK: usize = 31;
 /// The first number of a call, in two words: a cursor's place, a board's number or
 /// the used bytes.
 pub const NUMBER: usize = 32;
@@ -64,6 +66,9 @@ pub const FILLED_ROWS: usize = 4_096;
 /// The cards that a call filled, a word each, and after them the places that it did
 /// not fill.
 pub const FILLED_CARDS: usize = 7_296;
+/// The work space after a call that was lent some of it, and after that the words that
+/// were not lent.
+pub const WORK: usize = 24_576;
 
 // Words that only the files use: constants, the numbers of a case, places of
 // blocks.
@@ -73,7 +78,7 @@ pub const FILLED_CARDS: usize = 7_296;
 pub const ZERO: usize = 42;
 /// Holds 1.
 pub const ONE: usize = 43;
-/// Holds `WORD`, which rows have that no call filled.
+/// Holds `WORD`, which rows and work space have that no call filled.
 pub const MARK_WORD: usize = 44;
 /// Holds `MARK`, which places for cards have that no call filled.
 pub const MARK_BYTE: usize = 45;
@@ -92,6 +97,8 @@ pub const MOST: usize = 50;
 pub const ALL_WORDS: usize = 51;
 /// Holds `MOST_CARDS`.
 pub const ALL_CARDS: usize = 52;
+/// Holds `MOST_WORK` in the files that ask for names.
+pub const ALL_WORK: usize = 53;
 /// The start of the output's part that is marked and looked at.
 pub const OUT: usize = 54;
 /// The length of the output's part that is marked and looked at.
@@ -163,6 +170,24 @@ pub const NO_NAMES: usize = BLOCKS + 16;
 pub const COUNT_OF: usize = OWN + 5;
 /// The number of the board that is read next.
 pub const BOARD_NUMBER: usize = OWN + 6;
+/// How many boards have the name that is sought.
+pub const HAVING: usize = OWN + 7;
+/// How many places of work space the finder needs.
+pub const PLACES_OF: usize = OWN + 8;
+/// The words of all work space that are left after the lent ones.
+pub const REST_WORK: usize = OWN + 9;
+/// The block that asks for the name with places to spare.
+pub const SOUGHT: usize = BLOCKS + 50;
+/// The block that asks for it with places to spare, with exactly enough and with one
+/// less.
+pub const SOUGHT_ALL: usize = BLOCKS + 51;
+/// The block for work space that is all as it was before the call.
+pub const WORK_KEPT: usize = BLOCKS + 52;
+/// The block that calls the finder: it counts `HAVING` boards, and the work space that
+/// was not lent is as it was.
+pub const NAME_COUNTED: usize = BLOCKS + 53;
+/// A block without steps.
+pub const NO_STEPS: usize = BLOCKS + 54;
 /// The first block that a subject has for itself.
 pub const OWN_BLOCK: usize = BLOCKS + 20;
 /// The first number that a subject has for itself.
@@ -176,7 +201,7 @@ pub const READ_ROWS2: usize = 16_384;
 /// A heading and rows that are kept for later steps.
 pub const KEPT: usize = 20_480;
 
-/// What the program marks the words of rows with before a call.
+/// What the program marks the words of rows and of work space with before a call.
 pub const WORD: u32 = 0xA5A5_A5A5;
 /// What places for cards and bytes of the output are marked with before a call.
 pub const MARK: u8 = 0xA5;
@@ -184,6 +209,8 @@ pub const MARK: u8 = 0xA5;
 pub const MOST_WORDS: u32 = 3_200;
 /// The places for cards that the program can lend to be filled.
 pub const MOST_CARDS: u32 = 600;
+/// The words of work space that the program can lend.
+pub const MOST_WORK: u32 = 4_096;
 /// Where the second text begins in the program's bytes.
 pub const SECOND_TEXT: u32 = 1_050_000;
 /// Where the lent cards begin in the program's bytes.

@@ -1,11 +1,13 @@
 //! Times upstream's calls against the exports, interleaved in one run of one
 //! driver: `bench [RUNS [WORD]]`, over all inputs or those whose name has the
-//! word; the export of auctions against the model, for the word `auctions`; and the
-//! exports alone, over texts of which most is trimmed, for the word `trimmed`, and over
-//! hostile records, for the word `hostile`. docs/BENCHMARKS.md says what the rows are.
+//! word; the export of auctions against the model, for the word `auctions`, and the
+//! finder by accents against the model, for the word `accents`; and the exports alone,
+//! over texts of which most is trimmed, for the word `trimmed`, and over hostile
+//! records, for the word `hostile`. docs/BENCHMARKS.md says what the rows are.
 
 mod auctions;
 mod inputs;
+mod names;
 mod white;
 mod works;
 
@@ -15,14 +17,13 @@ use std::env;
 use white::White;
 use works::Times;
 
-/// The word for the calls that upstream has not.
-const AUCTIONS: &str = "auctions";
-
-/// The word for texts of white space and byte order marks.
-const TRIMMED: &str = "trimmed";
-
-/// The word for the records that have no match in upstream.
-const HOSTILE: &str = "hostile records";
+/// What has no match in upstream, by the words that choose it.
+const SECTIONS: [(&str, fn(usize)); 4] = [
+    ("auctions", report_auctions),
+    ("accents", report_names),
+    ("trimmed", report_trimmed),
+    ("hostile records", report_records),
+];
 
 fn main() {
     let runs = env::args().nth(1).and_then(|a| a.parse().ok());
@@ -34,31 +35,52 @@ fn main() {
     let word = env::args().nth(2).unwrap_or_default();
     for input in inputs::ALL.iter().filter(|i| i.name.contains(&word)) {
         println!("{}", input.name);
-        let texts = [LIMIT / 4, LIMIT / 2, LIMIT].map(|n| input.text(n));
-        for work in works::ALL {
-            let times = texts.each_ref().map(|text| (work.time)(text, runs));
-            report(work.name, times);
-        }
+        report_input(input, runs);
     }
-    if AUCTIONS.contains(&word) {
-        println!("{AUCTIONS}");
-        head("model ms", "");
-        for all in auctions::ALL {
-            let times = [LIMIT / 4, LIMIT / 2, LIMIT].map(|len| all.time(len, runs));
-            report(all.name, times);
-        }
+    for (name, section) in SECTIONS.iter().filter(|(name, _)| name.contains(&word)) {
+        println!("{name}");
+        section(runs);
     }
-    if TRIMMED.contains(&word) {
-        println!("{TRIMMED}");
-        for white in white::ALL {
-            report_white(white, runs);
-        }
+}
+
+/// The rows of a file.
+fn report_input(input: &inputs::Input, runs: usize) {
+    let texts = [LIMIT / 4, LIMIT / 2, LIMIT].map(|n| input.text(n));
+    for work in works::ALL {
+        let times = texts.each_ref().map(|text| (work.time)(text, runs));
+        report(work.name, times);
     }
-    if HOSTILE.contains(&word) {
-        println!("{HOSTILE}");
-        for hostile in hostile::ALL.iter().chain(hostile::BY_NATURE) {
-            report_hostile(hostile, runs);
-        }
+}
+
+/// The rows of auctions, beside the model.
+fn report_auctions(runs: usize) {
+    head("model ms", "");
+    for all in auctions::ALL {
+        let times = [LIMIT / 4, LIMIT / 2, LIMIT].map(|len| all.time(len, runs));
+        report(all.name, times);
+    }
+}
+
+/// The rows of names, beside the model.
+fn report_names(runs: usize) {
+    head("model ms", "");
+    for all in names::all() {
+        let times = [LIMIT / 4, LIMIT / 2, LIMIT].map(|len| all.time(len, runs));
+        report(&all.name, times);
+    }
+}
+
+/// The rows of texts of white space and byte order marks.
+fn report_trimmed(runs: usize) {
+    for white in white::ALL {
+        report_white(white, runs);
+    }
+}
+
+/// The rows of records that upstream's types can't hold.
+fn report_records(runs: usize) {
+    for hostile in hostile::ALL.iter().chain(hostile::BY_NATURE) {
+        report_hostile(hostile, runs);
     }
 }
 

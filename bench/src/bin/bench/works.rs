@@ -7,7 +7,7 @@ use lin_host_rust::{
     files, pbn,
     tokens::{self, Cursor, Span, Token},
     writer::Gathered,
-    LIMIT,
+    Refusal, LIMIT,
 };
 use oracle::{
     lin::{parse_lin_file, write_lin, write_lin_file, LinData, LinDocument},
@@ -93,6 +93,14 @@ pub const ALL: &[Work] = &[
     Work {
         name: "parse_lin_file, names | find_name",
         time: finding,
+    },
+    Work {
+        name: "parse_lin_file, names | find_name, ASCII",
+        time: finding_ascii,
+    },
+    Work {
+        name: "parse_lin_file, names | .., places needed",
+        time: finding_in_few,
     },
     Work {
         name: "write_lin_file | append",
@@ -292,16 +300,52 @@ fn last_heading(text: &str, runs: usize) -> Times {
     .checking([text.as_bytes()].into_iter(), runs)
 }
 
-/// The boards in which a name sits.
+/// The boards in which a name sits, with accents that the file spells in the same way.
 fn finding(text: &str, runs: usize) -> Times {
-    let bytes = text.as_bytes();
-    let name = "Åsa Öberg";
-    let find = || files::find_name(black_box(bytes), name.as_bytes());
+    finding_by(text, "Åsa Öberg", runs, |name| {
+        files::find_name(black_box(text.as_bytes()), name)
+    })
+}
+
+/// The same of a name in ASCII, whose bytes alone are it.
+fn finding_ascii(text: &str, runs: usize) -> Times {
+    finding_by(text, "van der Meer", runs, |name| {
+        files::find_name(black_box(text.as_bytes()), name)
+    })
+}
+
+/// The same in work space of just the places needed, for which the file is walked
+/// before.
+fn finding_in_few(text: &str, runs: usize) -> Times {
+    let name = "van der Meer";
+    let mut work = vec![0; places_needed(text.as_bytes(), name.as_bytes())];
+    finding_by(text, name, runs, |name| {
+        files::find_name_in(black_box(text.as_bytes()), name, &mut work)
+    })
+}
+
+/// How many places of work space the finder needs.
+pub fn places_needed(text: &[u8], name: &[u8]) -> usize {
+    match files::find_name_in(text, name, &mut []) {
+        Err(Refusal::OutputTooSmall(places)) => places as usize,
+        other => panic!("no place is needed: {other:?}"),
+    }
+}
+
+/// The boards that a finder finds, and those that upstream reads whose names have the
+/// same bytes.
+fn finding_by(
+    text: &str,
+    name: &str,
+    runs: usize,
+    mut find: impl FnMut(&[u8]) -> Result<u64, Refusal>,
+) -> Times {
     let search = || {
         let all = parse_lin_file(black_box(text)).expect("no error");
         let has = |b: &&LinData| b.player_names.iter().any(|n| n == name);
         all.iter().filter(has).count() as u64
     };
+    let find = || find(name.as_bytes());
     in_turn(text.len(), runs, search, find, |found, answer| {
         *answer == Ok(*found)
     })

@@ -10,14 +10,14 @@ use Rattle.accents_names.proofs.names.lay_sought.Tie as tie
 returns : tie.Need-returns
 returns c = (laid-ascii (now (c .before .before .before .args .name)) (c .before .before .before .args .sought) _ (c .before .before .before .pre .0) (c .if1 .taken), refl)
 
-fill-requires : tie.Need-fill-requires
-fill-requires c κs = search needs
+put-mapped-requires : tie.Need-put-mapped-requires
+put-mapped-requires c κs = search needs
 
 same-length : tie.Need-same-length
 same-length c = search needs
 
 returns-2 : tie.Need-returns-2
-returns-2 c = (laid-put (now (c .before .before .before .before .before .before .before .args .name)) (c .before .before .before .before .before .before .before .args .sought) _ _ _ (c .before .before .before .before .before .before .before .pre .0) (c .before .before .before .before .before .before .before .pre .1 .room) (c .before .before .fill .ensures), put-long _ _ _ _ _ (c .before .before .before .before .before .before .before .pre .1 .room) (c .before .before .fill .ensures))
+returns-2 c = (laid-put (now (c .before .before .before .before .before .before .before .args .name)) (c .before .before .before .before .before .before .before .args .sought) _ _ _ (c .before .before .before .before .before .before .before .pre .0) (c .before .before .before .before .before .before .before .pre .1 .room) (c .before .before .put-mapped .ensures), put-long _ _ _ _ _ (c .before .before .before .before .before .before .before .pre .1 .room) (c .before .before .put-mapped .ensures))
 
 pub lay-sought-spec : {M : Type 1} → statement M
-lay-sought-spec = tie.close (tie.spec returns fill-requires same-length returns-2)
+lay-sought-spec = tie.close (tie.spec returns put-mapped-requires same-length returns-2)

@@ -22,17 +22,17 @@ mapped-len-requires c κs = search needs
 returns-3 : tie.Need-returns-3
 returns-3 c = (few-other _ _ _ _ _ (c .before .before .before .before .before .before .before .before .pre) _ (c .before .mapped-len .ensures) (c .if3 .taken), c .before .before .before .before .before .before .before .before .pre .laid, refl)
 
-fill-requires : tie.Need-fill-requires
-fill-requires c κs = name-fits _ _ _ _ _ (c .before .before .before .before .before .before .before .before .before .pre)
+put-mapped-requires : tie.Need-put-mapped-requires
+put-mapped-requires c κs = name-fits _ _ _ _ _ (c .before .before .before .before .before .before .before .before .before .pre)
 
 same-parts-requires : tie.Need-same-parts-requires
-same-parts-requires c κs = parts-within _ _ _ _ _ (c .before .before .before .before .before .before .before .before .before .before .before .before .before .pre) _ _ (c .before .before .before .fill .ensures)
+same-parts-requires c κs = parts-within _ _ _ _ _ (c .before .before .before .before .before .before .before .before .before .before .before .before .before .pre) _ _ (c .before .before .before .put-mapped .ensures)
 
 same-length : tie.Need-same-length
 same-length c = search needs
 
 returns-4 : tie.Need-returns-4
-returns-4 c = let p = c .before .before .before .before .fill .ensures in (compared _ _ _ _ _ (c .before .before .before .before .before .before .before .before .before .before .before .before .before .before .pre) _ _ p (c .before .before .before .before .before .before .before .before .if2 .left) (c .same-parts .ensures), laid-still _ _ _ _ _ (c .before .before .before .before .before .before .before .before .before .before .before .before .before .before .pre) _ _ p, name-long _ _ _ _ _ (c .before .before .before .before .before .before .before .before .before .before .before .before .before .before .pre) _ _ p)
+returns-4 c = let p = c .before .before .before .before .put-mapped .ensures in (compared _ _ _ _ _ (c .before .before .before .before .before .before .before .before .before .before .before .before .before .before .pre) _ _ p (c .before .before .before .before .before .before .before .before .if2 .left) (c .same-parts .ensures), laid-still _ _ _ _ _ (c .before .before .before .before .before .before .before .before .before .before .before .before .before .before .pre) _ _ p, name-long _ _ _ _ _ (c .before .before .before .before .before .before .before .before .before .before .before .before .before .before .pre) _ _ p)
 
 pub same-name-spec : {M : Type 1} → statement M
 same-name-spec =
@@ -43,7 +43,7 @@ same-name-spec =
     returns-2
     mapped-len-requires
     returns-3
-    fill-requires
+    put-mapped-requires
     same-parts-requires
     same-length
     returns-4)

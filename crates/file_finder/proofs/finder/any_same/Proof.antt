@@ -29,13 +29,13 @@ shown-requires : tie.Need-shown-requires Inv-loop μ-loop
 shown-requires c κs = tt
 
 same-name-requires : tie.Need-same-name-requires Inv-loop μ-loop
-same-name-requires c κs = seat-fits _ (now (c .before .before .before .before .before .before .before .before .args .text)) _ _ _ _ _ _ (c .before .before .before .before .loop .inv) (c .before .before .before .before .before .before .before .before .pre .2) (c .before .before .before .before .before .before .before .before .pre .1) (c .before .before .before .loop-test .taken) (span 0 0) _ (c .before .shown .ensures)
+same-name-requires c κs = seat-fits _ (now (c .before .before .before .before .before .before .before .before .args .text)) _ _ _ _ _ _ (c .before .before .before .before .loop .inv) (c .before .before .before .before .before .before .before .before .pre .2) (c .before .before .before .before .before .before .before .before .pre .1) (omega arith) (span 0 0) _ (c .before .shown .ensures)
 
 same-length : tie.Need-same-length Inv-loop μ-loop
 same-length c = (c .before .before .before .same-name .ensures .2) ∙ (c .before .before .before .before .before .before .before .before .loop .inv .long)
 
 returns : tie.Need-returns Inv-loop μ-loop
-returns c = let i = c .before .before .before .before .before .before .before .before .loop .inv in let e = c .before .before .before .same-name .ensures in (seat-found _ (now (c .before .before .before .before .before .before .before .before .before .before .before .before .args .text)) _ _ _ _ _ _ i (c .before .before .before .before .before .before .before .loop-test .taken) (span 0 0) _ (c .before .before .before .before .before .shown .ensures) _ (e .0) (c .if1 .taken), looking-on _ _ _ _ _ (i .looking) (e .1), e .2 ∙ i .long)
+returns c = let i = c .before .before .before .before .before .before .before .before .loop .inv in let e = c .before .before .before .same-name .ensures in (seat-found _ (now (c .before .before .before .before .before .before .before .before .before .before .before .before .args .text)) _ _ _ _ _ _ i (omega arith) (span 0 0) _ (c .before .before .before .before .before .shown .ensures) _ (e .0) (c .if1 .taken), looking-on _ _ _ _ _ (i .looking) (e .1), e .2 ∙ i .long)
 
 add-seat : tie.Need-add-seat Inv-loop μ-loop
 add-seat c = omega arith
@@ -44,13 +44,13 @@ loop-less : tie.Need-loop-less Inv-loop μ-loop
 loop-less c = omega arith
 
 loop-again : tie.Need-loop-again Inv-loop μ-loop
-loop-again c = let e = c .before .before .before .same-name .ensures in seat-next _ (now (c .before .before .before .before .before .before .before .before .before .before .before .before .args .text)) _ _ _ _ _ _ (c .before .before .before .before .before .before .before .before .loop .inv) (c .before .before .before .before .before .before .before .loop-test .taken) (span 0 0) _ (c .before .before .before .before .before .shown .ensures) _ (e .0) (c .if1 .left) _ (e .1) (e .2)
+loop-again c = let e = c .before .before .before .same-name .ensures in seat-next _ (now (c .before .before .before .before .before .before .before .before .before .before .before .before .args .text)) _ _ _ _ _ _ (c .before .before .before .before .before .before .before .before .loop .inv) (omega arith) (span 0 0) _ (c .before .before .before .before .before .shown .ensures) _ (e .0) (c .if1 .left) _ (e .1) (e .2)
 
 same-length-2 : tie.Need-same-length-2 Inv-loop μ-loop
 same-length-2 c = c .before .loop .inv .long
 
 returns-2 : tie.Need-returns-2 Inv-loop μ-loop
-returns-2 c = let i = c .before .loop .inv in (seats-end _ (now (c .before .before .before .before .before .args .text)) _ _ _ _ _ _ i (c .loop-test .left), i .looking, i .long)
+returns-2 c = let i = c .before .loop .inv in (seats-end _ (now (c .before .before .before .before .before .args .text)) _ _ _ _ _ _ i (omega arith), i .looking, i .long)
 
 pub any-same-spec : {M : Type 1} → statement M
 any-same-spec =

@@ -3,7 +3,7 @@
 use native.Mathlib.Omega.{arith}
 use denote.Ref.{now}
 use borrow.Author.Needs.{needs}
-use Rattle.file_finder.proofs.MeasureLaws.{ample, sum-small}
+use Rattle.file_finder.proofs.MeasureLaws.{file-most, sum-small}
 use Rattle.file_finder.proofs.measure.room_for.Statement.{statement}
 use Rattle.file_finder.proofs.measure.room_for.Tie as tie
 
@@ -14,7 +14,7 @@ add-if1 : tie.Need-add-if1
 add-if1 c = search needs
 
 returns : tie.Need-returns
-returns c = ample (now (c .before .before .args .text)) _ _ (c .before .before .pre .2) (c .if1 .taken)
+returns c = omega (arith, file-most (now (c .before .before .args .text)) (c .before .before .pre .2), c .if1 .taken)
 
 most-from-requires : tie.Need-most-from-requires
 most-from-requires c κs = search needs

@@ -1,4 +1,4 @@
--- `accents::marks::same_words` meets its contract. The loop's invariant: from i on the texts are as much the same as whole. The measure is what is left.
+-- `accents::marks::same_chars` meets its contract. The loop's invariant: from i on the texts are as much the same as whole. The measure is what is left.
 -- Assumes nothing.
 use Prim.Native.Nat.{_-_}
 use native.Mathlib.Omega.{arith}
@@ -7,8 +7,8 @@ use lib.ListN.{length}
 use denote.Ref.{now}
 use borrow.Author.Needs.{needs}
 use Rattle.accents.proofs.MarkLaws.{Words, words-differ, words-next, words-end}
-use Rattle.accents.proofs.marks.same_words.Statement.{statement}
-use Rattle.accents.proofs.marks.same_words.Tie as tie
+use Rattle.accents.proofs.marks.same_chars.Statement.{statement}
+use Rattle.accents.proofs.marks.same_chars.Tie as tie
 
 abbrev Inv-loop : tie.InvT-loop
 Inv-loop x y i₀ i = Words x y i
@@ -46,8 +46,8 @@ loop-again c = words-next (now (c .before .before .before .before .before .args 
 returns-2 : tie.Need-returns-2 Inv-loop μ-loop
 returns-2 c = words-end (now (c .before .before .args .x)) (now (c .before .before .args .y)) _ (c .before .loop .inv) (c .before .before .pre) (c .loop-test .left)
 
-pub same-words-spec : {M : Type 1} → statement M
-same-words-spec =
+pub same-chars-spec : {M : Type 1} → statement M
+same-chars-spec =
     tie.close
     (tie.spec
     Inv-loop

@@ -1,4 +1,4 @@
--- `accents_names::work::fill` meets its contract. The loop's invariant: what is left to put is what the rest from i on is mapped to. The measure is what is left of the length.
+-- `accents_names::work::put_mapped` meets its contract. The loop's invariant: what is left to put is what the rest from i on is mapped to. The measure is what is left of the length.
 -- Assumes nothing.
 use Prim.Native.Nat.{_-_}
 use native.Mathlib.Omega.{arith}
@@ -8,8 +8,8 @@ use Rattle.output.proofs.Laws.{Left, start}
 use Rattle.accents.specs.Mapping.{mapped}
 use Rattle.accents.specs.Chars.{chars}
 use Rattle.accents_names.proofs.FillLaws.{char-fits, char-put, chars-end}
-use Rattle.accents_names.proofs.work.fill.Statement.{statement}
-use Rattle.accents_names.proofs.work.fill.Tie as tie
+use Rattle.accents_names.proofs.work.put_mapped.Statement.{statement}
+use Rattle.accents_names.proofs.work.put_mapped.Tie as tie
 
 abbrev Inv-loop : tie.InvT-loop
 Inv-loop mappings s work₀ at n₀ i₀ work n i = Left work n (mapped (chars (drop i s))) work₀ at (mapped (chars s))
@@ -41,8 +41,8 @@ same-length c = c .before .loop .inv .long
 returns : tie.Need-returns Inv-loop μ-loop
 returns c = chars-end (now (c .before .before .before .before .args .s)) _ _ _ _ _ (c .before .loop .inv) (c .loop-test .left)
 
-pub fill-spec : {M : Type 1} → statement M
-fill-spec =
+pub put-mapped-spec : {M : Type 1} → statement M
+put-mapped-spec =
     tie.close
     (tie.spec
     Inv-loop
