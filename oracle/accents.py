@@ -30,7 +30,7 @@ def rows(items, n):
 
 def antt(mappings, classes):
     line = [("two" if len(to) == 2 else "one") + " " + " ".join("0x%X" % x for x in [c] + to) for c, to in mappings]
-    out = """-- The canonical mappings and the combining classes that sameness takes, from UnicodeData.txt, 15.0.0. Made by oracle/accents.py.
+    out = """-- The canonical mappings and the combining classes that sameness takes: an extract of UnicodeData.txt, 15.0.0, modified. Made by oracle/accents.py.
 -- (02: N3, "UnicodeData's canonical mappings for U+00C0 to U+024F, U+0300 to U+036F and U+1E00 to U+1EFF")
 use Prim.Native.Nat.{ℕ}
 use mathlib.Core.List.{List, [], _∷_}
@@ -54,7 +54,7 @@ classes =
 
 
 def rattle(mappings, classes):
-    out = "// The table of crates/accents/specs/Table.antt in numbers. Made by oracle/accents.py.\n\n"
+    out = "// An extract of UnicodeData.txt, 15.0.0, modified: the table of crates/accents/specs/Table.antt in numbers. Made by oracle/accents.py.\n\n"
     out += "// A word for each line, of 16 bits each: the character, the first and the second that it is mapped to; 0 where there is no second.\n"
     out += "pub(crate) const MAPPINGS: [u64; %d] = [\n" % len(mappings)
     out += "".join("    0x%04X_%04X_%04X,\n" % tuple(([c] + to + [0])[:3]) for c, to in mappings) + "];\n\n"
@@ -69,7 +69,7 @@ def char(c):
 
 
 def model(mappings, classes):
-    out = "//! Canonical mappings and combining classes, from UnicodeData.txt, 15.0.0. Made by\n//! `oracle/accents.py`.\n\n"
+    out = "//! Canonical mappings and combining classes: an extract of UnicodeData.txt, 15.0.0,\n//! modified. Made by `oracle/accents.py`.\n\n"
     out += "use std::ops::RangeInclusive;\n\n"
     out += "/// The characters that have a mapping, ascending, and what each is mapped to.\n"
     out += "pub const MAPPINGS: &[(char, &[char])] = &[\n"

@@ -67,62 +67,63 @@ fn sameness() {
 
 // The finder
 
-/// The spellings of which `host/tests/names.rs` tells which are one name, each looked
-/// for among all.
+/// The spellings of which `host/tests/names.rs` tells which are one name.
+const SPELLINGS: [&str; 49] = [
+    "",
+    "José",
+    "Jose\u{301}",
+    "Jose",
+    "JOSÉ",
+    "José ",
+    "\u{FEFF}José",
+    "\u{1EF1}",
+    "\u{1B0}\u{323}",
+    "u\u{31B}\u{323}",
+    "u\u{323}\u{31B}",
+    "\u{1EE5}\u{31B}",
+    "\u{340}",
+    "\u{300}",
+    "\u{341}",
+    "\u{343}",
+    "\u{344}",
+    "\u{308}\u{301}",
+    "a\u{300}\u{301}",
+    "a\u{301}\u{300}",
+    "a\u{300}\u{323}\u{301}",
+    "a\u{323}\u{300}\u{301}",
+    "\u{212B}",
+    "\u{C5}",
+    "A\u{30A}",
+    "\u{451}",
+    "\u{435}\u{308}",
+    "\u{42F}\u{301}\u{323}",
+    "\u{42F}\u{323}\u{301}",
+    "a\u{301}\u{59A}\u{323}",
+    "a\u{323}\u{59A}\u{301}",
+    "a\u{301}\u{1DC4}\u{323}",
+    "a\u{323}\u{1DC4}\u{301}",
+    "a\u{301}\u{34F}\u{323}",
+    "a\u{323}\u{34F}\u{301}",
+    "\u{1E9B}",
+    "\u{17F}\u{307}",
+    "\u{1E61}",
+    "s\u{307}",
+    "\u{132}",
+    "IJ",
+    "\u{149}",
+    "\u{17F}",
+    "s",
+    "\u{1C4}",
+    "D\u{17D}",
+    "\u{1E9A}",
+    "\u{1F600}",
+    "\u{1F600}\u{301}\u{323}",
+];
+
+/// Each of the spellings, looked for among all.
 #[test]
 fn spellings_by_hand() {
-    let all = [
-        "",
-        "José",
-        "Jose\u{301}",
-        "Jose",
-        "JOSÉ",
-        "José ",
-        "\u{FEFF}José",
-        "\u{1EF1}",
-        "\u{1B0}\u{323}",
-        "u\u{31B}\u{323}",
-        "u\u{323}\u{31B}",
-        "\u{1EE5}\u{31B}",
-        "\u{340}",
-        "\u{300}",
-        "\u{341}",
-        "\u{343}",
-        "\u{344}",
-        "\u{308}\u{301}",
-        "a\u{300}\u{301}",
-        "a\u{301}\u{300}",
-        "a\u{300}\u{323}\u{301}",
-        "a\u{323}\u{300}\u{301}",
-        "\u{212B}",
-        "\u{C5}",
-        "A\u{30A}",
-        "\u{451}",
-        "\u{435}\u{308}",
-        "\u{42F}\u{301}\u{323}",
-        "\u{42F}\u{323}\u{301}",
-        "a\u{301}\u{59A}\u{323}",
-        "a\u{323}\u{59A}\u{301}",
-        "a\u{301}\u{1DC4}\u{323}",
-        "a\u{323}\u{1DC4}\u{301}",
-        "a\u{301}\u{34F}\u{323}",
-        "a\u{323}\u{34F}\u{301}",
-        "\u{1E9B}",
-        "\u{17F}\u{307}",
-        "\u{1E61}",
-        "s\u{307}",
-        "\u{132}",
-        "IJ",
-        "\u{149}",
-        "\u{17F}",
-        "s",
-        "\u{1C4}",
-        "D\u{17D}",
-        "\u{1E9A}",
-        "\u{1F600}",
-        "\u{1F600}\u{301}\u{323}",
-    ];
-    let names = all.map(str::to_string);
+    let names = SPELLINGS.map(str::to_string);
     let text = file(&names);
     names
         .iter()
@@ -159,29 +160,33 @@ fn every_mapping() {
     }
 }
 
+/// In work space of several lengths, and of one by chance.
+fn compared_in(text: &[u8], name: &[u8], rng: &mut Rng) {
+    compared(text, name);
+    compare::name_in(text, name, rng.below(100)).unwrap();
+}
+
 #[test]
 fn random_names() {
     let rng = &mut Rng::new(66);
     for _ in 0..4_000 {
         let samples::names::Asked { text, names } = samples::names::asked(rng);
-        for name in names {
-            compared(&text, &name);
-            compare::name_in(&text, &name, rng.below(100)).unwrap();
-        }
+        names.iter().for_each(|name| compared_in(&text, name, rng));
     }
+}
+
+/// As many boards have the name as it was made for.
+fn hostile(Asked { text, name, boards }: Asked) {
+    let (text, name) = (text.as_bytes(), name.as_bytes());
+    assert_eq!(find_name(text, name, usize::MAX), Ok(boards));
+    compared(text, name);
 }
 
 #[test]
 fn hostile_names() {
-    for hostile in hostile_names::ALL {
-        for len in [1_000, LIMIT / 16] {
-            let Asked { text, name, boards } = (hostile.made)(len);
-            assert_eq!(
-                find_name(text.as_bytes(), name.as_bytes(), usize::MAX),
-                Ok(boards)
-            );
-            compared(text.as_bytes(), name.as_bytes());
-        }
+    for kind in hostile_names::ALL {
+        let asked = [1_000, LIMIT / 16].map(kind.made);
+        asked.into_iter().for_each(hostile);
     }
 }
 
@@ -213,9 +218,7 @@ fn texts_beyond_the_limit_and_no_texts() {
     let ill = vec![0xFF; LIMIT + 1];
     let all: [&[u8]; 7] = [b"pn|a|", b"", b"\xC3", b"pn|\xCC|", &long[1..], &long, &ill];
     for text in all {
-        for name in all {
-            compared(text, name);
-        }
+        all.iter().for_each(|name| compared(text, name));
     }
     // no place is asked for where a text is refused
     assert_eq!(files::find_name(&long, &ill), Err(Refusal::TextTooLong));

@@ -52,9 +52,8 @@ fn same(one: &str, other: &str) -> bool {
 /// All spellings of one name.
 fn all_same(spellings: &[&str]) {
     for one in spellings {
-        for other in spellings {
-            assert!(same(one, other), "{one:?}, {other:?}");
-        }
+        let another = spellings.iter().find(|other| !same(one, other));
+        assert_eq!(another, None, "{one:?}");
     }
 }
 
@@ -120,14 +119,18 @@ fn marks_of_one_class_keep_their_order() {
     assert!(!same("a\u{301}\u{301}\u{300}", "a\u{301}\u{300}\u{300}"));
 }
 
+/// After any letter, and after none.
 #[test]
 fn runs_of_marks() {
-    // after any letter, and after none
     for letter in ["", "x", "\u{42F}", "\u{674E}", "\u{1F600}"] {
         let spelled = |marks: &str| format!("{letter}{marks}");
         assert!(same(&spelled("\u{301}\u{323}"), &spelled("\u{323}\u{301}")));
     }
-    // of class 0: a letter, U+034F, and marks outside of the range
+}
+
+/// A run ends at what has class 0: a letter, U+034F, and marks outside of the range.
+#[test]
+fn ends_of_runs() {
     for end in [
         "x", "\u{34F}", "\u{59A}", "\u{1DC4}", "\u{20D0}", "\u{FEFF}",
     ] {
@@ -215,6 +218,27 @@ fn places_needed() {
     assert_eq!(needed("md|1|pn|a,b,c,d,José|", "é"), 3);
 }
 
+/// The first of the refusals of a file and a name: 1 of either is before 2 of either.
+fn first(of_text: Option<Refusal>, of_name: Option<Refusal>) -> Option<Refusal> {
+    let too_long = Some(Refusal::TextTooLong);
+    if [of_text, of_name].contains(&too_long) {
+        return too_long;
+    }
+    of_text.or(of_name)
+}
+
+/// Refused with the first, or with 7 where there is none and the work space is too short;
+/// no place is changed.
+fn refused(text: &[u8], name: &[u8], first: Option<Refusal>) {
+    assert_eq!(files::find_name(text, name).err(), first);
+    for places in [0, 6] {
+        let mut work = vec![7; places];
+        let answer = find_name_in(text, name, &mut work);
+        let want = first.unwrap_or(Refusal::OutputTooSmall(7));
+        assert_eq!((answer, work), (Err(want), vec![7; places]));
+    }
+}
+
 /// Every combination of faults: 1 of the file, 1 of the name, 2 of the file, 2 of the
 /// name, then 7; no place is changed.
 #[test]
@@ -231,19 +255,8 @@ fn refusals_in_order() {
         (&long, Some(Refusal::TextTooLong)),
     ];
     for (text, of_text) in texts {
-        for (name, of_name) in names {
-            let both = [of_text, of_name];
-            let too_long = Some(Refusal::TextTooLong);
-            let first = both.into_iter().find(|r| *r == too_long);
-            let first = first.or(both.into_iter().find(Option::is_some)).flatten();
-            assert_eq!(files::find_name(text, name).err(), first);
-            for places in [0, 6] {
-                let mut work = vec![7; places];
-                let answer = find_name_in(text, name, &mut work);
-                let want = first.unwrap_or(Refusal::OutputTooSmall(7));
-                assert_eq!((answer, work), (Err(want), vec![7; places]));
-            }
-        }
+        let asked = |(name, of_name)| refused(text, name, first(of_text, of_name));
+        names.into_iter().for_each(asked);
     }
     let enough = find_name_in("pn|José|".as_bytes(), "é".as_bytes(), &mut [7; 7]);
     assert_eq!(enough, Ok(0));

@@ -231,6 +231,12 @@ mod tests {
     use crate::lin::parse_lin_file;
     use std::collections::HashSet;
 
+    /// Whether a text is of the ranges and ASCII, and can be a name.
+    fn is_name(t: &Judged) -> bool {
+        let allowed = |c: char| c.is_ascii() || accented(&c.to_string());
+        t.text.chars().all(allowed) && !t.text.contains(['|', ',', '\r', '\n'])
+    }
+
     /// Every text is of the ranges and ASCII, and can be a name; none is twice among its
     /// kind.
     #[test]
@@ -238,11 +244,7 @@ mod tests {
         for kind in kinds() {
             let texts: HashSet<&String> = kind.iter().map(|t| &t.text).collect();
             assert_eq!(texts.len(), kind.len());
-            for t in &kind {
-                let allowed = |c: char| c.is_ascii() || accented(&c.to_string());
-                assert!(t.text.chars().all(allowed), "{t:?}");
-                assert!(!t.text.contains(['|', ',', '\r', '\n']), "{t:?}");
-            }
+            assert_eq!(kind.iter().find(|t| !is_name(t)), None);
         }
     }
 
@@ -273,43 +275,54 @@ mod tests {
         assert!(n >= 1_000);
     }
 
+    /// The names of the four seats, empty where none is set.
+    fn seats(names: &[Judged]) -> [String; 4] {
+        let name = |seat: usize| names.get(seat).map(|name| name.text.clone());
+        [0, 1, 2, 3].map(|seat| name(seat).unwrap_or_default())
+    }
+
     /// The boards of a file are those that were meant, by upstream.
     #[test]
     fn boards_are_those_meant() {
         for file in files().iter().flatten() {
             let Ok(boards) = parse_lin_file(&file.text());
-            assert_eq!(boards.len(), file.boards.len());
-            for (board, names) in boards.iter().zip(&file.boards) {
-                let mut want: [String; 4] = Default::default();
-                for (seat, name) in want.iter_mut().zip(names) {
-                    *seat = name.text.clone();
-                }
-                assert_eq!(board.player_names, want);
-            }
+            let names = boards.into_iter().map(|board| board.player_names);
+            let want = file.boards.iter().map(|names| seats(names));
+            assert_eq!(Vec::from_iter(names), Vec::from_iter(want));
         }
     }
 
+    /// Whether no board has the name, one has it, and more have it; and whether it is
+    /// spelled otherwise on all that have it.
+    fn seen(file: &Asked, name: &Judged) -> [bool; 4] {
+        let n = file.having(name);
+        let as_it_is = |t: &Judged| t.text == name.text;
+        let here = file.boards.iter().flatten().any(as_it_is);
+        [n == 0, n == 1, n > 1, n > 0 && !here]
+    }
+
     /// Names that no board has, that one has, and that several have, among them spelled
-    /// otherwise on all of these; and the places that are lent to spare are enough to
-    /// walk a file once.
+    /// otherwise on all of these.
     #[test]
     fn names_of_every_kind() {
         for (files, line) in files().iter().zip(LINES.iter().step_by(3)) {
-            let mut seen = [0; 4];
-            for file in files {
-                for name in &file.sought {
-                    let n = file.having(name);
-                    seen[n.min(2)] += 1;
-                    let as_it_is = |t: &Judged| t.text == name.text;
-                    let here = file.boards.iter().flatten().any(as_it_is);
-                    seen[3] += usize::from(n > 0 && !here);
-                }
-                let most = file.sought.iter().map(Judged::places).max();
-                let once = most.unwrap_or(0) + (3 * file.text().len()).div_ceil(2);
-                assert!(once <= finder::TO_SPARE as usize, "{once}");
-            }
+            let sought = files
+                .iter()
+                .flat_map(|f| f.sought.iter().map(move |n| (f, n)));
+            let all: Vec<[bool; 4]> = sought.map(|(file, name)| seen(file, name)).collect();
+            let seen = [0, 1, 2, 3].map(|kind| all.iter().filter(|s| s[kind]).count());
             println!("{line}: on no board, one, more; spelled otherwise: {seen:?}");
             assert!(seen.iter().all(|n| *n >= 100), "{line} {seen:?}");
+        }
+    }
+
+    /// The places that are lent to spare are enough to walk a file once.
+    #[test]
+    fn places_to_spare() {
+        for file in files().iter().flatten() {
+            let most = file.sought.iter().map(Judged::places).max();
+            let once = most.unwrap_or(0) + (3 * file.text().len()).div_ceil(2);
+            assert!(once <= finder::TO_SPARE as usize, "{once}");
         }
     }
 }

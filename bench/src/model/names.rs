@@ -173,14 +173,19 @@ mod tests {
         assert!(same_name("José", "Jose\u{301}"));
     }
 
+    /// Whether mapping and ordering a second time changes something.
+    fn changes_again(name: &str) -> bool {
+        let once = canonical(name);
+        canonical(&String::from_iter(&once)) != once
+    }
+
     /// Mapping and ordering a second time changes nothing.
     #[test]
     fn a_second_time() {
         for (c, _) in MAPPINGS {
-            for mark in '\u{300}'..='\u{36F}' {
-                let once = canonical(&format!("\u{301}{c}{mark}\u{323}"));
-                assert_eq!(canonical(&String::from_iter(&once)), once);
-            }
+            let marks = '\u{300}'..='\u{36F}';
+            let mut names = marks.map(|mark| format!("\u{301}{c}{mark}\u{323}"));
+            assert_eq!(names.find(|name| changes_again(name)), None);
         }
     }
 

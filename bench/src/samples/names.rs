@@ -298,29 +298,33 @@ mod tests {
         assert!(other_names > 2_500, "{other_names}");
     }
 
+    /// Whether boards have the name by its bytes, whether more have it by accents, and
+    /// whether there are boards and none has it; none of these where a text is refused.
+    fn found(text: &[u8], name: &[u8]) -> [bool; 3] {
+        let Ok((text, name)) = opened(text, name) else {
+            return [false; 3];
+        };
+        let boards = parse_lin_file(text);
+        let found = among(&boards, name).boards;
+        let same = boards
+            .iter()
+            .filter(|b| b.player_names.contains(&name.to_string()));
+        let same = same.count() as u64;
+        [same > 0, found > same, found == 0 && !boards.is_empty()]
+    }
+
     /// Names are found often, not by their bytes alone, and often not found in files
     /// that have boards.
     #[test]
     fn found_and_not() {
         let rng = &mut Rng::new(62);
-        let (mut by_bytes, mut by_accents, mut none) = (0, 0, 0);
+        let mut all = Vec::new();
         for _ in 0..2_000 {
             let Asked { text, names } = asked(rng);
-            for name in names {
-                let Ok((text, name)) = opened(&text, &name) else {
-                    continue;
-                };
-                let boards = parse_lin_file(text);
-                let found = among(&boards, name).boards;
-                let same = boards
-                    .iter()
-                    .filter(|b| b.player_names.contains(&name.to_string()));
-                let same = same.count() as u64;
-                by_bytes += u64::from(same > 0);
-                by_accents += u64::from(found > same);
-                none += u64::from(found == 0 && !boards.is_empty());
-            }
+            all.extend(names.iter().map(|name| found(&text, name)));
         }
+        let count = |kind: usize| all.iter().filter(|found| found[kind]).count();
+        let [by_bytes, by_accents, none] = [0, 1, 2].map(count);
         println!("{by_bytes} by bytes, {by_accents} by accents, {none} not");
         assert!(by_bytes > 500 && by_accents > 500 && none > 500);
     }

@@ -9,6 +9,7 @@ use borrow.Author.Tests.{ltb-true, leb-true}
 use Rattle.lin_spec.specs.Base.{All, all}
 use Rattle.lin_spec.specs.Utf8.{utf8, encodeAll, scalar}
 use Rattle.lin_spec.proofs.Base.{and-right, picked}
+use Rattle.lin_spec.proofs.Accepted.{all-left, all-right}
 use Rattle.lin_spec.proofs.Utf8.{decoded}
 use Rattle.accents.specs.Table.{Mapping, mappingTable}
 use Rattle.accents.specs.Table.Mapping.{one, two}
@@ -97,18 +98,10 @@ small-before c =
     lookup-cases (λ (s : List ℕ). All Small s → Small c) c mappingTable (λ _ h. h .0)
     (lines-past c mappingTable (at-each (λ (m : Mapping). leb 0x80 (lastOf m)) mappingTable table-past))
 
-all-left : (x y : List ℕ) → All Small (x ++ y) → All Small x
-all-left [] y h = tt
-all-left (c ∷ x) y h = (h .0, all-left x y (h .1))
-
-all-right : (x y : List ℕ) → All Small (x ++ y) → All Small y
-all-right [] y h = h
-all-right (c ∷ x) y h = all-right x y (h .1)
-
 once-before : (s : List ℕ) → All Small (mapOnce s) → All Small s
 unfolding mapOnce
 once-before [] h = tt
-once-before (c ∷ s) h = (small-before c (all-left (lookup mappingTable c) (mapOnce s) h), once-before s (all-right (lookup mappingTable c) (mapOnce s) h))
+once-before (c ∷ s) h = (small-before c (all-left Small (lookup mappingTable c) (mapOnce s) h), once-before s (all-right Small (lookup mappingTable c) (mapOnce s) h))
 
 times-before : (n : ℕ) (s : List ℕ) → All Small (mapTimes n s) → All Small s
 unfolding mapTimes

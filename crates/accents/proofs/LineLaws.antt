@@ -9,11 +9,12 @@ use lib.Dec.{eqb, ltb}
 use lib.ListN.{length, getD}
 use borrow.Author.Tests.{eq-eqb, ne-eqb, ltb-true, lt-ltb, le-ltb, lt-leb}
 use Rattle.lin_spec.specs.Base.{pick, All, all, eqAll, eqList}
-use Rattle.lin_spec.proofs.Base.{and-left, and-right, picked, split, eq-list}
+use Rattle.lin_spec.proofs.Base.{and-left, and-right, picked, split, eq-list, all-at}
 use Rattle.accents.specs.Table.{Mapping, mappingTable}
-use Rattle.accents.specs.Mapping.{charOf, given, lookup, rising}
+use Rattle.accents.specs.Table.Mapping.{one}
+use Rattle.accents.specs.Mapping.{charOf, given, lookup, mapOnce, rising, inRanges}
 use Rattle.accents.specs.Lines.{firstGiven, secondGiven, lineWord, tableWords, near, mappingAt, linesBelow}
-use Rattle.accents.proofs.MappingLaws.{table-rises, at-each}
+use Rattle.accents.proofs.MappingLaws.{Plain, table-rises, at-each, each-settles}
 
 -- The number of a line
 
@@ -62,7 +63,7 @@ rises-at m [] i h k = absurd (not-suc-le-zero k)
 rises-at m (n ∷ t) zero h k = rises-first m n t h
 rises-at m (n ∷ t) (suc i) h k = omega (arith, rises-first m n t h, rises-at n t i (rises-rest m (n ∷ t) h) (le-of-suc-le-suc k))
 
-pub rises-two : (t : List Mapping) (i j : ℕ) → rising t ≡ true → i < j → j < length t → charOf (mappingAt t i) < charOf (mappingAt t j)
+rises-two : (t : List Mapping) (i j : ℕ) → rising t ≡ true → i < j → j < length t → charOf (mappingAt t i) < charOf (mappingAt t j)
 rises-two [] i j r l h = absurd (not-suc-le-zero h)
 rises-two (m ∷ t) i zero r l h = absurd (not-suc-le-zero l)
 rises-two (m ∷ t) zero (suc j) r l h = rises-at m t j r (le-of-suc-le-suc h)
@@ -127,11 +128,28 @@ table-narrow : all narrow mappingTable ≡ true
 unfolding mappingTable all narrow
 table-narrow = refl
 
--- what holds of each line holds of the line of a number
-line-of : (P : Mapping → Type 0) (t : List Mapping) → All P t → (i : ℕ) → i < length t → P (mappingAt t i)
-line-of P [] h i k = absurd (not-suc-le-zero k)
-line-of P (m ∷ t) h zero k = h .0
-line-of P (m ∷ t) h (suc i) k = line-of P t (h .1) i (le-of-suc-le-suc k)
+-- The rule at any line: its character is below those of the lines after it, and to what it gives no mapping applies after it is mapped once
+pub record LineRule (i : ℕ) : Type 0 where
+  pub rises : (j : ℕ) → i < j → j < length mappingTable → charOf (mappingAt mappingTable i) < charOf (mappingAt mappingTable j)
+  pub ends : All Plain (mapOnce (given (mappingAt mappingTable i)))
+
+pub table-line : (i : ℕ) → i < length mappingTable → LineRule i
+table-line i h = record {
+  rises = λ j l k. rises-two mappingTable i j table-rises l k;
+  ends = all-at (λ (m : Mapping). All Plain (mapOnce (given m))) mappingTable i (one 0 0) each-settles h;
+}
+
+-- a test that all lines pass, at any line
+each-line : (f : Mapping → Bool) → all f mappingTable ≡ true → (i : ℕ) → i < length mappingTable → f (mappingAt mappingTable i) ≡ true
+each-line f h i k = all-at (λ (m : Mapping). f m ≡ true) mappingTable i (one 0 0) (at-each f mappingTable h) k
+
+-- "for U+00C0 to U+024F, U+0300 to U+036F and U+1E00 to U+1EFF": every other character is mapped to itself
+table-ranges : all (λ (m : Mapping). inRanges (charOf m)) mappingTable ≡ true
+unfolding mappingTable all inRanges
+table-ranges = refl
+
+pub outside-ranges : (c : ℕ) → inRanges c ≡ false → lookup mappingTable c ≡ c ∷ []
+outside-ranges c h = lookup-none mappingTable c (λ j k f. false≢true (sym h ∙ ap inRanges (sym f) ∙ each-line (λ (m : Mapping). inRanges (charOf m)) table-ranges j k))
 
 -- Steps of the code, over the numbers w of the table
 
@@ -148,7 +166,7 @@ module _ (w : List ℕ) (e : w ≡ tableWords mappingTable) (c i x : ℕ) (d : x
   fits : (firstGiven (mappingAt mappingTable i) < 65536) × (secondGiven (mappingAt mappingTable i) < 65536)
   unfolding narrow
   fits =
-      let n = line-of (λ (m : Mapping). narrow m ≡ true) mappingTable (at-each narrow mappingTable table-narrow) i within in
+      let n = each-line narrow table-narrow i within in
       (ltb-true (firstGiven (mappingAt mappingTable i)) 65536 (and-left (ltb (firstGiven (mappingAt mappingTable i)) 65536) (ltb (secondGiven (mappingAt mappingTable i)) 65536) n), ltb-true (secondGiven (mappingAt mappingTable i)) 65536 (and-right (ltb (firstGiven (mappingAt mappingTable i)) 65536) (ltb (secondGiven (mappingAt mappingTable i)) 65536) n))
 
   char-is : x ≡ charOf (mappingAt mappingTable i)
@@ -180,7 +198,7 @@ module _ (w : List ℕ) (e : w ≡ tableWords mappingTable) (c i x : ℕ) (d : x
     found =
         let y : a ≡ firstGiven (mappingAt mappingTable i) = u ∙ ap (λ (n : ℕ). n / 65536 % 65536) there ∙ first-part (charOf (mappingAt mappingTable i)) (firstGiven (mappingAt mappingTable i)) (secondGiven (mappingAt mappingTable i)) (fits .0) (fits .1) in
         let z : b ≡ secondGiven (mappingAt mappingTable i) = v ∙ ap (λ (n : ℕ). n % 65536) there ∙ second-part (charOf (mappingAt mappingTable i)) (firstGiven (mappingAt mappingTable i)) (secondGiven (mappingAt mappingTable i)) (fits .1) in
-        let g = eq-list _ _ (line-of (λ (m : Mapping). fits-given m ≡ true) mappingTable (at-each fits-given mappingTable table-given) i within) in
+        let g = eq-list _ _ (each-line fits-given table-given i within) in
         rw (y, z) (sym g ∙ sym (lookup-there mappingTable c i p within (sym char-is ∙ f)))
 
     pub one-there : b ≡ 0 → a ∷ [] ≡ lookup mappingTable c
@@ -198,7 +216,7 @@ pub outside-lines : (c : ℕ) → near c ≡ false → c ∷ [] ≡ lookup mappi
 outside-lines c h =
     sym
     (lookup-none mappingTable c
-    (λ j k f. false≢true (sym h ∙ ap near (sym f) ∙ line-of (λ (m : Mapping). near (charOf m) ≡ true) mappingTable (at-each (λ (m : Mapping). near (charOf m)) mappingTable table-near) j k)))
+    (λ j k f. false≢true (sym h ∙ ap near (sym f) ∙ each-line (λ (m : Mapping). near (charOf m)) table-near j k)))
 
 -- as is one below C0 hex
 pub below-lines : (c : ℕ) → c < 0xC0 → c ∷ [] ≡ lookup mappingTable c

@@ -11,8 +11,8 @@ use lib.Seq.{drop-cons, take-suc, take-all}
 use borrow.Author.Tests.{eq-eqb, ne-eqb, le-leb, lt-leb}
 use Rattle.lin_spec.specs.Base.{All, keep, eqAll, eqList}
 use Rattle.lin_spec.proofs.Base.{split, list-eq, eq-list, eq-length, all-append}
-use Rattle.accents.specs.Ordering.{class, order, inClass, ofClass, ranks}
-use Rattle.accents.specs.Marks.{NextIn}
+use Rattle.accents.specs.Ordering.{class, order, inClass, ofClass}
+use Rattle.accents.specs.Marks.{NextIn, ranks}
 use Rattle.accents.proofs.OrderingLaws.{order-length, same-classes, class-in, class-out}
 use Rattle.accents.proofs.ClassLaws.{ranks-same}
 

@@ -41,7 +41,7 @@ pub fn sought_of(mappings: &[u64; 501], name: &[u8]) -> Sought
     Sought { places, ascii }
 }
 
-// Puts its mapped characters at the front of the work space. A name of ASCII is compared by its bytes, and needs none there.
+// Puts the mapped characters of the name that is looked for at the front of the work space. One of ASCII is compared by its bytes, and needs none there.
 pub fn lay_sought(mappings: &[u64; 501], name: &[u8], sought: Sought, work: &mut [u32])
     requires { ⌜ Known (now name) sought × Fillable (now mappings) (now name) (now work) 0 ⌝ }
     ensures { λ r. ⌜ Laid (now (name .entry)) sought (now (work .exit)) × (length (now (work .exit)) ≡ length (now (work .entry))) ⌝ }
@@ -52,7 +52,7 @@ pub fn lay_sought(mappings: &[u64; 501], name: &[u8], sought: Sought, work: &mut
     put_mapped(mappings, name, work, 0);
 }
 
-// Whether `x` is the same name. Names of different numbers of mapped characters are not, so that a long name costs nothing against short ones.
+// Whether `x` is the same name. Names of different numbers of mapped characters are not, so that a long name is not walked again for each short one.
 pub fn same_name(
     mappings: &[u64; 501],
     x: &[u8],

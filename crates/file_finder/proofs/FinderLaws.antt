@@ -1,7 +1,6 @@
 -- Laws of the name finder: the seats of a board, a section with the name, the boards counted, and the entry. (01: names; 02: N3)
 -- Assumes nothing.
-use Prim.Native.Nat.{ℕ, zero, suc, _+_, _*_, _^_, _≤_, _<_}
-use native.Mathlib.Nat.{not-suc-le-zero, le-of-suc-le-suc}
+use Prim.Native.Nat.{ℕ, _+_, _^_, _≤_, _<_}
 use native.Mathlib.Omega.{arith}
 use mathlib.Core.Path.{_≡_, refl, ap, sym, subst, _∙_}
 use mathlib.Core.Bool.{Bool, true, false, _&&_, not, false≢true}
@@ -19,7 +18,7 @@ use Rattle.lin_spec.specs.Board.{BoardOf}
 use Rattle.lin_spec.specs.File.{Section as Part, holds, Standing, sections, boardsOf, boardIn, fileSpans, remaining}
 use Rattle.lin_spec.specs.declared.Span.{Span}
 use Rattle.lin_spec.specs.declared.Refusal.the-variants.{TextTooLong, NotUtf8, OutputTooSmall}
-use Rattle.lin_spec.proofs.Base.{picked}
+use Rattle.lin_spec.proofs.Base.{picked, all-at}
 use Rattle.lin_spec.proofs.Utf8.{short, whole-text}
 use Rattle.lin_spec.proofs.Accepted.{all-left, all-right}
 use Rattle.lin_spec.proofs.Lendable.{Legal, boards-legal}
@@ -43,11 +42,6 @@ use Rattle.file_finder.specs.declared.measure.Room.{Room}
 use Rattle.file_finder.proofs.MeasureLaws.{shown-small, greatest-room, sum-small}
 
 -- The seats of a board
-
-all-at : {A : Type 0} (P : A → Type 0) (xs : List A) (i : ℕ) (d : A) → All P xs → i < length xs → P (getD xs i d)
-all-at P [] i d h l = absurd (not-suc-le-zero l)
-all-at P (x ∷ xs) zero d h l = h .0
-all-at P (x ∷ xs) (suc i) d h l = all-at P xs i d (h .1) (le-of-suc-le-suc l)
 
 -- the test of a seat
 abbrev pub isAt : (s name : List ℕ) → Span → Bool

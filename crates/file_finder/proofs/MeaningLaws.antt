@@ -18,36 +18,21 @@ use Rattle.lin_spec.specs.File.{fileSpans}
 use Rattle.lin_spec.specs.declared.Span.{Span}
 use Rattle.lin_spec.specs.declared.Refusal.{Refusal}
 use Rattle.lin_spec.specs.declared.Refusal.the-variants.{NotUtf8}
+use Rattle.lin_spec.proofs.Base.{every, any-alike, keep-alike}
 use Rattle.lin_spec.proofs.Lendable.{Legal, boards-legal}
 use Rattle.accents.specs.Names.{sameName, places, onlyAscii}
 use Rattle.accents.proofs.NameLaws.{same-alike, same-places, ascii-same}
 use Rattle.file_finder.specs.Finder.{hasName, mostPlaces, placesNeeded, findName}
 use Rattle.file_finder.proofs.MeasureLaws.{needed-most}
 
--- Tests that agree on each element
-
-any-alike : {A : Type 0} (f g : A → Bool) (xs : List A) → All (λ (x : A). f x ≡ g x) xs → any f xs ≡ any g xs
-unfolding any
-any-alike f g [] h = refl
-any-alike f g (x ∷ xs) h = simp (h .0, any-alike f g xs (h .1))
-
-keep-alike : {A : Type 0} (f g : A → Bool) (xs : List A) → All (λ (x : A). f x ≡ g x) xs → keep f xs ≡ keep g xs
-unfolding keep
-keep-alike f g [] h = refl
-keep-alike f g (x ∷ xs) h = simp (h .0, keep-alike f g xs (h .1))
-
-each : {A : Type 0} (P : A → Type 0) → ((x : A) → P x) → (xs : List A) → All P xs
-each P f [] = tt
-each P f (x ∷ xs) = (f x, each P f xs)
-
 -- Names that are the same
 
 pub found-alike : (s a b : List ℕ) → sameName a b ≡ true → (bs : List (BoardOf Span)) → countIf (hasName s a) bs ≡ countIf (hasName s b) bs
 found-alike s a b h bs =
-    ap length (keep-alike (hasName s a) (hasName s b) bs (each (λ (c : BoardOf Span). hasName s a c ≡ hasName s b c) alike bs))
+    ap length (keep-alike (hasName s a) (hasName s b) bs (every (λ (c : BoardOf Span). hasName s a c ≡ hasName s b c) alike bs))
   where
     alike : (c : BoardOf Span) → hasName s a c ≡ hasName s b c
-    alike c = any-alike (λ (x : Span). sameName (bytesAt s x) a) (λ (x : Span). sameName (bytesAt s x) b) (c .names) (each (λ (x : Span). sameName (bytesAt s x) a ≡ sameName (bytesAt s x) b) (λ x. same-alike a b (bytesAt s x) h) (c .names))
+    alike c = any-alike (λ (x : Span). sameName (bytesAt s x) a) (λ (x : Span). sameName (bytesAt s x) b) (c .names) (every (λ (x : Span). sameName (bytesAt s x) a ≡ sameName (bytesAt s x) b) (λ x. same-alike a b (bytesAt s x) h) (c .names))
 
 -- the answer is the same for both, 7 too: an editor finds the same films from either keyboard
 pub find-alike : (s a b : List ℕ) (room : ℕ) → length a ≤ limit → length b ≤ limit → utf8 a ≡ true → utf8 b ≡ true → sameName a b ≡ true → findName s a room ≡ findName s b room

@@ -123,7 +123,8 @@ fn find_checked(text: &[u8], name: &[u8], work: &mut [u32]) -> Counted
     Counted::Count(find_from(&table, text, cursor, name, sought, work))
 }
 
-// How many boards of the file have the name at any seat. The work space has a place for each mapped character of the name and of the file's longest one.
+// How many boards of the file have the name at any seat; 7 unless the work space has a place for each mapped character of the name, and of that name of the
+// file's boards that has most.
 pub fn find_name(text: &[u8], name: &[u8], work: &mut [u32]) -> Counted
     ensures { λ r. ⌜ Finds (now (text .entry)) (now (name .entry)) (now (work .entry)) (countedOf r) (now (work .exit)) ⌝ }
 {

@@ -79,7 +79,7 @@ fn most_from(mappings: &[u64; 501], text: &[u8], cursor: BoardCursor) -> usize
     }
 }
 
-// Whether the room is enough for a name that takes so many places. A name of n bytes is mapped to n + n / 2 characters at the most, so the names are measured
+// Whether the room is enough for a name that takes so many places. A UTF-8 text of n bytes is mapped to n + n / 2 characters at the most, so the names are measured
 // only where the room is less than that of the whole text.
 pub fn room_for(
     mappings: &[u64; 501],

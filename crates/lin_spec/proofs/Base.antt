@@ -2,12 +2,12 @@
 -- that are the same, a list that begins with another, what holds of every element, the elements that are kept.
 -- Assumes nothing.
 use Prim.Native.Nat.{ℕ, zero, suc, _+_, _<_, _≤_}
-use native.Mathlib.Nat.{not-suc-le-zero}
+use native.Mathlib.Nat.{not-suc-le-zero, le-of-suc-le-suc}
 use native.Mathlib.Omega.{arith}
 use mathlib.Core.Path.{_≡_, refl, ap, sym, _∙_}
 use mathlib.Core.Bool.{Bool, true, false, _&&_, _||_, false≢true, and-false, or-assoc}
 use mathlib.Core.List.{List, [], _∷_, _++_, map}
-use lib.ListN.{length, drop, length-append}
+use lib.ListN.{length, drop, getD, length-append}
 use lib.Dec.{eqb, ltb}
 use borrow.Author.Tests.{eq-eqb, eqb-true, eqb-false, ltb-true, ltb-false}
 use Rattle.lin_spec.specs.Base.{pick, All, any, keep, countIf, eqAll, eqList, starts}
@@ -116,6 +116,23 @@ all-append P (a ∷ x) y h k = (h .0, all-append P x y (h .1) k)
 pub every : {A : Type 0} (P : A → Type 0) → ((a : A) → P a) → (x : List A) → All P x
 every P h [] = tt
 every P h (a ∷ x) = (h a, every P h x)
+
+-- what holds of each element holds of the one at a place
+pub all-at : {A : Type 0} (P : A → Type 0) (x : List A) (i : ℕ) (d : A) → All P x → i < length x → P (getD x i d)
+all-at P [] i d h l = absurd (not-suc-le-zero l)
+all-at P (a ∷ x) zero d h l = h .0
+all-at P (a ∷ x) (suc i) d h l = all-at P x i d (h .1) (le-of-suc-le-suc l)
+
+-- tests that agree on each element
+pub any-alike : {A : Type 0} (f g : A → Bool) (x : List A) → All (λ (a : A). f a ≡ g a) x → any f x ≡ any g x
+unfolding any
+any-alike f g [] h = refl
+any-alike f g (a ∷ x) h = simp (h .0, any-alike f g x (h .1))
+
+pub keep-alike : {A : Type 0} (f g : A → Bool) (x : List A) → All (λ (a : A). f a ≡ g a) x → keep f x ≡ keep g x
+unfolding keep
+keep-alike f g [] h = refl
+keep-alike f g (a ∷ x) h = simp (h .0, keep-alike f g x (h .1))
 
 pub all-map : {A B : Type 0} (P : A → Type 0) (Q : B → Type 0) (g : A → B) → ((a : A) → P a → Q (g a)) → (x : List A) → All P x → All Q (map g x)
 all-map P Q g k [] h = tt

@@ -1,5 +1,5 @@
-//! Canonical mappings and combining classes, from UnicodeData.txt, 15.0.0. Made by
-//! `oracle/accents.py`.
+//! Canonical mappings and combining classes: an extract of UnicodeData.txt, 15.0.0,
+//! modified. Made by `oracle/accents.py`.
 
 use std::ops::RangeInclusive;
 

@@ -1,10 +1,11 @@
 -- `accents::marks::same_classes` meets its contract. The loop's invariant: the first n classes are the same. The measure is how many are left.
 -- Assumes nothing.
 use Prim.Native.Nat.{_-_}
+use native.Mathlib.Omega.{arith}
 use denote.Ref.{now}
 use borrow.Author.Needs.{needs}
 use borrow.Author.Tests.{not-true, not-false}
-use Rattle.accents.specs.Ordering.{ranks as theRanks}
+use Rattle.accents.specs.Marks.{ranks as theRanks}
 use Rattle.accents.proofs.MarkLaws.{Same, class-differs, ranks-next, ranks-end}
 use Rattle.accents.proofs.marks.same_classes.Statement.{statement}
 use Rattle.accents.proofs.marks.same_classes.Tie as tie
@@ -38,10 +39,10 @@ loop-less c = search needs
 
 loop-again : tie.Need-loop-again Inv-loop μ-loop
 unfolding theRanks
-loop-again c = ranks-next (now (c .before .before .before .before .before .before .before .before .args .x)) (now (c .before .before .before .before .before .before .before .before .args .y)) _ _ (c .before .before .before .loop-test .taken) (c .before .same-class .ensures) (not-false _ (c .if1 .left)) (c .before .before .before .before .loop .inv)
+loop-again c = ranks-next (now (c .before .before .before .before .before .before .before .before .args .x)) (now (c .before .before .before .before .before .before .before .before .args .y)) (c .before .before .before .before .loop .n) _ (omega arith) (c .before .same-class .ensures) (not-false _ (c .if1 .left)) (c .before .before .before .before .loop .inv)
 
 returns-2 : tie.Need-returns-2 Inv-loop μ-loop
-returns-2 c = ranks-end (now (c .before .before .before .before .before .args .x)) (now (c .before .before .before .before .before .args .y)) _ (c .loop-test .left) (c .before .loop .inv)
+returns-2 c = ranks-end (now (c .before .before .before .before .before .args .x)) (now (c .before .before .before .before .before .args .y)) (c .before .loop .n) (omega arith) (c .before .loop .inv)
 
 pub same-classes-spec : {M : Type 1} → statement M
 same-classes-spec =
