@@ -46,7 +46,7 @@ pub record FinderCases : Type 0 where
   part : findName (ascii "pn|Bernadette|qx||rh||qx|o1|md|1|pn|Al|") (ascii "Al") 4 ≡ accepted 1
 
 pub finder-cases : FinderCases
-unfolding one two both findName mostPlaces placesIn greatest sameName places canonical mapped mapTimes mapOnce lookup mappingTable order insert goesBefore class classes charsAfter number followers concat unless utf8 utf utfStep first fileSpans sections boardIn keep any all partsFrom linesFrom stream placed tokens cut paired boardFrom over named isCommand sameWord goesBefore trim trimEnd trimStart skipWhite blank whiteAt front whiteSpace encode starts eqAll part
+unfolding one two both findName mostPlaces placesIn greatest sameName places canonical mapped mapTimes mapOnce lookup mappingTable order insert goesBefore class classes charsAfter number followers concat unless utf8 utf utfStep first fileSpans sections boardIn keep any all partsFrom linesFrom stream placed tokens cut paired boardFrom over named isCommand sameWord lower trim trimEnd trimStart skipWhite blank whiteAt front whiteSpace encode starts eqAll part
 finder-cases =
     record {
       composed = refl;
