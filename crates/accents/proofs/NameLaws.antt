@@ -4,7 +4,7 @@ use Prim.Native.Nat.{ℕ, _*_, _≤_}
 use native.Mathlib.Omega.{arith}
 use mathlib.Core.Path.{_≡_, refl, ap, subst, sym, _∙_}
 use mathlib.Core.Bool.{Bool, true, false}
-use mathlib.Core.List.{List, [], _∷_, _++_}
+use mathlib.Core.List.{List, [], _∷_}
 use lib.ListN.{length, length-append}
 use lib.Dec.{ltb}
 use borrow.Author.Tests.{ltb-true, lt-ltb, le-ltb}
@@ -12,8 +12,8 @@ use Rattle.lin_spec.specs.Base.{All, all, concat, eqList}
 use Rattle.lin_spec.specs.Utf8.{utf8, encode, encodeAll}
 use Rattle.lin_spec.proofs.Base.{and-left, and-right, list-eq, eq-list, split}
 use Rattle.accents.specs.Mapping.{mapOnce, mapTimes, mapped}
-use Rattle.accents.specs.Ordering.{order, canonical}
-use Rattle.accents.specs.Chars.{charsAfter, chars}
+use Rattle.accents.specs.Ordering.{canonical}
+use Rattle.accents.specs.Chars.{chars}
 use Rattle.accents.specs.Names.{sameName, places, onlyAscii}
 use Rattle.accents.proofs.AsciiLaws.{Small, encode-chars, small-mapped, ascii-bytes}
 use Rattle.accents.proofs.FullLaws.{mapped-three}

@@ -1,7 +1,7 @@
 -- What is asked of who lends work space for the characters of names, and what stands in it. (02: N3, "Work space is lent")
 use Prim.Native.Nat.{ℕ, _+_, _<_, _≤_}
 use mathlib.Core.Path.{_≡_}
-use mathlib.Core.Bool.{Bool, true, false}
+use mathlib.Core.Bool.{true, false}
 use mathlib.Core.List.{List}
 use lib.ListN.{length, take}
 use Rattle.lin_spec.specs.Utf8.{utf8}

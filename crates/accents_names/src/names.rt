@@ -4,7 +4,7 @@ use crate::work::same_parts;
 use accents::mapped_len;
 use text::same_bytes;
 ghost use mathlib.Core.Path.{_≡_};
-ghost use Prim.Native.Nat.{_<_, _≤_};
+ghost use Prim.Native.Nat.{_<_};
 ghost use lib.ListN.{length};
 ghost use Rattle.accents.specs.Table.{mappingTable};
 ghost use Rattle.accents.specs.Lines.{tableWords};

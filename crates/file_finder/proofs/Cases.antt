@@ -2,10 +2,10 @@
 -- Assumes nothing.
 use Prim.Native.Nat.{ℕ}
 use mathlib.Core.Path.{_≡_, refl}
-use mathlib.Core.List.{List, [], _∷_, _++_}
+use mathlib.Core.List.{List, [], _++_}
 use Rattle.lin_spec.specs.Base.{ascii, any, all, keep, concat, eqAll, starts}
 use Rattle.lin_spec.specs.Records.{part}
-use Rattle.lin_spec.specs.Utf8.{first, utfStep, utf, utf8, encode, encodeAll}
+use Rattle.lin_spec.specs.Utf8.{first, utfStep, utf, utf8, encode}
 use Rattle.lin_spec.specs.White.{whiteSpace, front, whiteAt, skipWhite, trimStart, blank, trimEnd, trim, lower, sameWord, isCommand}
 use Rattle.lin_spec.specs.Tokens.{cut, paired, tokens}
 use Rattle.lin_spec.specs.Board.{named, over, boardFrom}

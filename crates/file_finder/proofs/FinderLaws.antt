@@ -26,8 +26,6 @@ use Rattle.lin_spec.proofs.File.{Found, all-remain}
 use Rattle.board_loop.specs.Head.{boardAt}
 use Rattle.accents.specs.Table.{mappingTable}
 use Rattle.accents.specs.Lines.{tableWords}
-use Rattle.accents.specs.Mapping.{mapped}
-use Rattle.accents.specs.Chars.{chars}
 use Rattle.accents.specs.Names.{sameName, places}
 use Rattle.accents.proofs.NameLaws.{places-most}
 use Rattle.accents_names.specs.Work.{Fillable, Known, Laid, Comparable}
@@ -36,7 +34,7 @@ use Rattle.file_sections.specs.Sections.{sectionOf, standingOf, AtFirst}
 use Rattle.file_sections.specs.declared.sections.Section.{Section}
 use Rattle.file_sections.specs.declared.sections.BoardCursor.{BoardCursor}
 use Rattle.file_sections.proofs.WayLaws.{Way, way-begin, number-board, number-other, way-on}
-use Rattle.file_finder.specs.Finder.{hasName, greatest, placesIn, mostPlaces, placesNeeded, findName, WorkAfter, Finds}
+use Rattle.file_finder.specs.Finder.{hasName, placesIn, mostPlaces, placesNeeded, findName, WorkAfter, Finds}
 use Rattle.file_finder.specs.Walk.{RoomIs, NameFits, BoardFits, Looking, FoundIn, FindsChecked}
 use Rattle.file_finder.specs.declared.measure.Room.{Room}
 use Rattle.file_finder.proofs.MeasureLaws.{shown-small, greatest-room, sum-small}

@@ -3,13 +3,13 @@
 -- Assumes nothing.
 use Prim.Native.Nat.{ℕ, _+_, _*_, _≤_}
 use native.Mathlib.Omega.{arith}
-use mathlib.Core.Path.{_≡_, refl, ap, sym, _∙_}
+use mathlib.Core.Path.{_≡_, refl, ap}
 use mathlib.Core.Bool.{Bool, true, false, not}
 use mathlib.Core.List.{List, [], _∷_}
 use mathlib.Core.Option.{Option, none, some}
 use lib.ListN.{length}
 use borrow.Author.Tests.{le-ltb}
-use Rattle.lin_spec.specs.Base.{All, any, keep, countIf, eqList}
+use Rattle.lin_spec.specs.Base.{All, any, countIf, eqList}
 use Rattle.lin_spec.specs.Records.{limit, endOf, bytesAt}
 use Rattle.lin_spec.specs.Utf8.{utf8, longest}
 use Rattle.lin_spec.specs.Refusals.{unless, tooLong, notUtf8, tooSmall, refuseIf}
@@ -20,9 +20,9 @@ use Rattle.lin_spec.specs.declared.Refusal.{Refusal}
 use Rattle.lin_spec.specs.declared.Refusal.the-variants.{NotUtf8}
 use Rattle.lin_spec.proofs.Base.{every, any-alike, keep-alike}
 use Rattle.lin_spec.proofs.Lendable.{Legal, boards-legal}
-use Rattle.accents.specs.Names.{sameName, places, onlyAscii}
+use Rattle.accents.specs.Names.{sameName, onlyAscii}
 use Rattle.accents.proofs.NameLaws.{same-alike, same-places, ascii-same}
-use Rattle.file_finder.specs.Finder.{hasName, mostPlaces, placesNeeded, findName}
+use Rattle.file_finder.specs.Finder.{hasName, placesNeeded, findName}
 use Rattle.file_finder.proofs.MeasureLaws.{needed-most}
 
 -- Names that are the same

@@ -1,7 +1,6 @@
 -- `accents::marks::same_chars` meets its contract. The loop's invariant: from i on the texts are as much the same as whole. The measure is what is left.
 -- Assumes nothing.
 use Prim.Native.Nat.{_-_}
-use native.Mathlib.Omega.{arith}
 use mathlib.Core.Path.{refl}
 use lib.ListN.{length}
 use denote.Ref.{now}

@@ -1,7 +1,6 @@
 -- `accents_names::names::same_name` meets its contract: by the bytes, the number of mapped characters, or the two parts of the work space.
 -- Assumes nothing.
 use mathlib.Core.Path.{refl}
-use denote.Ref.{now}
 use borrow.Author.Needs.{needs}
 use Rattle.accents_names.proofs.NameLaws.{bytes-same, ascii-other, few-other, name-fits, parts-within, name-long, laid-still, compared}
 use Rattle.accents_names.proofs.names.same_name.Statement.{statement}

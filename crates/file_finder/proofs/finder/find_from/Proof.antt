@@ -3,7 +3,6 @@
 use Prim.Native.Nat.{_+_, _-_}
 use native.Mathlib.Omega.{arith}
 use lib.ListN.{length}
-use denote.Ref.{now}
 use borrow.Author.Needs.{needs}
 use Rattle.file_sections.specs.Sections.{standingOf}
 use Rattle.file_sections.proofs.SectionLaws.{seen}

@@ -2,7 +2,6 @@
 -- Assumes nothing.
 use mathlib.Core.Path.{refl}
 use denote.Ref.{now}
-use borrow.Author.Needs.{needs}
 use Rattle.file_sections.proofs.SectionLaws.{inside-long, inside-within}
 use Rattle.file_finder.proofs.FinderLaws.{found-none, names-fit, found-some, found-other}
 use Rattle.file_finder.proofs.finder.found_in.Statement.{statement}

@@ -1,7 +1,6 @@
 -- `file_finder::measure::most_in` meets its contract.
 -- Assumes nothing.
 use denote.Ref.{now}
-use borrow.Author.Needs.{needs}
 use Rattle.file_sections.proofs.SectionLaws.{inside-long, inside-within}
 use Rattle.file_finder.proofs.MeasureLaws.{most-none, most-some}
 use Rattle.file_finder.proofs.measure.most_in.Statement.{statement}
