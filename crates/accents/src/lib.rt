@@ -1,3 +1,5 @@
+#![tactic(auto)]
+
 // Accents: characters mapped and marks ordered, by which two names are the same. (02: N3)
 mod chars;
 mod full;

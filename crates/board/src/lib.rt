@@ -1,3 +1,5 @@
+#![tactic(auto)]
+
 // The entries of `parse_lin`, and what they share with the reader of a file. (01: Board; upstream's mod.rs)
 mod reader;
 

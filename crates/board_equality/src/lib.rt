@@ -1,3 +1,5 @@
+#![tactic(auto)]
+
 // Whether a board equals another, as `LinData` compares them. (01: equality; upstream's mod.rs)
 mod boards;
 mod hands;

@@ -1,3 +1,5 @@
+#![tactic(auto)]
+
 // What each command gives to a board's heading. (01: Board)
 mod fields;
 

@@ -1,3 +1,5 @@
+#![tactic(auto)]
+
 // A board that is lent to a call: the board without its deal, the calls of its rows, and the checks that it is put to. (01: Records; Eight refusals)
 mod calls;
 mod checks;

@@ -299,8 +299,8 @@ module _ (s : List ℕ) (at₀ : ℕ) (rows₀ cards₀ : List ℕ) (f : Fits s 
       calls-next : over (on_calls (span_text s)) (i.calls ++ (call_of (span_text s) v ∷ [])) (stream s m) ≡ (board_at s at₀).calls
       calls-next = let z = calls_by in rw (eq-eqb k 1 e) at z
 
-      row_words : call_words (i.calls ++ (call_of (span_text s) v ∷ [])) ≡ call_words i.calls ++ bid_words s v
-      row_words = words_snoc i.calls (call_of (span_text s) v)
+      words_one_more : call_words (i.calls ++ (call_of (span_text s) v ∷ [])) ≡ call_words i.calls ++ bid_words s v
+      words_one_more = words_snoc i.calls (call_of (span_text s) v)
 
       pub call-room : Room rows (h.calls * 6) (bid_words s v)
       call-room =
@@ -312,7 +312,7 @@ module _ (s : List ℕ) (at₀ : ℕ) (rows₀ cards₀ : List ℕ) (f : Fits s 
                 let c = rows_long in
                 let d = f.calls in
                 let x = words in
-                let y = ap length row_words in
+                let y = ap length words_one_more in
                 let z = length-append (call_words i.calls) (bid_words s v) in
                 let w = words-length (board_at s at₀).calls in
                 omega arith;
@@ -329,7 +329,7 @@ module _ (s : List ℕ) (at₀ : ℕ) (rows₀ cards₀ : List ℕ) (f : Fits s 
             play-left = let z = play-by in rw (ne_eqb k 0 (λ q. omega arith)) at z;
             called = let a = i.called in let b = length-append i.calls (call_of (span_text s) v ∷ []) in omega arith;
             count = i.count;
-            rows_are = p ∙ rw (words, i.rows_are, ← zero-add (length (call_words i.calls))) (overlay-overlay rows₀ 0 (call_words i.calls) (bid_words s v)) ∙ ap (overlay rows₀ 0) (sym row_words);
+            rows_are = p ∙ rw (words, i.rows_are, ← zero-add (length (call_words i.calls))) (overlay-overlay rows₀ 0 (call_words i.calls) (bid_words s v)) ∙ ap (overlay rows₀ 0) (sym words_one_more);
             cards-are = i.cards-are;
           }
 

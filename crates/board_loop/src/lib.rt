@@ -1,3 +1,5 @@
+#![tactic(auto)]
+
 // What a board is read by: a run of tokens one at a time, what each gives to a heading, and its calls and cards stored. (01: Board; upstream's mod.rs)
 mod calls;
 mod dealing;

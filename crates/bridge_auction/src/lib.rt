@@ -1,3 +1,5 @@
+#![tactic(auto)]
+
 // The laws of bridge for the auction: the calls, a state that follows them, and what a list of calls is. Nothing of LIN but the seats.
 // (02: N1, "apply the Laws of Duplicate Bridge 2017")
 mod calls;

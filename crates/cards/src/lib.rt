@@ -1,3 +1,5 @@
+#![tactic(auto)]
+
 // Suits, ranks, cards and deals, as their letters give them. (01: Records; Board, md and pc)
 mod deals;
 mod hands;

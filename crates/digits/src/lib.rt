@@ -1,3 +1,5 @@
+#![tactic(auto)]
+
 // Numbers of ASCII digits. (01: Board, mc; annotations)
 mod digits;
 

@@ -1,3 +1,5 @@
+#![tactic(auto)]
+
 // LIN as its `command|value|` tokens: a cursor over a text. (01: Tokens; upstream's document.rs)
 mod tokens;
 

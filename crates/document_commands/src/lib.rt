@@ -1,3 +1,5 @@
+#![tactic(auto)]
+
 // The commands that a board knows: one token at a time with its command's number. (01: Tokens, Board)
 mod commands;
 mod plain;

@@ -1,3 +1,5 @@
+#![tactic(auto)]
+
 // The boards of a file: their count, and a board by its number. (01: File; upstream's mod.rs)
 mod numbers;
 

@@ -1,3 +1,5 @@
+#![tactic(auto)]
+
 // The step of the board cursor that reads the next board. (01: File; Board)
 mod steps;
 

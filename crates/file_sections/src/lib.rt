@@ -1,3 +1,5 @@
+#![tactic(auto)]
+
 // The parts or lines of a file, and the cursor over them. (01: File; upstream's mod.rs)
 mod sections;
 

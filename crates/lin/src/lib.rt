@@ -1,3 +1,5 @@
+#![tactic(auto)]
+
 // The public surface: every entry of the library, with the types that it takes and gives, and nothing else.
 
 // Spans and refusals. (01: Records, Eight refusals)

@@ -1,3 +1,5 @@
+#![tactic(auto)]
+
 // Shows the tokens and the sections of the LIN file on standard input, copies its boards into an output, and reads them back from there. It calls the
 // library by `lin`, and prints what each call gives. (01: Tokens, File, Writer)
 mod copying;

@@ -1,3 +1,5 @@
+#![tactic(auto)]
+
 // The entries as C functions on numbers and byte slices, for the Rust host. (01: "Entries on numbers and byte slices are exported ..")
 mod annotations;
 mod auctions;

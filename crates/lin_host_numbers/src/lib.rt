@@ -1,3 +1,5 @@
+#![tactic(auto)]
+
 // What the exports take and give, as plain numbers: answers, headings, boards, auctions and PBN records, and whether a code is outside its range. (01: Eight
 // refusals; Records; From PBN; 02: N1)
 mod answers;

@@ -24,10 +24,10 @@ unmapped : {A B : Type 0} (f : A → B) (l : List A) (n : ℕ) → length (map f
 unmapped f l n h = sym (length-map l f) ∙ h
 
 names-four : (b : Board) (vs : List Val) → Is (row board.the_type) b vs → length b.names ≡ 4
-names-four b vs h = unmapped _ b.names 4 h.1.1.0.1.0.1
+names-four b vs h = h.1.1.0.1.0.1
 
 counts-long : (b : Board) (vs : List Val) → Is (row board.the_type) b vs → length b.deal.counts ≡ 208
-counts-long b vs h = unmapped _ b.deal.counts 208 h.1.1.1.1.0.1.1.0.1.0.1
+counts-long b vs h = h.1.1.1.1.0.1.1.0.1.0.1
 
 claim_fits : (c : MaybeClaim) (vs : List Val) → Is (claim.the_field).row ((claim.the_field).into c) vs → Present (λ n. n ≤ 255) (claim_of c)
 claim_fits Absent vs h = tt
@@ -41,4 +41,4 @@ pub board_typed : (b : Board) (vs : List Val) → Is (row board.the_type) b vs �
 board_typed b vs h s ws cs = record { names = names-four b vs h; counts = counts-long b vs h; claim = claim_byte b vs h }
 
 pub record_typed : (x : Pbn) (vs : List Val) → Is (row pbn.the_type) x.board vs → PbnTyped x
-record_typed x vs h = record { counts = unmapped _ x.board.deal.counts 208 h.1.1.1.1.1.1.1.1.1.1.1.0.1.1.0.1.0.1 }
+record_typed x vs h = record { counts = h.1.1.1.1.1.1.1.1.1.1.1.0.1.1.0.1.0.1 }

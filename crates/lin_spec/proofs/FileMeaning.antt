@@ -48,7 +48,7 @@ placed_deep : (at : ℕ) (p : Pieces) → All (ValueOf (λ (v : Span). 0 < v.sta
 unfolding placed
 placed_deep at (end x) = tt
 placed_deep at (piece x (end y)) = tt
-placed_deep at (piece x (piece y r)) = (omega arith, placed_deep _ r)
+placed_deep at (piece x (piece y r)) = (omega arith, placed_deep (at + (length x + 1) + (length y + 1)) r)
 
 pub board-moved : (s : List ℕ) (a : ℕ) → board_from (span_text s) (stream s a) ≡ map_board (move a) (parse_spans (drop a s))
 unfolding parse_spans stream part

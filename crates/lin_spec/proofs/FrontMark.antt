@@ -55,7 +55,7 @@ holds-placed : (w : List ℕ) (a b : ℕ) (p : Pieces) → holds w (placed a p) 
 unfolding placed any
 holds-placed w a b (end x) = refl
 holds-placed w a b (piece x (end y)) = refl
-holds-placed w a b (piece x (piece y r)) = ap (λ (t : Bool). is_command x w || t) (holds-placed w _ _ r)
+holds-placed w a b (piece x (piece y r)) = ap (λ (t : Bool). is_command x w || t) (holds-placed w (a + (length x + 1) + (length y + 1)) (b + (length x + 1) + (length y + 1)) r)
 
 pub front-mark-holds : (w s : List ℕ) → holds w (stream (encode 0xFEFF ++ s) 0) ≡ holds w (stream s 0)
 unfolding stream

@@ -1,3 +1,5 @@
+#![tactic(auto)]
+
 // The types that the entries share: spans, boards, refusals and what a writer answers. (01: Records, Eight refusals; 02: N1)
 ghost use Rattle.std.specs.Prelude.{◌≡◌, ◌<◌, min};
 ghost use Rattle.lin_spec.specs.Fresh.{fresh_deal, fresh_board, refused_heading};

@@ -1,3 +1,5 @@
+#![tactic(auto)]
+
 // Lists what stands on an open file: the body of linlist, and of the test program that runs it on stored files. (01: Program linlist)
 use listing::{LIST_LIMIT, LIST_ROOM, list_whole};
 use text::part;

@@ -1,3 +1,5 @@
+#![tactic(auto)]
+
 // All that the program linlist prints for an input. (01: Program linlist)
 mod files;
 

@@ -1,3 +1,5 @@
+#![tactic(auto)]
+
 // The lines that the program linlist prints: the header, a board's line and a refusal's, each as an entry, and the words of a line. (01: Program linlist)
 mod lines;
 mod words;

@@ -1,3 +1,5 @@
+#![tactic(auto)]
+
 // Bytes, words and spans put into a lent output, one after the other, and lengths that stop at the largest number. Nothing of LIN.
 // Here and in the crates above: beside a function that puts a text, the one whose name ends in `_len` gives that text's length, up to 2^64 less 1.
 // (01: Writer, "Every output's room ..", and refusal 7)

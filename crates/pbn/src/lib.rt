@@ -1,3 +1,5 @@
+#![tactic(auto)]
+
 // Boards made from PBN records: `from_board`. (01: From PBN; upstream's writer.rs)
 mod dealing;
 mod entry;

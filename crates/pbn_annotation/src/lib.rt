@@ -1,3 +1,5 @@
+#![tactic(auto)]
+
 // A raw PBN annotation as text: its words joined, the notes checked, and the entry. (01: From PBN, "Words join with a space ..")
 mod entry;
 mod notes;

@@ -1,3 +1,5 @@
+#![tactic(auto)]
+
 // What a board that is made of a PBN record has: its names, its other texts, where each of them stands, its calls and cards. (01: From PBN)
 mod call_rows;
 mod calls;

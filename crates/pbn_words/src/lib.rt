@@ -1,3 +1,5 @@
+#![tactic(auto)]
+
 // The parts of a raw PBN annotation, and the word of each. (01: From PBN, "Annotation parts ..")
 mod parts;
 mod words;

@@ -1,3 +1,5 @@
+#![tactic(auto)]
+
 // Lent slices of call structs: the rows of a board's calls, one struct each. (01: Language form, "The calls stand in a list of rows lent by
 // the caller")
 mod answers;

@@ -1,3 +1,5 @@
+#![tactic(auto)]
+
 // A board's calls read into rows of call structs: `parse_lin` and a file's board by its number. (01: Board; File; Language form)
 mod reader;
 

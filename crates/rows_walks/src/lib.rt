@@ -1,3 +1,5 @@
+#![tactic(auto)]
+
 // Walks over lent rows of call structs, beside the text that they name: what the checks find in them, and their calls put into an output.
 // (01: Writer, mb and an; Eight refusals, 5 to 7)
 mod puts;

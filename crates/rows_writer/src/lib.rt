@@ -1,3 +1,5 @@
+#![tactic(auto)]
+
 // Boards written as LIN from lent slices of call structs: `write_lin`, and append. (01: Writer; Language form)
 mod begins;
 mod entries;

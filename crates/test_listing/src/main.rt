@@ -1,3 +1,5 @@
+#![tactic(auto)]
+
 // Runs linlist's body on stored files, and replays the oracle's listings through the same entry. (01: Program linlist)
 use lin_spec::Written;
 use linlist_input::list_input;

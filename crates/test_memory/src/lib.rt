@@ -1,3 +1,5 @@
+#![tactic(auto)]
+
 // The memory of the replay program, and the steps that store into it and compare with it. Nothing of the library is in it. (oracle/README.md)
 mod expects;
 mod lent_parts;

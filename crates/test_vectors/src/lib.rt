@@ -1,3 +1,5 @@
+#![tactic(auto)]
+
 // What the replay programs share: files of stored answers, and the lines that they print. Nothing of the library is in it.
 // A file of listings is a run of fields, each a little-endian length of four bytes and that many bytes.
 ghost use Rattle.std.specs.Prelude.{◌^◌, ◌<◌, ◌≤◌};

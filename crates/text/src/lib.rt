@@ -1,3 +1,5 @@
+#![tactic(auto)]
+
 // Texts of bytes: UTF-8, parts and spans, the next place of a byte, whether two texts have the same bytes; indexes of the places that are ill-formed
 // and of those where two texts differ. (01: Records, Tokens; refusals 5 and 6; equality; names)
 mod apart;

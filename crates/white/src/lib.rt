@@ -1,3 +1,5 @@
+#![tactic(auto)]
+
 // What trimming removes, and case. (01: Records, Tokens; 02: N2)
 mod white;
 

@@ -1,3 +1,5 @@
+#![tactic(auto)]
+
 // Boards written as LIN: a board as text, in two parts before and after its calls; `write_lin` and append. (01: Writer and settled form; upstream's
 // writer.rs)
 mod back;

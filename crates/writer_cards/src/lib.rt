@@ -1,3 +1,5 @@
+#![tactic(auto)]
+
 // Cards, plays, hands and deals as text, put into a lent output. (01: Writer, pc and md; play text)
 mod deals;
 mod hands;

@@ -1,3 +1,5 @@
+#![tactic(auto)]
+
 // Texts cleaned into a lent output: a text, a text that may be absent, the four names, a call and all calls. (01: Writer, clean)
 mod calls;
 mod names;

@@ -1,0 +1,19 @@
+-- `accents::marks::next_in` meets its contract. The loop's invariant: no mark of the class is passed. The measure is what is left of the length.
+use Prim.Native.Nat.{◌-◌}
+use lib.ListN.{length}
+use lib.ListN.{length}
+use borrow.Author.Rules.{rules}
+use Rattle.accents.proofs.MarkLaws.{Passed, none_passed, next_here, next-on, next-end}
+use Rattle.accents.proofs.marks.next_in.Goals as goal
+
+pub loop-i-init : goal.loop-i-init
+loop-i-init c = none_passed _ _ _
+
+pub returns-then-n-k : goal.returns-then-n-k
+returns-then-n-k c = next_here _ c.args.s.now _ _ c.loop-i.invariant _ c.class_of-n.ensures c.if-n-k.true
+
+pub loop-i-preserved : goal.loop-i-preserved
+loop-i-preserved c = next-on _ c.args.s.now _ _ c.loop-i.invariant _ c.class_of-n.ensures c.loop-i-test.true c.if-n-k.false
+
+pub returns : goal.returns
+returns c = next-end _ c.args.s.now _ _ c.loop-i.invariant c.loop-i-test.false

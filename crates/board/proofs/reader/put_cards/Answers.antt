@@ -1,0 +1,32 @@
+-- `board::put_cards` meets its contract: a turn takes one card off those that are left to store.
+use Rattle.board.proofs.ReaderLaws.{given-card, all-cards, card-left, cards-left}
+use Rattle.board_loop.specs.Head.{board_at}
+use Rattle.board_loop.specs.Play.{cards_from}
+use Rattle.output.proofs.Laws.{Left, roomy, step, finish}
+use Rattle.lin_spec.specs.Reading.{stream}
+use lib.ListN.{length}
+use borrow.Author.Rules.{rules}
+use mathlib.Core.Path.{ap}
+use native.Mathlib.Omega.{arith}
+use Rattle.board.proofs.reader.put_cards.Goals as goal
+
+pub loop-c-init : goal.loop-c-init
+loop-c-init c = all-cards _ _ _ c.requires.0
+
+pub next_card-requires : goal.next_card-requires
+next_card-requires c = c.requires.1
+
+pub put_byte-n-requires : goal.put_byte-n-requires
+put_byte-n-requires c = roomy _ _ (card-left _ _ c.loop-c.invariant _ _ (given-card _ _ _ _ c.next_card.ensures c.in-Found.is))
+
+pub loop-c-smaller : goal.loop-c-smaller
+loop-c-smaller c = let e = ap length (given-card _ _ _ _ c.next_card.ensures c.in-Found.is) in omega arith
+
+pub loop-c-preserved : goal.loop-c-preserved
+loop-c-preserved c = step (card-left _ _ c.loop-c.invariant _ _ (given-card _ _ _ _ c.next_card.ensures c.in-Found.is)) c.put_byte-n.ensures
+
+pub shape_of-cards-in-Ended : goal.shape_of-cards-in-Ended
+shape_of-cards-in-Ended c = c.loop-c.invariant.long
+
+pub returns-in-Ended : goal.returns-in-Ended
+returns-in-Ended c = finish (cards-left _ _ c.loop-c.invariant (given-card _ _ _ _ c.next_card.ensures c.in-Ended.is))

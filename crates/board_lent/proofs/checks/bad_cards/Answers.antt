@@ -1,0 +1,16 @@
+-- `board_lent::bad_cards` meets its contract: a turn looks at a card.
+use Prim.Native.Nat.{◌-◌}
+use native.Mathlib.Omega.{arith}
+use mathlib.Core.Path.{◌≡◌, refl}
+use mathlib.Core.Bool.{◌||◌}
+use lib.ListN.{length, drop}
+use lib.Dec.{ltb}
+use Rattle.lin_spec.specs.Base.{any}
+use Rattle.board_lent.proofs.LentLaws.{all-each, or_each}
+use Rattle.board_lent.proofs.checks.bad_cards.Goals as goal
+
+pub loop-i-preserved : goal.loop-i-preserved
+loop-i-preserved c = or_each (ltb 51) 0 _ _ c.loop-i.bad c.loop-i.invariant c.loop-i-test.true _ refl
+
+pub returns : goal.returns
+returns c = all-each (ltb 51) 0 _ _ _ c.loop-i.invariant c.loop-i-test.false

@@ -1,0 +1,14 @@
+-- `text::index::put_blocks` meets its contract. The loop's invariant: the words from k up to j are p. The measure is what is left of the words.
+use Prim.Native.Nat.{◌-◌}
+use native.Mathlib.Omega.{arith}
+use lib.ListN.{length, length-set}
+use borrow.Author.Rules.{rules}
+use Rattle.text.specs.Index.{Filled}
+use Rattle.text.proofs.IndexLaws.{fill_none, fill-next}
+use Rattle.text.proofs.index.put_blocks.Given as goal
+
+abbrev pub invariant-loop-j : goal.invariant-loop-j
+invariant-loop-j l = Filled l.initial.next l.k l.p l.next l.j
+
+abbrev pub decreases-loop-j : goal.decreases-loop-j
+decreases-loop-j l = length l.next - l.j

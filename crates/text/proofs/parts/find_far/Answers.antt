@@ -1,0 +1,21 @@
+-- `text::parts::find_far` meets its contract. The loop's invariant: the first c from `i` on is the first from `from` on.
+use Prim.Native.Nat.{◌-◌}
+use mathlib.Core.Path.{◌≡◌, sym, ◌∙◌}
+use native.Mathlib.Omega.{arith}
+use lib.ListN.{length}
+use borrow.Author.Rules.{rules}
+use Rattle.lin_spec.specs.Cursor.{find_from}
+use Rattle.lin_spec.proofs.Cursor.{find-end, find-here, find-next}
+use Rattle.text.proofs.parts.find_far.Goals as goal
+
+pub loop-i-init : goal.loop-i-init
+loop-i-init c = c.sixteens_without-i.ensures
+
+pub returns-then-s-i : goal.returns-then-s-i
+returns-then-s-i c = sym (find-here _ _ _ c.loop-i-test.true c.if-s-i.true) ∙ c.loop-i.invariant
+
+pub loop-i-preserved : goal.loop-i-preserved
+loop-i-preserved c = find-next _ _ _ c.loop-i-test.true c.if-s-i.false ∙ c.loop-i.invariant
+
+pub returns : goal.returns
+returns c = sym (find-end _ _ _ c.loop-i-test.false) ∙ c.loop-i.invariant

@@ -1,0 +1,7 @@
+-- `white::is_blank` meets its contract: a text that trims to nothing is blank. (01: Records, trim)
+use borrow.Author.Rules.{rules}
+use Rattle.white.proofs.WhiteLaws.{blank-is}
+use Rattle.white.proofs.white.is_blank.Goals as goal
+
+pub returns : goal.returns
+returns c = blank-is _ _ c.trim_ends.ensures

@@ -1,0 +1,26 @@
+-- `white::white::trim_start` meets its contract: the white characters before i are passed. The measure is what is left. (01: Records)
+use Prim.Native.Nat.{◌-◌}
+use native.Mathlib.Omega.{arith}
+use mathlib.Core.Path.{refl}
+use lib.ListN.{length}
+use borrow.Author.Rules.{rules}
+use Rattle.white.proofs.WhiteLaws.{Start, start-done, start-room, start-next, start-end}
+use Rattle.white.proofs.white.trim_start.Goals as goal
+
+pub loop-i-init : goal.loop-i-init
+loop-i-init c = (refl, omega arith)
+
+pub returns-then-w-eq0 : goal.returns-then-w-eq0
+returns-then-w-eq0 c = start-done _ _ _ c.loop-i.invariant c.white_front-w.ensures c.if-w-eq0.true
+
+pub overflow_add-i : goal.overflow_add-i
+overflow_add-i c = omega (arith, start-room _ _ _ c.loop-i.invariant c.white_front-w.ensures)
+
+pub loop-i-smaller : goal.loop-i-smaller
+loop-i-smaller c = omega (arith, start-room _ _ _ c.loop-i.invariant c.white_front-w.ensures, c.if-w-eq0.false)
+
+pub loop-i-preserved : goal.loop-i-preserved
+loop-i-preserved c = start-next _ _ _ c.loop-i.invariant c.white_front-w.ensures c.if-w-eq0.false
+
+pub returns : goal.returns
+returns c = start-end _ _ c.loop-i.invariant c.loop-i-test.false
