@@ -1,9 +1,8 @@
 -- The tokens of a written board. What stands before its first command is a parameter, since the LF after the board before it goes there. No command or
 -- value holds a pipe, there is one md and one qx, before the qx stand mn and pn alone, and the trailing text is one LF. (01: Writer and settled form)
 -- Assumes nothing.
-use Prim.Native.Nat.{ℕ, zero, ◌+◌}
+use Prim.Native.Nat.{ℕ}
 use mathlib.Core.Path.{◌≡◌, refl, ap, ◌∙◌}
-use mathlib.Core.Bool.{◌||◌}
 use mathlib.Core.List.{List, [], ◌∷◌, ◌++◌, map, append_assoc}
 use mathlib.Core.Option.{Option, none, some}
 use Rattle.lin_spec.specs.Base.{pick, All, concat, join_by, ascii}

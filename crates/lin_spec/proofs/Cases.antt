@@ -1,6 +1,5 @@
 -- The reference cases, C1 to C14, proved of the definitions as a group. (01: Reference cases)
 -- Assumes nothing.
-use Prim.Native.Nat.{◌+◌}
 use mathlib.Core.Path.{◌≡◌, refl}
 use mathlib.Core.Bool.{true}
 use mathlib.Core.List.{[], ◌∷◌, ◌++◌}

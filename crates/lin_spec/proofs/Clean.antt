@@ -1,7 +1,7 @@
 -- Laws of clean, for any two bytes that it may put: what is left holds no pipe and no line break, and is cleaned already; names hold no comma. And of
 -- the exclamation marks at the end of a bid. (01: Writer and settled form; Board, mb)
 -- Assumes nothing.
-use Prim.Native.Nat.{ℕ, ◌+◌, ◌≤◌}
+use Prim.Native.Nat.{ℕ, ◌≤◌}
 use native.Mathlib.Omega.{arith}
 use mathlib.Core.Path.{◌≡◌, refl, ap, subst, ◌∙◌}
 use mathlib.Core.Bool.{Bool, true, false, ◌||◌, not, and-true, and-false}

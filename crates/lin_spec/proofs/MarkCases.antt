@@ -1,7 +1,7 @@
 -- U+FEFF in every place of a board or a file that is trimmed, and in values that are not, proved of the definitions by computation: a small text for each.
 -- (02: N2)
 -- Assumes nothing.
-use Prim.Native.Nat.{ℕ, ◌+◌}
+use Prim.Native.Nat.{ℕ}
 use mathlib.Core.Path.{◌≡◌, refl}
 use mathlib.Core.Bool.{false}
 use mathlib.Core.List.{List, [], ◌∷◌, ◌++◌}

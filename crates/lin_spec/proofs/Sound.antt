@@ -1,7 +1,7 @@
 -- A written board reads back as its tokens: no command or value holds a pipe; there is one md and one qx, before the qx stand mn and pn alone, and the
 -- trailing text is one LF. And it is UTF-8 if its texts are. (01: Writer and settled form)
 -- Assumes nothing.
-use Prim.Native.Nat.{ℕ, zero, ◌+◌, ◌≤◌, ◌<◌}
+use Prim.Native.Nat.{ℕ, ◌≤◌, ◌<◌}
 use native.Mathlib.Omega.{arith}
 use mathlib.Core.Path.{◌≡◌, refl, sym, subst, ◌∙◌}
 use mathlib.Core.Bool.{Bool, true, ◌&&◌}

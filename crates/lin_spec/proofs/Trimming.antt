@@ -1,7 +1,7 @@
 -- What trimming takes, of any bytes, well-formed or not: white characters, whole, in any order and number, from both ends (`trim-takes`), and as
 -- many of them as there are (`trim-only`). Which characters are white, `White.white-is` says. (01: Records; 02: N2)
 -- Assumes nothing.
-use Prim.Native.Nat.{ℕ, zero, suc, ◌+◌, ◌-◌, ◌≤◌}
+use Prim.Native.Nat.{ℕ, zero, suc, ◌-◌, ◌≤◌}
 use native.Mathlib.Nat.{not-suc-le-zero, le_of_suc-le-suc}
 use native.Mathlib.Omega.{arith}
 use mathlib.Core.Path.{◌≡◌, refl, ap, sym, ◌∙◌}

@@ -6,10 +6,10 @@ use borrow.Author.Rules.{rules}
 use Rattle.board.proofs.reader.parse_lin.Goals as goal
 
 pub board_at-requires : goal.board_at-requires
-board_at-requires c = (omega arith, short _ _ c.??«open».ensures _ c.in-At.is)
+board_at-requires c = (omega arith, short _ _ c.open.ensures _ c.in-At.is)
 
 pub returns-in-At : goal.returns-in-At
-returns-in-At c = c.board_at.ensures ∙ board-read _ _ c.??«open».ensures _ c.in-At.is _ _
+returns-in-At c = c.board_at.ensures ∙ board-read _ _ c.open.ensures _ c.in-At.is _ _
 
 pub returns-in-Refused : goal.returns-in-Refused
-returns-in-Refused c = board-refused _ _ c.??«open».ensures _ c.in-Refused.is _ c.refused.ensures _ _
+returns-in-Refused c = board-refused _ _ c.open.ensures _ c.in-Refused.is _ c.refused.ensures _ _

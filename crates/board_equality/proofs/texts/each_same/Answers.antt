@@ -24,7 +24,7 @@ pub returns-then-not-same_call : goal.returns-then-not-same_call
 returns-then-not-same_call c = row_differs _ _ _ _ _ c.loop-i.invariant c.loop-i-test.true _ c.call_at.ensures _ c.call_at-in-loop-i.ensures _ c.same_call.ensures c.if-not-same_call.true-raw
 
 pub overflow_add-i : goal.overflow_add-i
-overflow_add-i c = omega (arith, c.??well-formed.1.1.0)
+overflow_add-i c = omega (arith, c.well_formed.1.1.0)
 
 pub loop-i-preserved : goal.loop-i-preserved
 loop-i-preserved c = row_next _ _ _ _ _ c.loop-i.invariant c.loop-i-test.true _ c.call_at.ensures _ c.call_at-in-loop-i.ensures _ c.same_call.ensures c.if-not-same_call.false-raw

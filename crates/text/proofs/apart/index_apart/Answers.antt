@@ -1,10 +1,7 @@
 -- `text::index_apart` meets its contract. The loop's invariant: the blocks before k have their words. The measure is what is left of the blocks.
-use Prim.Native.Nat.{◌-◌}
 use native.Mathlib.Omega.{arith}
-use mathlib.Core.Path.{◌≡◌, refl, ◌∙◌}
-use lib.ListN.{length}
-use borrow.Author.Rules.{rules}
-use Rattle.text.proofs.ApartLaws.{Made, made_none, made-limit, made-next, made_less}
+use mathlib.Core.Path.{refl, ◌∙◌}
+use Rattle.text.proofs.ApartLaws.{made_none, made-limit, made-next, made_less}
 use Rattle.text.proofs.apart.index_apart.Goals as goal
 
 pub loop-k-init : goal.loop-k-init

@@ -1,10 +1,8 @@
 -- `text::index_apart` meets its contract. The loop's invariant: the blocks before k have their words. The measure is what is left of the blocks.
 use Prim.Native.Nat.{◌-◌}
-use native.Mathlib.Omega.{arith}
-use mathlib.Core.Path.{◌≡◌, refl, ◌∙◌}
+use mathlib.Core.Path.{◌≡◌}
 use lib.ListN.{length}
-use borrow.Author.Rules.{rules}
-use Rattle.text.proofs.ApartLaws.{Made, made_none, made-limit, made-next, made_less}
+use Rattle.text.proofs.ApartLaws.{Made}
 use Rattle.text.proofs.apart.index_apart.Given as goal
 
 abbrev pub invariant-loop-k : goal.invariant-loop-k

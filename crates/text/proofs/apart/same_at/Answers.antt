@@ -3,7 +3,6 @@ use Prim.Native.Nat.{◌+◌, ◌*◌, ◌-◌, ◌/◌}
 use native.Mathlib.Omega.{arith}
 use mathlib.Core.Path.{refl}
 use lib.ListN.{length}
-use borrow.Author.Rules.{rules}
 use Rattle.text.proofs.ApartLaws.{looked_up, by_place, block_differs, block_same, word-here, word_next}
 use Rattle.text.proofs.apart.same_at.Goals as goal
 

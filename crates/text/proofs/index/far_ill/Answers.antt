@@ -5,7 +5,6 @@ use native.Mathlib.Omega.{arith}
 use lib.ListN.{length}
 use Rattle.lin_spec.specs.Utf8.{utf8}
 use Rattle.text.proofs.IndexLaws.{tail_ill, far_by, looked_up}
-use borrow.Author.Rules.{rules}
 use Rattle.text.proofs.index.far_ill.Goals as goal
 
 pub returns-then-len-text : goal.returns-then-len-text

@@ -1,5 +1,4 @@
 -- `text::faulty` meets its contract: in each arm the fault is known.
-use borrow.Author.Rules.{rules}
 use Rattle.text.proofs.index.faulty.Goals as goal
 
 pub returns-in-PastEnd : goal.returns-in-PastEnd

@@ -1,11 +1,8 @@
 -- `text::index_text` meets its contract. The loop's invariant: the blocks before k have their words, and a run begins at `from`. The measure is what is left of
 -- the text.
-use Prim.Native.Nat.{◌+◌, ◌-◌}
 use native.Mathlib.Omega.{arith}
-use mathlib.Core.Path.{◌≡◌, refl, ◌∙◌}
-use lib.ListN.{length}
-use borrow.Author.Rules.{rules}
-use Rattle.text.proofs.IndexLaws.{Made, made_none, made-next, made_all, run-within}
+use mathlib.Core.Path.{refl, ◌∙◌}
+use Rattle.text.proofs.IndexLaws.{made_none, made-next, made_all, run-within}
 use Rattle.text.proofs.index.index_text.Goals as goal
 
 pub loop-from-init : goal.loop-from-init

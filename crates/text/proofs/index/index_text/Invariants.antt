@@ -1,11 +1,9 @@
 -- `text::index_text` meets its contract. The loop's invariant: the blocks before k have their words, and a run begins at `from`. The measure is what is left of
 -- the text.
 use Prim.Native.Nat.{◌+◌, ◌-◌}
-use native.Mathlib.Omega.{arith}
-use mathlib.Core.Path.{◌≡◌, refl, ◌∙◌}
+use mathlib.Core.Path.{◌≡◌}
 use lib.ListN.{length}
-use borrow.Author.Rules.{rules}
-use Rattle.text.proofs.IndexLaws.{Made, made_none, made-next, made_all, run-within}
+use Rattle.text.proofs.IndexLaws.{Made}
 use Rattle.text.proofs.index.index_text.Given as goal
 
 abbrev pub invariant-loop-from : goal.invariant-loop-from

@@ -2,7 +2,6 @@
 use native.Mathlib.Omega.{arith}
 use Rattle.lin_spec.proofs.Utf8.{longest-within}
 use Rattle.text.proofs.IndexLaws.{near_by}
-use borrow.Author.Rules.{rules}
 use Rattle.text.proofs.index.near_ill.Goals as goal
 
 pub tail_before-requires : goal.tail_before-requires

@@ -1,8 +1,6 @@
 -- `text::index::next_ill` meets its contract. The loop's invariant: there are whole characters from a up to i. The measure is what is left of the block.
-use Prim.Native.Nat.{◌+◌, ◌-◌, ◌/◌}
+use Prim.Native.Nat.{◌+◌, ◌/◌}
 use native.Mathlib.Omega.{arith}
-use borrow.Author.Rules.{rules}
-use Rattle.text.specs.Utf8.{Past}
 use Rattle.text.proofs.Utf8Laws.{past-here, past_then}
 use Rattle.text.proofs.IndexLaws.{word-here, word_none, word_next}
 use Rattle.text.proofs.index.next_ill.Goals as goal

@@ -1,9 +1,6 @@
 -- `text::index::put_blocks` meets its contract. The loop's invariant: the words from k up to j are p. The measure is what is left of the words.
-use Prim.Native.Nat.{◌-◌}
 use native.Mathlib.Omega.{arith}
-use lib.ListN.{length, length-set}
-use borrow.Author.Rules.{rules}
-use Rattle.text.specs.Index.{Filled}
+use lib.ListN.{length-set}
 use Rattle.text.proofs.IndexLaws.{fill_none, fill-next}
 use Rattle.text.proofs.index.put_blocks.Goals as goal
 

@@ -1,10 +1,7 @@
 -- `text::index::put_blocks` meets its contract. The loop's invariant: the words from k up to j are p. The measure is what is left of the words.
 use Prim.Native.Nat.{◌-◌}
-use native.Mathlib.Omega.{arith}
-use lib.ListN.{length, length-set}
-use borrow.Author.Rules.{rules}
+use lib.ListN.{length}
 use Rattle.text.specs.Index.{Filled}
-use Rattle.text.proofs.IndexLaws.{fill_none, fill-next}
 use Rattle.text.proofs.index.put_blocks.Given as goal
 
 abbrev pub invariant-loop-j : goal.invariant-loop-j

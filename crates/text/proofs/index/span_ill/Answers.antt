@@ -1,6 +1,5 @@
 -- `text::span_ill` meets its contract: by its two ends before the first ill-formed place, else by the index.
 use native.Mathlib.Omega.{arith}
-use borrow.Author.Rules.{rules}
 use Rattle.text.proofs.IndexLaws.{all-ill, all-length, words-all, word_first}
 use Rattle.text.proofs.index.span_ill.Goals as goal
 

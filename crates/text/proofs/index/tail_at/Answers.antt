@@ -1,6 +1,5 @@
 -- `text::index::tail_at` meets its contract: beyond the end there is no tail. (01: refusal 6)
 use mathlib.Core.Path.{◌∙◌}
-use borrow.Author.Rules.{rules}
 use Rattle.text.proofs.IndexLaws.{tail_any}
 use Rattle.text.proofs.index.tail_at.Goals as goal
 

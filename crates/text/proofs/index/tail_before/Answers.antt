@@ -1,6 +1,5 @@
 -- `text::index::tail_before` meets its contract: at the end and after it no place is looked at.
 use Rattle.text.proofs.IndexLaws.{tail_after, tail_here}
-use borrow.Author.Rules.{rules}
 use Rattle.text.proofs.index.tail_before.Goals as goal
 
 pub returns-then-end-i : goal.returns-then-end-i

@@ -2,7 +2,6 @@
 use native.Mathlib.Omega.{arith}
 use mathlib.Core.Path.{◌∙◌}
 use Rattle.text.proofs.FindLaws.{found_first, found-second, found_third, found_fourth, past-four}
-use borrow.Author.Rules.{rules}
 use Rattle.text.proofs.parts.find_byte.Goals as goal
 
 pub returns-then-s-from-2 : goal.returns-then-s-from-2

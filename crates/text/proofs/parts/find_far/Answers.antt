@@ -1,10 +1,5 @@
 -- `text::parts::find_far` meets its contract. The loop's invariant: the first c from `i` on is the first from `from` on.
-use Prim.Native.Nat.{◌-◌}
-use mathlib.Core.Path.{◌≡◌, sym, ◌∙◌}
-use native.Mathlib.Omega.{arith}
-use lib.ListN.{length}
-use borrow.Author.Rules.{rules}
-use Rattle.lin_spec.specs.Cursor.{find_from}
+use mathlib.Core.Path.{sym, ◌∙◌}
 use Rattle.lin_spec.proofs.Cursor.{find-end, find-here, find-next}
 use Rattle.text.proofs.parts.find_far.Goals as goal
 

@@ -1,5 +1,4 @@
 -- `text::part` meets its contract: nothing, the rest of the text, or a part within it.
-use borrow.Author.Rules.{rules}
 use Rattle.text.proofs.PartLaws.{part-past, part_to_end, part-within}
 use Rattle.text.proofs.parts.part.Goals as goal
 

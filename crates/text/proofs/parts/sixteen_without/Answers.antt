@@ -1,7 +1,6 @@
 use native.Mathlib.Omega.{arith}
 use mathlib.Core.Bool.{false≢true}
 use Rattle.text.proofs.FindLaws.{sixteen_without_lem}
-use borrow.Author.Rules.{rules}
 use Rattle.text.proofs.parts.sixteen_without.Goals as goal
 
 pub returns-then-s-lt16 : goal.returns-then-s-lt16

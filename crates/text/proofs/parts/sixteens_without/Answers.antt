@@ -1,10 +1,6 @@
 -- `text::parts::sixteens_end` meets its contract. The loop's invariant: the first c from `i` on is the first from `from` on. The measure is what is left of the length.
-use Prim.Native.Nat.{◌-◌}
 use native.Mathlib.Omega.{arith}
-use mathlib.Core.Path.{◌≡◌, refl, ◌∙◌}
-use lib.ListN.{length}
-use borrow.Author.Rules.{rules}
-use Rattle.lin_spec.specs.Cursor.{find_from}
+use mathlib.Core.Path.{◌∙◌}
 use Rattle.text.proofs.parts.sixteens_without.Goals as goal
 
 pub overflow_add-i : goal.overflow_add-i

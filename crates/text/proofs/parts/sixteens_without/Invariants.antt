@@ -1,9 +1,7 @@
 -- `text::parts::sixteens_end` meets its contract. The loop's invariant: the first c from `i` on is the first from `from` on. The measure is what is left of the length.
 use Prim.Native.Nat.{◌-◌}
-use native.Mathlib.Omega.{arith}
-use mathlib.Core.Path.{◌≡◌, refl, ◌∙◌}
+use mathlib.Core.Path.{◌≡◌}
 use lib.ListN.{length}
-use borrow.Author.Rules.{rules}
 use Rattle.lin_spec.specs.Cursor.{find_from}
 use Rattle.text.proofs.parts.sixteens_without.Given as goal
 

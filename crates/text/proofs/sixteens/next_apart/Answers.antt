@@ -1,9 +1,6 @@
 -- `text::next_apart` meets its contract: a turn passes two bytes that are the same. The measure is what is left of the shorter text.
-use Prim.Native.Nat.{◌-◌}
 use native.Mathlib.Omega.{arith}
-use mathlib.Core.Path.{◌≡◌, ◌∙◌}
-use borrow.Author.Rules.{rules}
-use Rattle.text.specs.Apart.{next_apart}
+use mathlib.Core.Path.{◌∙◌}
 use Rattle.text.proofs.ApartLaws.{min-both, differ, same, over}
 use Rattle.text.proofs.sixteens.next_apart.Goals as goal
 

@@ -1,5 +1,4 @@
 -- `text::same_bytes` meets its contract: texts that are as long are the same where they differ nowhere.
-use borrow.Author.Rules.{rules}
 use Rattle.text.proofs.ApartLaws.{whole_length, whole_same}
 use Rattle.text.proofs.sixteens.same_bytes.Goals as goal
 

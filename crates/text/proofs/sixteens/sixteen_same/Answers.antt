@@ -1,7 +1,6 @@
 -- `text::sixteens::sixteen_same` meets its contract.
 use native.Mathlib.Omega.{arith}
 use mathlib.Core.Bool.{false≢true}
-use borrow.Author.Rules.{rules}
 use Rattle.text.proofs.ApartLaws.{sixteen_same_lem}
 use Rattle.text.proofs.sixteens.sixteen_same.Goals as goal
 

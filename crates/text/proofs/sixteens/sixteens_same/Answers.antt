@@ -1,9 +1,6 @@
 -- `text::sixteens::sixteens_end` meets its contract. The loop's invariant: what is left decides. The measure is what is left of the length.
-use Prim.Native.Nat.{◌-◌, ◌≤◌}
 use native.Mathlib.Omega.{arith}
-use mathlib.Core.Path.{◌≡◌, refl, ◌∙◌}
-use lib.ListN.{length}
-use Rattle.text.specs.Apart.{next_apart}
+use mathlib.Core.Path.{refl, ◌∙◌}
 use Rattle.text.proofs.sixteens.sixteens_same.Goals as goal
 
 pub loop-i-init : goal.loop-i-init

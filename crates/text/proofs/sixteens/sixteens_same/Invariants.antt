@@ -1,7 +1,6 @@
 -- `text::sixteens::sixteens_end` meets its contract. The loop's invariant: what is left decides. The measure is what is left of the length.
 use Prim.Native.Nat.{◌-◌, ◌≤◌}
-use native.Mathlib.Omega.{arith}
-use mathlib.Core.Path.{◌≡◌, refl, ◌∙◌}
+use mathlib.Core.Path.{◌≡◌}
 use lib.ListN.{length}
 use Rattle.text.specs.Apart.{next_apart}
 use Rattle.text.proofs.sixteens.sixteens_same.Given as goal

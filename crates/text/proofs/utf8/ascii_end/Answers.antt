@@ -1,8 +1,4 @@
 -- `text::utf8::ascii_end` meets its contract. The loop's invariant: there are whole characters from `from` up to i. The measure is what is left of the length.
-use Prim.Native.Nat.{◌-◌}
-use lib.ListN.{length}
-use borrow.Author.Rules.{rules}
-use Rattle.text.specs.Utf8.{Past}
 use Rattle.text.proofs.Utf8Laws.{past_next}
 use Rattle.text.proofs.utf8.ascii_end.Goals as goal
 

@@ -1,7 +1,6 @@
 -- `text::utf8::ascii_sixteen` meets its contract: the bytes are there where they are looked at.
 use native.Mathlib.Omega.{arith}
 use mathlib.Core.Bool.{false≢true}
-use borrow.Author.Rules.{rules}
 use Rattle.text.proofs.utf8.ascii_sixteen.Goals as goal
 
 pub returns-then-s-lt16 : goal.returns-then-s-lt16

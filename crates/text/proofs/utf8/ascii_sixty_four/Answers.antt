@@ -1,7 +1,6 @@
 -- `text::utf8::ascii_sixty_four` meets its contract: four times sixteen bytes, which are there where they are looked at.
 use native.Mathlib.Omega.{arith}
 use mathlib.Core.Bool.{false≢true}
-use borrow.Author.Rules.{rules}
 use Rattle.text.proofs.Utf8Laws.{four-past}
 use Rattle.text.proofs.utf8.ascii_sixty_four.Goals as goal
 

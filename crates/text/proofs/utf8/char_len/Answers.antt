@@ -1,8 +1,6 @@
 -- `text::utf8::char_len` meets its contract. The loop's invariant: the first k bytes are those of a character of n bytes so far, whose next byte is to be
-use Prim.Native.Nat.{◌-◌}
 use native.Mathlib.Omega.{arith}
-use borrow.Author.Rules.{rules}
-use Rattle.text.proofs.Utf8Laws.{Seen, seen_nothing, seen_first, seen_short, seen_out, seen_next}
+use Rattle.text.proofs.Utf8Laws.{seen_nothing, seen_first, seen_short, seen_out, seen_next}
 use Rattle.text.proofs.utf8.char_len.Goals as goal
 
 pub returns-then-t-eq0 : goal.returns-then-t-eq0

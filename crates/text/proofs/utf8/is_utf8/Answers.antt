@@ -1,4 +1,3 @@
-use borrow.Author.Rules.{rules}
 use Rattle.text.proofs.Utf8Laws.{all-utf8}
 use Rattle.text.proofs.utf8.is_utf8.Goals as goal
 

@@ -1,6 +1,5 @@
 -- `text::utf8::pass_chars` meets its contract: sixteen bytes are passed, or a character.
 use Rattle.text.proofs.Utf8Laws.{step_sixteen, step_char}
-use borrow.Author.Rules.{rules}
 use Rattle.text.proofs.utf8.pass_chars.Goals as goal
 
 pub returns-then-ascii_sixteen : goal.returns-then-ascii_sixteen

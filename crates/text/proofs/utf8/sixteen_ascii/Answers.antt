@@ -1,6 +1,5 @@
 use native.Mathlib.Omega.{arith}
 use Rattle.text.proofs.Utf8Laws.{sixteen_past}
-use borrow.Author.Rules.{rules}
 use Rattle.text.proofs.utf8.sixteen_ascii.Goals as goal
 
 pub returns : goal.returns

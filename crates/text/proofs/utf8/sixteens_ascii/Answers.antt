@@ -1,9 +1,5 @@
 -- `text::utf8::sixteens_end` meets its contract. The loop's invariant: there are whole characters from `from` up to i. The measure is what is left of the length.
-use Prim.Native.Nat.{◌-◌}
 use native.Mathlib.Omega.{arith}
-use lib.ListN.{length}
-use borrow.Author.Rules.{rules}
-use Rattle.text.specs.Utf8.{Past}
 use Rattle.text.proofs.Utf8Laws.{past-here, past_then}
 use Rattle.text.proofs.utf8.sixteens_ascii.Goals as goal
 

@@ -1,10 +1,7 @@
 -- `text::utf8::well_formed_len` meets its contract. The loop's invariant: there are whole characters up to i. The measure is what is left of the length.
 use Prim.Native.Nat.{◌-◌}
-use native.Mathlib.Omega.{arith}
 use lib.ListN.{length}
-use borrow.Author.Rules.{rules}
 use Rattle.text.specs.Utf8.{Past}
-use Rattle.text.proofs.Utf8Laws.{past_then, past_end, char_room, char_past, char_none}
 use Rattle.text.proofs.utf8.well_formed_len.Given as goal
 
 abbrev pub invariant-loop-i : goal.invariant-loop-i

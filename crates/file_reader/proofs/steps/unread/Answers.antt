@@ -1,0 +1,7 @@
+-- `file_reader::unread` meets its contract.
+use mathlib.Core.Path.{refl}
+use borrow.Author.Rules.{rules}
+use Rattle.file_reader.proofs.steps.unread.Goals as goal
+
+pub returns : goal.returns
+returns c = rw c.new-board.ensures refl

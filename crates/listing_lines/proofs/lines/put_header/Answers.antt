@@ -1,0 +1,10 @@
+-- `listing_lines::put_header` meets its contract: one put.
+use Rattle.listing_lines.proofs.LineLaws.{header_is}
+use borrow.Author.Rules.{rules}
+use Rattle.listing_lines.proofs.lines.put_header.Goals as goal
+
+pub put_bytes-requires : goal.put_bytes-requires
+put_bytes-requires c = record { room = (rw header_is at c.requires).room }
+
+pub returns : goal.returns
+returns c = rw header_is c.put_bytes.ensures

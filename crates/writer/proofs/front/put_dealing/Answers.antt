@@ -1,0 +1,66 @@
+-- `writer::put_dealing` meets its contract: a run of puts, each of which takes one piece off what is left to write.
+-- what is left to write after k of the puts
+use Rattle.board_lent.specs.Heads.{board_of}
+use Prim.Native.Nat.{ℕ}
+use mathlib.Core.List.{List}
+use lib.ListN.{drop}
+use Rattle.output.specs.Put.{joined}
+use Rattle.output.proofs.Laws.{Left, start, roomy, step, finish}
+use Rattle.writer.specs.Pieces.{dealing_pieces, dealing_text}
+use borrow.Author.Rules.{rules}
+use Rattle.writer.proofs.front.put_dealing.Goals as goal
+
+pub put_bytes-a-requires : goal.put_bytes-a-requires
+put_bytes-a-requires c =
+    let after-0 : (Left c.args.out.now c.args.at (joined (drop 0 (dealing_pieces (board_of c.args.head c.args.counts.now)))) c.args.out.now c.args.at (dealing_text (board_of c.args.head c.args.counts.now))) = unfold dealing_text in start c.requires.0 in
+    roomy _ _ (after-0)
+
+pub put_md-b-requires : goal.put_md-b-requires
+put_md-b-requires c =
+    let after-0 : (Left c.args.out.now c.args.at (joined (drop 0 (dealing_pieces (board_of c.args.head c.args.counts.now)))) c.args.out.now c.args.at (dealing_text (board_of c.args.head c.args.counts.now))) = unfold dealing_text in start c.requires.0 in
+    let after-1 : (Left c.put_bytes-a.new.out c.put_bytes-a.result (joined (drop 1 (dealing_pieces (board_of c.args.head c.args.counts.now)))) c.args.out.now c.args.at (dealing_text (board_of c.args.head c.args.counts.now))) = step (after-0) c.put_bytes-a.ensures in
+    (roomy _ _ (after-1), c.requires.1)
+
+pub put_bytes-c-requires : goal.put_bytes-c-requires
+put_bytes-c-requires c =
+    let after-0 : (Left c.args.out.now c.args.at (joined (drop 0 (dealing_pieces (board_of c.args.head c.args.counts.now)))) c.args.out.now c.args.at (dealing_text (board_of c.args.head c.args.counts.now))) = unfold dealing_text in start c.requires.0 in
+    let after-1 : (Left c.put_bytes-a.new.out c.put_bytes-a.result (joined (drop 1 (dealing_pieces (board_of c.args.head c.args.counts.now)))) c.args.out.now c.args.at (dealing_text (board_of c.args.head c.args.counts.now))) = step (after-0) c.put_bytes-a.ensures in
+    let after-2 : (Left c.put_md-b.new.out c.put_md-b.result (joined (drop 2 (dealing_pieces (board_of c.args.head c.args.counts.now)))) c.args.out.now c.args.at (dealing_text (board_of c.args.head c.args.counts.now))) = step (after-1) c.put_md-b.ensures in
+    roomy _ _ (after-2)
+
+pub put_sv-d-requires : goal.put_sv-d-requires
+put_sv-d-requires c =
+    let after-0 : (Left c.args.out.now c.args.at (joined (drop 0 (dealing_pieces (board_of c.args.head c.args.counts.now)))) c.args.out.now c.args.at (dealing_text (board_of c.args.head c.args.counts.now))) = unfold dealing_text in start c.requires.0 in
+    let after-1 : (Left c.put_bytes-a.new.out c.put_bytes-a.result (joined (drop 1 (dealing_pieces (board_of c.args.head c.args.counts.now)))) c.args.out.now c.args.at (dealing_text (board_of c.args.head c.args.counts.now))) = step (after-0) c.put_bytes-a.ensures in
+    let after-2 : (Left c.put_md-b.new.out c.put_md-b.result (joined (drop 2 (dealing_pieces (board_of c.args.head c.args.counts.now)))) c.args.out.now c.args.at (dealing_text (board_of c.args.head c.args.counts.now))) = step (after-1) c.put_md-b.ensures in
+    let after-3 : (Left c.put_bytes-c.new.out c.put_bytes-c.result (joined (drop 3 (dealing_pieces (board_of c.args.head c.args.counts.now)))) c.args.out.now c.args.at (dealing_text (board_of c.args.head c.args.counts.now))) = step (after-2) c.put_bytes-c.ensures in
+    roomy _ _ (after-3)
+
+pub put_bytes-requires : goal.put_bytes-requires
+put_bytes-requires c =
+    let after-0 : (Left c.args.out.now c.args.at (joined (drop 0 (dealing_pieces (board_of c.args.head c.args.counts.now)))) c.args.out.now c.args.at (dealing_text (board_of c.args.head c.args.counts.now))) = unfold dealing_text in start c.requires.0 in
+    let after-1 : (Left c.put_bytes-a.new.out c.put_bytes-a.result (joined (drop 1 (dealing_pieces (board_of c.args.head c.args.counts.now)))) c.args.out.now c.args.at (dealing_text (board_of c.args.head c.args.counts.now))) = step (after-0) c.put_bytes-a.ensures in
+    let after-2 : (Left c.put_md-b.new.out c.put_md-b.result (joined (drop 2 (dealing_pieces (board_of c.args.head c.args.counts.now)))) c.args.out.now c.args.at (dealing_text (board_of c.args.head c.args.counts.now))) = step (after-1) c.put_md-b.ensures in
+    let after-3 : (Left c.put_bytes-c.new.out c.put_bytes-c.result (joined (drop 3 (dealing_pieces (board_of c.args.head c.args.counts.now)))) c.args.out.now c.args.at (dealing_text (board_of c.args.head c.args.counts.now))) = step (after-2) c.put_bytes-c.ensures in
+    let after-4 : (Left c.put_sv-d.new.out c.put_sv-d.result (joined (drop 4 (dealing_pieces (board_of c.args.head c.args.counts.now)))) c.args.out.now c.args.at (dealing_text (board_of c.args.head c.args.counts.now))) = step (after-3) c.put_sv-d.ensures in
+    roomy _ _ (after-4)
+
+pub shape_of-out : goal.shape_of-out
+shape_of-out c =
+    let after-0 : (Left c.args.out.now c.args.at (joined (drop 0 (dealing_pieces (board_of c.args.head c.args.counts.now)))) c.args.out.now c.args.at (dealing_text (board_of c.args.head c.args.counts.now))) = unfold dealing_text in start c.requires.0 in
+    let after-1 : (Left c.put_bytes-a.new.out c.put_bytes-a.result (joined (drop 1 (dealing_pieces (board_of c.args.head c.args.counts.now)))) c.args.out.now c.args.at (dealing_text (board_of c.args.head c.args.counts.now))) = step (after-0) c.put_bytes-a.ensures in
+    let after-2 : (Left c.put_md-b.new.out c.put_md-b.result (joined (drop 2 (dealing_pieces (board_of c.args.head c.args.counts.now)))) c.args.out.now c.args.at (dealing_text (board_of c.args.head c.args.counts.now))) = step (after-1) c.put_md-b.ensures in
+    let after-3 : (Left c.put_bytes-c.new.out c.put_bytes-c.result (joined (drop 3 (dealing_pieces (board_of c.args.head c.args.counts.now)))) c.args.out.now c.args.at (dealing_text (board_of c.args.head c.args.counts.now))) = step (after-2) c.put_bytes-c.ensures in
+    let after-4 : (Left c.put_sv-d.new.out c.put_sv-d.result (joined (drop 4 (dealing_pieces (board_of c.args.head c.args.counts.now)))) c.args.out.now c.args.at (dealing_text (board_of c.args.head c.args.counts.now))) = step (after-3) c.put_sv-d.ensures in
+    let after-5 : (Left c.put_bytes.new.out c.put_bytes.result (joined (drop 5 (dealing_pieces (board_of c.args.head c.args.counts.now)))) c.args.out.now c.args.at (dealing_text (board_of c.args.head c.args.counts.now))) = step (after-4) c.put_bytes.ensures in
+    (after-5).long
+
+pub returns : goal.returns
+returns c =
+    let after-0 : (Left c.args.out.now c.args.at (joined (drop 0 (dealing_pieces (board_of c.args.head c.args.counts.now)))) c.args.out.now c.args.at (dealing_text (board_of c.args.head c.args.counts.now))) = unfold dealing_text in start c.requires.0 in
+    let after-1 : (Left c.put_bytes-a.new.out c.put_bytes-a.result (joined (drop 1 (dealing_pieces (board_of c.args.head c.args.counts.now)))) c.args.out.now c.args.at (dealing_text (board_of c.args.head c.args.counts.now))) = step (after-0) c.put_bytes-a.ensures in
+    let after-2 : (Left c.put_md-b.new.out c.put_md-b.result (joined (drop 2 (dealing_pieces (board_of c.args.head c.args.counts.now)))) c.args.out.now c.args.at (dealing_text (board_of c.args.head c.args.counts.now))) = step (after-1) c.put_md-b.ensures in
+    let after-3 : (Left c.put_bytes-c.new.out c.put_bytes-c.result (joined (drop 3 (dealing_pieces (board_of c.args.head c.args.counts.now)))) c.args.out.now c.args.at (dealing_text (board_of c.args.head c.args.counts.now))) = step (after-2) c.put_bytes-c.ensures in
+    let after-4 : (Left c.put_sv-d.new.out c.put_sv-d.result (joined (drop 4 (dealing_pieces (board_of c.args.head c.args.counts.now)))) c.args.out.now c.args.at (dealing_text (board_of c.args.head c.args.counts.now))) = step (after-3) c.put_sv-d.ensures in
+    let after-5 : (Left c.put_bytes.new.out c.put_bytes.result (joined (drop 5 (dealing_pieces (board_of c.args.head c.args.counts.now)))) c.args.out.now c.args.at (dealing_text (board_of c.args.head c.args.counts.now))) = step (after-4) c.put_bytes.ensures in
+    finish (after-5)

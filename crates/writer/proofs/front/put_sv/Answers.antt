@@ -1,0 +1,9 @@
+-- `writer::put_sv` meets its contract: the letter of the vulnerability is what is put.
+use borrow.Author.Rules.{rules}
+use Rattle.writer.proofs.front.put_sv.Goals as goal
+
+pub put_byte-requires : goal.put_byte-requires
+put_byte-requires c = rw c.letter.ensures c.requires
+
+pub returns : goal.returns
+returns c = rw c.letter.ensures at c.put_byte.ensures

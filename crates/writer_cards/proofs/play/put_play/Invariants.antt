@@ -1,0 +1,19 @@
+-- `writer_cards::play::put_play` meets its contract: a turn takes one card, and what stands before it, off what is left to write.
+use Prim.Native.Nat.{◌+◌, ◌-◌, ◌≤◌}
+use mathlib.Core.List.{◌++◌}
+use native.Mathlib.Omega.{arith}
+use lib.ListN.{length, get_or, drop}
+use borrow.Author.Rules.{rules}
+use Rattle.lin_spec.specs.Writer.{card_letters}
+use Rattle.lin_spec.specs.Play.{play_text}
+use Rattle.output.proofs.Laws.{Left, start, roomy, step, finish}
+use Rattle.writer_cards.specs.Tricks.{before_card}
+use Rattle.writer_cards.proofs.TrickLaws.{good_card}
+use Rattle.writer_cards.proofs.PlayLaws.{words_from, play-from, words_cons, words-end}
+use Rattle.writer_cards.proofs.play.put_play.Given as goal
+
+abbrev pub invariant-loop-i : goal.invariant-loop-i
+invariant-loop-i l = (l.i ≤ length l.cards) × Left l.out l.o (words_from l.i (drop l.i l.cards)) l.initial.out 0 (play_text l.cards)
+
+abbrev pub decreases-loop-i : goal.decreases-loop-i
+decreases-loop-i l = length l.cards - l.i
