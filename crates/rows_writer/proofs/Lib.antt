@@ -1,3 +1,2 @@
-pub mod Lending
 pub mod ScanLaws
 pub mod BeginLaws

@@ -1,7 +1,5 @@
 use native.Mathlib.Omega.{arith}
-use Prim.Native.Nat.{◌-◌, ◌≤◌}
-use lib.ListN.{length, drop}
-use Rattle.output.proofs.Laws.{Left, start, finish, turn, inside, end_of}
+use Rattle.output.proofs.Laws.{start, finish, turn, inside, end_of}
 use Rattle.output.proofs.put_bytes.Goals as goal
 
 pub loop-j-init : goal.loop-j-init

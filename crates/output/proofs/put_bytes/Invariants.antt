@@ -1,7 +1,6 @@
-use native.Mathlib.Omega.{arith}
 use Prim.Native.Nat.{◌-◌, ◌≤◌}
 use lib.ListN.{length, drop}
-use Rattle.output.proofs.Laws.{Left, start, finish, turn, inside, end_of}
+use Rattle.output.proofs.Laws.{Left}
 use Rattle.output.proofs.put_bytes.Given as goal
 
 abbrev pub invariant-loop-j : goal.invariant-loop-j

@@ -1,5 +1,4 @@
 -- `output::put_span` meets its contract: the bytes of the span are what is put.
-use borrow.Author.Rules.{rules}
 use Rattle.output.proofs.put_span.Goals as goal
 
 pub put_bytes-requires : goal.put_bytes-requires

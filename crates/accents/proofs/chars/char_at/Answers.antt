@@ -1,5 +1,4 @@
 -- `accents::chars::char_at` meets its contract: by the number of bytes that the first one says.
-use borrow.Author.Rules.{rules}
 use Rattle.accents.proofs.CharLaws.{char_one, char_two, char_three, char_four}
 use Rattle.accents.proofs.chars.char_at.Goals as goal
 

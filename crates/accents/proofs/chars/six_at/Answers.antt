@@ -1,5 +1,4 @@
 -- `accents::chars::six_at` meets its contract.
-use borrow.Author.Rules.{rules}
 use Rattle.accents.proofs.CharLaws.{six-past}
 use Rattle.accents.proofs.chars.six_at.Goals as goal
 

@@ -1,5 +1,4 @@
 -- `accents::full::full_of` meets its contract: a line's last has no mapping, and what its first is mapped to has none.
-use borrow.Author.Rules.{rules}
 use Rattle.accents.proofs.FullLaws.{full_itself, full-one, full-two, full-two-one, full_three}
 use Rattle.accents.proofs.full.full_of.Goals as goal
 

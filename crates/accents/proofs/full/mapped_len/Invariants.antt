@@ -1,9 +1,7 @@
 -- `accents::full::mapped_len` meets its contract. The loop's invariant: n are counted up to i. The measure is what is left of the length.
 use Prim.Native.Nat.{◌-◌}
-use native.Mathlib.Omega.{arith}
 use lib.ListN.{length}
-use borrow.Author.Rules.{rules}
-use Rattle.accents.proofs.FullLaws.{Counted, count-start, count_next, count-end}
+use Rattle.accents.proofs.FullLaws.{Counted}
 use Rattle.accents.proofs.full.mapped_len.Given as goal
 
 abbrev pub invariant-loop-i : goal.invariant-loop-i

@@ -1,5 +1,4 @@
 -- `accents::lookup::class_of` meets its contract: by the table, and 0 outside of it.
-use borrow.Author.Rules.{rules}
 use Rattle.accents.proofs.ClassLaws.{class_below, class-past, class-at}
 use Rattle.accents.proofs.lookup.class_of.Goals as goal
 

@@ -1,10 +1,7 @@
 -- `accents::lookup::line_of` meets its contract. The loop's invariant: the line is from `low` to `high`. The measure is what is left between them.
-use Prim.Native.Nat.{◌+◌, ◌-◌, ◌/◌, ◌<◌, ◌≤◌}
-use native.Mathlib.Omega.{arith}
-use borrow.Author.Rules.{rules}
+use Prim.Native.Nat.{◌-◌, ◌≤◌}
 use Rattle.accents.specs.Lines.{lines_below}
 use Rattle.accents.specs.Table.{mapping_table}
-use Rattle.accents.proofs.LineLaws.{place-within, go_up, go_down}
 use Rattle.accents.proofs.lookup.line_of.Given as goal
 
 abbrev pub invariant-loop-low : goal.invariant-loop-low

@@ -1,6 +1,5 @@
 -- `accents::lookup::mapping_of` meets its contract: by the line that the search finds.
 use mathlib.Core.Path.{sym, ◌∙◌}
-use borrow.Author.Rules.{rules}
 use borrow.Author.Tests.{not-true}
 use Rattle.accents.proofs.LineLaws.{outside_lines, past-lines, other-there, one-there, two-there}
 use Rattle.accents.proofs.lookup.mapping_of.Goals as goal

@@ -1,9 +1,5 @@
 -- `accents::marks::next_in` meets its contract. The loop's invariant: no mark of the class is passed. The measure is what is left of the length.
-use Prim.Native.Nat.{◌-◌}
-use lib.ListN.{length}
-use lib.ListN.{length}
-use borrow.Author.Rules.{rules}
-use Rattle.accents.proofs.MarkLaws.{Passed, none_passed, next_here, next-on, next-end}
+use Rattle.accents.proofs.MarkLaws.{none_passed, next_here, next-on, next-end}
 use Rattle.accents.proofs.marks.next_in.Goals as goal
 
 pub loop-i-init : goal.loop-i-init

@@ -2,8 +2,7 @@
 use Prim.Native.Nat.{◌-◌}
 use lib.ListN.{length}
 use lib.ListN.{length}
-use borrow.Author.Rules.{rules}
-use Rattle.accents.proofs.MarkLaws.{Passed, none_passed, next_here, next-on, next-end}
+use Rattle.accents.proofs.MarkLaws.{Passed}
 use Rattle.accents.proofs.marks.next_in.Given as goal
 
 abbrev pub invariant-loop-i : goal.invariant-loop-i

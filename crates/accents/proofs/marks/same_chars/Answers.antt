@@ -1,9 +1,5 @@
 -- `accents::marks::same_chars` meets its contract. The loop's invariant: from i on the texts are as much the same as whole. The measure is what is left.
-use Prim.Native.Nat.{◌-◌}
-use mathlib.Core.Path.{refl}
-use lib.ListN.{length}
-use borrow.Author.Rules.{rules}
-use Rattle.accents.proofs.MarkLaws.{Words, words_differ, words-next, words-end}
+use Rattle.accents.proofs.MarkLaws.{words_differ, words-next, words-end}
 use Rattle.accents.proofs.marks.same_chars.Goals as goal
 
 pub returns-then-x-i : goal.returns-then-x-i

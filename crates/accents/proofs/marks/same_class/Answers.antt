@@ -1,9 +1,6 @@
 -- `accents::marks::same_class` meets its contract. The loop's invariant: what is left is as much the same as the whole. The measure is what is left of the first.
-use Prim.Native.Nat.{◌-◌}
 use native.Mathlib.Omega.{arith}
-use lib.ListN.{length}
-use borrow.Author.Rules.{rules}
-use Rattle.accents.proofs.MarkLaws.{Along, along_start, along_short, along_differ, along_next, along_end}
+use Rattle.accents.proofs.MarkLaws.{along_start, along_short, along_differ, along_next, along_end}
 use Rattle.accents.proofs.marks.same_class.Goals as goal
 
 pub loop-i-init : goal.loop-i-init

@@ -1,10 +1,8 @@
 -- `accents::marks::same_classes` meets its contract. The loop's invariant: the first n classes are the same. The measure is how many are left.
-use Prim.Native.Nat.{◌-◌}
 use native.Mathlib.Omega.{arith}
-use borrow.Author.Rules.{rules}
 use borrow.Author.Tests.{not-true, not-false}
 use Rattle.accents.specs.Marks.{ranks as the_ranks}
-use Rattle.accents.proofs.MarkLaws.{Same, class_differs, ranks-next, ranks-end}
+use Rattle.accents.proofs.MarkLaws.{class_differs, ranks-next, ranks-end}
 use Rattle.accents.proofs.marks.same_classes.Goals as goal
 
 pub returns-then-not-same_class : goal.returns-then-not-same_class

@@ -1,5 +1,4 @@
 -- `accents::marks::same_order` meets its contract: by the lengths, the characters or the classes.
-use borrow.Author.Rules.{rules}
 use Rattle.accents.proofs.MarkLaws.{length_differs, words_ordered}
 use Rattle.accents.proofs.marks.same_order.Goals as goal
 

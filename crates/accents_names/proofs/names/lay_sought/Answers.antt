@@ -1,6 +1,5 @@
 -- `accents_names::names::lay_sought` meets its contract: nothing is to be put, or the front holds what is put.
 use mathlib.Core.Path.{refl}
-use borrow.Author.Rules.{rules}
 use Rattle.accents_names.proofs.NameLaws.{laid-ascii, laid_put, put_long}
 use Rattle.accents_names.proofs.names.lay_sought.Goals as goal
 

@@ -1,10 +1,6 @@
 -- `accents_names::names::only_ascii` meets its contract. The loop's invariant: from i on the bytes are of ASCII as much as all are. The measure is what is left.
-use Prim.Native.Nat.{◌-◌}
 use native.Mathlib.Omega.{arith}
-use mathlib.Core.Path.{refl}
-use lib.ListN.{length}
-use borrow.Author.Rules.{rules}
-use Rattle.accents_names.proofs.NameLaws.{Asciis, ascii-stop, ascii-next, ascii-end}
+use Rattle.accents_names.proofs.NameLaws.{ascii-stop, ascii-next, ascii-end}
 use Rattle.accents_names.proofs.names.only_ascii.Goals as goal
 
 pub returns-then-s-i-ge128 : goal.returns-then-s-i-ge128

@@ -1,10 +1,7 @@
 -- `accents_names::names::only_ascii` meets its contract. The loop's invariant: from i on the bytes are of ASCII as much as all are. The measure is what is left.
 use Prim.Native.Nat.{◌-◌}
-use native.Mathlib.Omega.{arith}
-use mathlib.Core.Path.{refl}
 use lib.ListN.{length}
-use borrow.Author.Rules.{rules}
-use Rattle.accents_names.proofs.NameLaws.{Asciis, ascii-stop, ascii-next, ascii-end}
+use Rattle.accents_names.proofs.NameLaws.{Asciis}
 use Rattle.accents_names.proofs.names.only_ascii.Given as goal
 
 abbrev pub invariant-loop-i : goal.invariant-loop-i

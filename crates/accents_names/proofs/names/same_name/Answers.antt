@@ -1,6 +1,5 @@
 -- `accents_names::names::same_name` meets its contract: by the bytes, the number of mapped characters, or the two parts of the work space.
 use mathlib.Core.Path.{refl}
-use borrow.Author.Rules.{rules}
 use Rattle.accents_names.proofs.NameLaws.{bytes_same, ascii-other, few-other, name_fits, parts_within, name_long, laid_still, compared}
 use Rattle.accents_names.proofs.names.same_name.Goals as goal
 

@@ -1,5 +1,4 @@
 -- `accents_names::work::put_full` meets its contract: one put after the other.
-use borrow.Author.Rules.{rules}
 use Rattle.accents_names.proofs.FillLaws.{first-room, one_put, second-room, two_put, third_room, three_put}
 use Rattle.accents_names.proofs.work.put_full.Goals as goal
 

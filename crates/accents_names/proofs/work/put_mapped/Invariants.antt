@@ -1,11 +1,9 @@
 -- `accents_names::work::put_mapped` meets its contract. The loop's invariant: what is left to put is what the rest from i on is mapped to. The measure is what is left of the length.
 use Prim.Native.Nat.{◌-◌}
-use native.Mathlib.Omega.{arith}
 use lib.ListN.{length, drop}
-use Rattle.output.proofs.Laws.{Left, start}
+use Rattle.output.proofs.Laws.{Left}
 use Rattle.accents.specs.Mapping.{mapped}
 use Rattle.accents.specs.Chars.{chars}
-use Rattle.accents_names.proofs.FillLaws.{char_fits, char_put, chars-end}
 use Rattle.accents_names.proofs.work.put_mapped.Given as goal
 
 abbrev pub invariant-loop-i : goal.invariant-loop-i

@@ -1,6 +1,5 @@
 -- `cards::deals::all_thirteen` meets its contract: three sums. (01: Board, md)
 use mathlib.Core.Path.{refl}
-use borrow.Author.Rules.{rules}
 use Rattle.cards.proofs.deals.all_thirteen.Goals as goal
 
 pub returns : goal.returns

@@ -4,7 +4,6 @@ use mathlib.Core.Path.{refl, ap, ◌∙◌}
 use Rattle.lin_spec.specs.White.{blank}
 use Rattle.cards.specs.Deals.{with_hand}
 use Rattle.cards.proofs.DealLaws.{east-rest, east-read}
-use borrow.Author.Rules.{rules}
 use Rattle.cards.proofs.deals.count_east.Goals as goal
 
 pub field_at-east-requires : goal.field_at-east-requires

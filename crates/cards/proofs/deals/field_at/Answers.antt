@@ -1,5 +1,4 @@
 -- `cards::deals::field_at` meets its contract. (01: Board, md)
-use borrow.Author.Rules.{rules}
 use Rattle.cards.proofs.DealLaws.{find-from, field_found}
 use Rattle.cards.proofs.deals.field_at.Goals as goal
 

@@ -2,12 +2,10 @@
 -- what the whole makes of none, with no more cards counted than bytes are passed. The measure is what is left. (01: Board, md)
 use Prim.Native.Nat.{◌+◌, ◌-◌, ◌*◌, ◌<◌}
 use native.Mathlib.Omega.{arith}
-use lib.ListN.{length}
 use lib.Dec.{ltb}
 use borrow.Author.Tests.{ltb-true}
-use borrow.Author.Rules.{rules}
 use Rattle.lin_spec.proofs.Base.{and_left, and_right}
-use Rattle.cards.proofs.HandLaws.{Fielded, fielded_start, fielded_few, fielded_suit, fielded_card, fielded_comma, fielded_skip, fielded_end, comma_suit, comma_rank}
+use Rattle.cards.proofs.HandLaws.{fielded_start, fielded_few, fielded_suit, fielded_card, fielded_comma, fielded_skip, fielded_end, comma_suit, comma_rank}
 use Rattle.cards.proofs.hands.count_field.Goals as goal
 
 pub overflow_mul-first : goal.overflow_mul-first

@@ -1,12 +1,9 @@
 -- `cards::hands::count_rest` meets its contract. The loop's invariant: the counts passed stand in East's place. The measure is what is left.
 use Prim.Native.Nat.{◌-◌, ◌≤◌}
 use mathlib.Core.Path.{◌≡◌}
-use native.Mathlib.Omega.{arith}
-use lib.Seq.{paste, paste-zero}
-use borrow.Author.Rules.{rules}
+use lib.Seq.{paste}
 use Rattle.lin_spec.specs.Cards.{unheld_cards}
 use Rattle.cards.specs.Deals.{hand_of}
-use Rattle.cards.proofs.DealLaws.{rest-turn, rest_end}
 use Rattle.cards.proofs.hands.count_rest.Given as goal
 
 abbrev pub invariant-loop-c : goal.invariant-loop-c

@@ -1,13 +1,10 @@
 -- `cards::seat_sum` meets its contract. The loop is that of `hand_len`, over the part of the deal that is the hand. (01: Records)
 use Rattle.cards.proofs.HandLaws.{sum-next, sum-end, count_at, counts_most}
-use Rattle.lin_spec.specs.Cards.{sum}
 use Rattle.lin_spec.specs.Records.{part}
-use borrow.Author.Rules.{rules}
-use lib.ListN.{drop}
-use mathlib.Core.Path.{◌≡◌, ◌∙◌}
+use mathlib.Core.Path.{◌∙◌}
 use native.Mathlib.Omega.{arith}
 use native.Mathlib.Nat.{zero-add}
-use Prim.Native.Nat.{◌+◌, ◌-◌, ◌*◌, ◌^◌, ◌≤◌}
+use Prim.Native.Nat.{◌*◌}
 use Rattle.cards.proofs.hands.seat_sum.Goals as goal
 
 pub overflow_mul-first : goal.overflow_mul-first

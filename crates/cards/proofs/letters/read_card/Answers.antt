@@ -3,7 +3,6 @@ use native.Mathlib.Omega.{arith}
 use mathlib.Core.Path.{◌≡◌}
 use mathlib.Core.Option.{some}
 use lib.ListN.{get_or}
-use borrow.Author.Rules.{rules}
 use Rattle.lin_spec.specs.Cards.{suit_of, rank_of}
 use Rattle.lin_spec.proofs.Cards.{under, suit_under, rank_under}
 use Rattle.cards.proofs.LetterLaws.{none-by, some-by, not-two, card_no_suit, card_no_rank, card-is}

@@ -1,6 +1,5 @@
 -- `digits::after_plus` meets its contract: nothing, a plus sign or another byte at the front.
 use Rattle.digits.proofs.DigitLaws.{plus_none, plus_here, plus_not}
-use borrow.Author.Rules.{rules}
 use Rattle.digits.proofs.digits.after_plus.Goals as goal
 
 pub returns-then-s-eq0 : goal.returns-then-s-eq0

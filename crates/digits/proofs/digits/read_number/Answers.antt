@@ -1,10 +1,8 @@
 -- `digits::read_number` meets its contract: a turn takes one digit off what is left to count.
-use Prim.Native.Nat.{◌-◌}
 use native.Mathlib.Omega.{arith}
 use mathlib.Core.Path.{refl, sym, ◌∙◌}
-use lib.ListN.{length}
 use borrow.Author.Tests.{not-true, not-false}
-use Rattle.digits.proofs.DigitLaws.{Counted, digit_least, count_turn, number_empty, number-bad, number_is, number-over}
+use Rattle.digits.proofs.DigitLaws.{digit_least, count_turn, number_empty, number-bad, number_is, number-over}
 use Rattle.digits.proofs.digits.read_number.Goals as goal
 
 pub returns-then-t-eq0 : goal.returns-then-t-eq0

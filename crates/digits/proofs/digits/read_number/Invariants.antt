@@ -1,10 +1,7 @@
 -- `digits::read_number` meets its contract: a turn takes one digit off what is left to count.
 use Prim.Native.Nat.{◌-◌}
-use native.Mathlib.Omega.{arith}
-use mathlib.Core.Path.{refl, sym, ◌∙◌}
 use lib.ListN.{length}
-use borrow.Author.Tests.{not-true, not-false}
-use Rattle.digits.proofs.DigitLaws.{Counted, digit_least, count_turn, number_empty, number-bad, number_is, number-over}
+use Rattle.digits.proofs.DigitLaws.{Counted}
 use Rattle.digits.proofs.digits.read_number.Given as goal
 
 abbrev pub invariant-loop-i : goal.invariant-loop-i

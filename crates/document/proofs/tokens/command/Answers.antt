@@ -1,5 +1,4 @@
 -- `document::command` meets its contract: a part of the text.
-use borrow.Author.Rules.{rules}
 use Rattle.document.proofs.tokens.command.Goals as goal
 
 pub returns : goal.returns

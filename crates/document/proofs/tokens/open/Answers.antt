@@ -1,6 +1,5 @@
 -- `document::open` meets its contract: the two tests are the two checks.
 use Rattle.document.proofs.Answers.{open-long, open-ill, open-good}
-use borrow.Author.Rules.{rules}
 use Rattle.document.proofs.tokens.open.Goals as goal
 
 pub returns-then-text-gt-LIMIT : goal.returns-then-text-gt-LIMIT

@@ -1,5 +1,4 @@
 -- `document::trailing` meets its contract: a part that reaches the end.
-use borrow.Author.Rules.{rules}
 use native.Mathlib.Omega.{arith}
 use mathlib.Core.Path.{◌∙◌}
 use Rattle.lin_spec.proofs.Records.{part-rest}

@@ -1,5 +1,4 @@
 -- `document::value` meets its contract: a part of the text.
-use borrow.Author.Rules.{rules}
 use Rattle.document.proofs.tokens.value.Goals as goal
 
 pub returns : goal.returns

@@ -1,6 +1,5 @@
 -- `document_commands::after_lf` meets its contract: an LF in front of a command is trimmed. (01: Tokens)
 use Rattle.document_commands.proofs.CommandLaws.{same_here, same_lf}
-use borrow.Author.Rules.{rules}
 use Rattle.document_commands.proofs.commands.after_lf.Goals as goal
 
 pub returns-then-p-at : goal.returns-then-p-at

@@ -2,7 +2,6 @@
 use mathlib.Core.Path.{ap, sym, ◌∙◌}
 use Rattle.document_commands.specs.Commands.{command_of}
 use Rattle.document_commands.proofs.CommandLaws.{two_bytes}
-use borrow.Author.Rules.{rules}
 use Rattle.document_commands.proofs.commands.command_at.Goals as goal
 
 pub returns-then-p-a-eq2 : goal.returns-then-p-a-eq2

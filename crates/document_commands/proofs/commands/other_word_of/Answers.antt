@@ -1,6 +1,5 @@
 -- `document_commands::other_word_of` meets its contract: each test is that of the next word.
 use Rattle.document_commands.proofs.CommandLaws.{word-here, word_next, word_none}
-use borrow.Author.Rules.{rules}
 use Rattle.document_commands.proofs.commands.other_word_of.Goals as goal
 
 pub returns-then-same_word : goal.returns-then-same_word

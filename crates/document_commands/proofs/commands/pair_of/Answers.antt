@@ -2,7 +2,6 @@
 use native.Mathlib.Omega.{arith}
 use mathlib.Core.Path.{◌∙◌}
 use Rattle.document_commands.proofs.CommandLaws.{pair_code, code-word, none-p, none_m}
-use borrow.Author.Rules.{rules}
 use Rattle.document_commands.proofs.commands.pair_of.Goals as goal
 
 pub returns-then-y-eq99 : goal.returns-then-y-eq99

@@ -2,7 +2,6 @@
 use mathlib.Core.Path.{ap, ◌∙◌}
 use Rattle.lin_spec.specs.Records.{part}
 use Rattle.document_commands.specs.Commands.{words, first_word, command_of}
-use borrow.Author.Rules.{rules}
 use Rattle.document_commands.proofs.commands.word_at.Goals as goal
 
 pub returns : goal.returns

@@ -1,6 +1,5 @@
 -- `document_commands::word_of` meets its contract: each test is that of the next word.
 use Rattle.document_commands.proofs.CommandLaws.{word-here, word_next}
-use borrow.Author.Rules.{rules}
 use Rattle.document_commands.proofs.commands.word_of.Goals as goal
 
 pub returns-then-same_word : goal.returns-then-same_word

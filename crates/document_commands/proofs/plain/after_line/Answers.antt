@@ -1,7 +1,6 @@
 -- `document_commands::after_line` meets its contract: the byte that was passed is an LF.
 use native.Mathlib.Omega.{arith}
 use Rattle.document_commands.proofs.PlainLaws.{skips-here, skips_lf}
-use borrow.Author.Rules.{rules}
 use Rattle.document_commands.proofs.plain.after_line.Goals as goal
 
 pub returns-then-text-at : goal.returns-then-text-at

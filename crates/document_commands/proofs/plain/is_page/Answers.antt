@@ -2,7 +2,6 @@
 use mathlib.Core.Bool.{false≢true}
 use native.Mathlib.Omega.{arith}
 use Rattle.document_commands.proofs.PlainLaws.{page_at}
-use borrow.Author.Rules.{rules}
 use Rattle.document_commands.proofs.plain.is_page.Goals as goal
 
 pub returns-then-text-lt4 : goal.returns-then-text-lt4

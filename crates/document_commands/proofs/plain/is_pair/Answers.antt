@@ -2,7 +2,6 @@
 use native.Mathlib.Omega.{arith}
 use mathlib.Core.Bool.{false≢true}
 use Rattle.document_commands.proofs.PlainLaws.{pair-at}
-use borrow.Author.Rules.{rules}
 use Rattle.document_commands.proofs.plain.is_pair.Goals as goal
 
 pub returns-then-text-lt3 : goal.returns-then-text-lt3

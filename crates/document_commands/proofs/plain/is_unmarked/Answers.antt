@@ -2,7 +2,6 @@
 use mathlib.Core.Bool.{false≢true}
 use native.Mathlib.Omega.{arith}
 use Rattle.document_commands.proofs.PlainLaws.{unmarked-at}
-use borrow.Author.Rules.{rules}
 use Rattle.document_commands.proofs.plain.is_unmarked.Goals as goal
 
 pub returns-then-text-lt3 : goal.returns-then-text-lt3

@@ -1,7 +1,6 @@
 -- `document_commands::plain_card` meets its contract: four bytes are tested, and two are a card.
 use native.Mathlib.Omega.{arith}
 use Rattle.document_commands.proofs.PlainLaws.{card-at}
-use borrow.Author.Rules.{rules}
 use Rattle.document_commands.proofs.plain.plain_card.Goals as goal
 
 pub returns-then-text-lt6 : goal.returns-then-text-lt6

@@ -1,6 +1,5 @@
 -- `document_commands::board_token` meets its contract: the token by its bytes, or by its command's number.
 use native.Mathlib.Omega.{arith}
-use borrow.Author.Rules.{rules}
 use Rattle.document_commands.proofs.StepLaws.{commanded, spanned, value-short}
 use Rattle.document_commands.proofs.PlainLaws.{card-token, card-value, page_token}
 use Rattle.document_commands.proofs.steps.board_token.Goals as goal

@@ -2,7 +2,6 @@
 use Rattle.lin_spec.proofs.Cursor.{step_none, step_one, step_two, step_after}
 use Rattle.document_commands.proofs.StepLaws.{token-at, no_token}
 use native.Mathlib.Omega.{arith}
-use borrow.Author.Rules.{rules}
 use Rattle.document_commands.proofs.steps.far_command.Goals as goal
 
 pub returns-then-text-p : goal.returns-then-text-p

@@ -2,7 +2,6 @@
 use native.Mathlib.Omega.{arith}
 use borrow.Author.Tests.{not-false}
 use Rattle.document_commands.proofs.PlainLaws.{pair-none, pair_least, pair-token}
-use borrow.Author.Rules.{rules}
 use Rattle.document_commands.proofs.steps.next_command.Goals as goal
 
 pub overflow_add-v : goal.overflow_add-v

@@ -1,6 +1,5 @@
 -- `document_commands::part_token` meets its contract: a token that tells no part by its bytes, or any by its command's number.
 use native.Mathlib.Omega.{arith}
-use borrow.Author.Rules.{rules}
 use Rattle.document_commands.proofs.StepLaws.{commanded}
 use Rattle.document_commands.proofs.PlainLaws.{pair-none, passed-token}
 use Rattle.document_commands.proofs.steps.part_token.Goals as goal

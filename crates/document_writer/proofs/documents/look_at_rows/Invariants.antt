@@ -1,15 +1,11 @@
 -- `document_writer::look_at_rows` meets its contract. The loop's invariant: no span so far passes the end, `ill` says whether one is not UTF-8, and n counts the bytes.
 use Prim.Native.Nat.{◌+◌, ◌-◌, ◌^◌, ◌≤◌, ◌<◌}
-use native.Mathlib.Omega.{arith}
-use mathlib.Core.Path.{◌≡◌, refl, sym, ◌∙◌}
+use mathlib.Core.Path.{◌≡◌}
 use mathlib.Core.Bool.{◌||◌}
 use lib.ListN.{length, drop}
-use borrow.Author.Rules.{rules}
 use Rattle.lin_spec.specs.Base.{any}
 use Rattle.lin_spec.specs.Refusals.{sat, passes_end, ill_span}
-use Rattle.lin_spec.proofs.Utf8.{longest-within}
 use Rattle.lin_spec.specs.Document.{rows_in, spans_of, document_text}
-use Rattle.document_writer.proofs.RowLaws.{count_turn, count-end, row-yes, row_no, row_or, last-any, last_or, row_sized, span-within, span_sized}
 use Rattle.document_writer.proofs.documents.look_at_rows.Given as goal
 
 abbrev pub invariant-loop-i : goal.invariant-loop-i

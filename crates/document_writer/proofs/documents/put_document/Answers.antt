@@ -1,8 +1,8 @@
 -- `document_writer::put_document` meets its contract: a turn takes one run off what is left to write.
-use Prim.Native.Nat.{◌+◌, ◌-◌, ◌≤◌}
+use Prim.Native.Nat.{◌+◌}
 use mathlib.Core.List.{[], ◌++◌}
 use native.Mathlib.Omega.{arith}
-use lib.ListN.{length, drop}
+use lib.ListN.{drop}
 use Rattle.lin_spec.specs.Records.{bytes_at}
 use Rattle.lin_spec.specs.Document.{document_text}
 use Rattle.document_writer.specs.declared.documents.Run.{Run}

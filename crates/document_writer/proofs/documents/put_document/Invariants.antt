@@ -1,15 +1,8 @@
 -- `document_writer::put_document` meets its contract: a turn takes one run off what is left to write.
-use Prim.Native.Nat.{◌+◌, ◌-◌, ◌≤◌}
-use mathlib.Core.List.{[], ◌++◌}
-use native.Mathlib.Omega.{arith}
+use Prim.Native.Nat.{◌-◌, ◌≤◌}
 use lib.ListN.{length, drop}
-use Rattle.lin_spec.specs.Records.{bytes_at}
 use Rattle.lin_spec.specs.Document.{document_text}
-use Rattle.document_writer.specs.declared.documents.Run.{Run}
-use Rattle.document_writer.specs.Rows.{run_text, RunAt}
-use Rattle.output.proofs.Laws.{Left, start, roomy, step, finish}
-use Rattle.document_writer.proofs.RowLaws.{trailing-left}
-use Rattle.document_writer.proofs.RunLaws.{run-left}
+use Rattle.output.proofs.Laws.{Left}
 use Rattle.document_writer.proofs.documents.put_document.Given as goal
 
 abbrev pub invariant-loop-i : goal.invariant-loop-i

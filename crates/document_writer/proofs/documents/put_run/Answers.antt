@@ -1,5 +1,4 @@
 use Rattle.document_writer.proofs.RunLaws.{run_stands, run_alone}
-use borrow.Author.Rules.{rules}
 use Rattle.document_writer.proofs.documents.put_run.Goals as goal
 
 pub put_bytes-requires : goal.put_bytes-requires

@@ -1,7 +1,6 @@
 -- `document_writer::row_end` meets its contract: the row's places and pipes are those of the text, or the place stays.
 use mathlib.Core.Path.{refl}
 use Rattle.document_writer.proofs.RunLaws.{stands_not, stands_there}
-use borrow.Author.Rules.{rules}
 use Rattle.document_writer.proofs.documents.row_end.Goals as goal
 
 pub returns-then-text-q : goal.returns-then-text-q

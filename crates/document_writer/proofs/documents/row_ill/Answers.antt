@@ -1,6 +1,5 @@
 use mathlib.Core.Path.{refl}
 use Rattle.document_writer.proofs.RowLaws.{row_near}
-use borrow.Author.Rules.{rules}
 use Rattle.document_writer.proofs.documents.row_ill.Goals as goal
 
 pub near_ill-requires : goal.near_ill-requires

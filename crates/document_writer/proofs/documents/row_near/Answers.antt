@@ -1,5 +1,4 @@
 use mathlib.Core.Path.{refl}
-use borrow.Author.Rules.{rules}
 use Rattle.document_writer.proofs.documents.row_near.Goals as goal
 
 pub returns : goal.returns

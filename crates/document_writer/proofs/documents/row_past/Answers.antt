@@ -1,6 +1,5 @@
 use mathlib.Core.Path.{refl}
 use Rattle.document_writer.proofs.RowLaws.{near_within}
-use borrow.Author.Rules.{rules}
 use Rattle.document_writer.proofs.documents.row_past.Goals as goal
 
 pub returns-then-row_near : goal.returns-then-row_near

@@ -1,7 +1,6 @@
 -- `document_writer::rows_pass` ends. The loop's invariant: i is a place in the rows. The measure is what is left of them.
 use Prim.Native.Nat.{◌-◌, ◌≤◌}
 use lib.ListN.{length}
-use borrow.Author.Rules.{rules}
 use Rattle.document_writer.proofs.documents.rows_pass.Given as goal
 
 abbrev pub invariant-loop-i : goal.invariant-loop-i

@@ -1,9 +1,6 @@
 -- `document_writer::run_at` meets its contract. The loop's invariant: the rows up to the word j are the text from start to stop. The measure is the words that are left.
-use Prim.Native.Nat.{◌-◌}
 use native.Mathlib.Omega.{arith}
-use lib.ListN.{length}
-use borrow.Author.Rules.{rules}
-use Rattle.document_writer.proofs.RunLaws.{RunTo, run-first, run-turn, run-done, run_single}
+use Rattle.document_writer.proofs.RunLaws.{run-first, run-turn, run-done, run_single}
 use Rattle.document_writer.proofs.documents.run_at.Goals as goal
 
 pub bounds-rows-i : goal.bounds-rows-i

@@ -1,9 +1,7 @@
 -- `document_writer::run_at` meets its contract. The loop's invariant: the rows up to the word j are the text from start to stop. The measure is the words that are left.
 use Prim.Native.Nat.{◌-◌}
-use native.Mathlib.Omega.{arith}
 use lib.ListN.{length}
-use borrow.Author.Rules.{rules}
-use Rattle.document_writer.proofs.RunLaws.{RunTo, run-first, run-turn, run-done, run_single}
+use Rattle.document_writer.proofs.RunLaws.{RunTo}
 use Rattle.document_writer.proofs.documents.run_at.Given as goal
 
 abbrev pub invariant-loop-j : goal.invariant-loop-j

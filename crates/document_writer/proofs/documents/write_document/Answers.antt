@@ -2,7 +2,6 @@ use native.Mathlib.Omega.{arith}
 use Rattle.lin_spec.proofs.Utf8.{longest-within}
 use Rattle.text.proofs.IndexLaws.{indexed_first}
 use Rattle.document_writer.proofs.Answers.{write-long}
-use borrow.Author.Rules.{rules}
 use Rattle.document_writer.proofs.documents.write_document.Goals as goal
 
 pub returns-then-text-gt-LIMIT : goal.returns-then-text-gt-LIMIT

@@ -1,6 +1,5 @@
 use mathlib.Core.Path.{refl}
 use Rattle.document_writer.proofs.Answers.{write-small, write_done}
-use borrow.Author.Rules.{rules}
 use Rattle.document_writer.proofs.documents.write_fitting.Goals as goal
 
 pub returns-then-room-need : goal.returns-then-room-need

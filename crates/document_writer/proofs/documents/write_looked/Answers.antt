@@ -1,6 +1,5 @@
 use mathlib.Core.Path.{refl}
 use Rattle.document_writer.proofs.Answers.{write-past, write-ill, looked}
-use borrow.Author.Rules.{rules}
 use Rattle.document_writer.proofs.documents.write_looked.Goals as goal
 
 pub look_at_rows-requires : goal.look_at_rows-requires

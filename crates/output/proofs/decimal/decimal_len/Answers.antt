@@ -1,10 +1,6 @@
 -- `output::decimal_len` meets its contract: a turn takes the last digit off and counts it.
 use Rattle.lin_spec.proofs.Decimal.{length-short, length-long}
-use Rattle.lin_spec.specs.Decimal.{decimal}
-use lib.ListN.{length}
-use mathlib.Core.Path.{◌≡◌}
 use native.Mathlib.Omega.{arith}
-use Prim.Native.Nat.{◌+◌, ◌≤◌}
 use Rattle.output.proofs.decimal.decimal_len.Goals as goal
 
 pub loop-rest-preserved : goal.loop-rest-preserved

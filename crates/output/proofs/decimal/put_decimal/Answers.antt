@@ -1,7 +1,7 @@
 -- `output::put_decimal` meets its contract: a turn writes the last of the digits that are left, and the first is written after the loop.
 use lib.ListN.{length-set}
 use mathlib.Core.Path.{refl}
-use Rattle.output.proofs.DecimalLaws.{Back, back_start, before-o, at-inside, back_turn, back_finish}
+use Rattle.output.proofs.DecimalLaws.{back_start, before-o, at-inside, back_turn, back_finish}
 use native.Mathlib.Omega.{arith}
 use Rattle.output.proofs.decimal.put_decimal.Goals as goal
 

@@ -1,8 +1,5 @@
 -- `output::put_decimal` meets its contract: a turn writes the last of the digits that are left, and the first is written after the loop.
-use lib.ListN.{length-set}
-use mathlib.Core.Path.{refl}
-use Rattle.output.proofs.DecimalLaws.{Back, back_start, before-o, at-inside, back_turn, back_finish}
-use native.Mathlib.Omega.{arith}
+use Rattle.output.proofs.DecimalLaws.{Back}
 use Rattle.output.proofs.decimal.put_decimal.Given as goal
 
 abbrev pub invariant-loop-rest : goal.invariant-loop-rest

@@ -1,7 +1,6 @@
 -- `white::white::byte_at` meets its contract: beyond the end the list gives 0 too. (01: Records)
 use mathlib.Core.Path.{sym}
 use lib.ListN.{get_or-eq_default}
-use borrow.Author.Rules.{rules}
 use Rattle.white.proofs.white.byte_at.Goals as goal
 
 pub returns : goal.returns

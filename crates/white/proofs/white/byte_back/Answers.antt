@@ -1,6 +1,5 @@
 -- `white::white::byte_back` meets its contract: before the start the definition gives 0 too. (01: Records)
 use borrow.Author.Tests.{le-leb, lt-leb}
-use borrow.Author.Rules.{rules}
 use Rattle.white.specs.White.{last}
 use Rattle.white.proofs.white.byte_back.Goals as goal
 

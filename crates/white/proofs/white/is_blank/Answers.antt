@@ -1,5 +1,4 @@
 -- `white::is_blank` meets its contract: a text that trims to nothing is blank. (01: Records, trim)
-use borrow.Author.Rules.{rules}
 use Rattle.white.proofs.WhiteLaws.{blank-is}
 use Rattle.white.proofs.white.is_blank.Goals as goal
 

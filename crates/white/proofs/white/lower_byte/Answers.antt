@@ -1,7 +1,6 @@
 -- `white::white::lower_byte` meets its contract: a byte below A, above Z, and between. (01: Tokens)
 use mathlib.Core.Bool.{and-false}
 use borrow.Author.Tests.{le-leb, lt-leb}
-use borrow.Author.Rules.{rules}
 use Rattle.lin_spec.specs.White.{lower}
 use Rattle.white.proofs.white.lower_byte.Goals as goal
 

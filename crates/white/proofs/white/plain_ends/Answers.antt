@@ -1,7 +1,6 @@
 -- `white::white::plain_ends` meets its contract: neither end is white. (01: Records)
 use mathlib.Core.Bool.{false≢true}
 use Rattle.white.proofs.WhiteLaws.{plain-trim}
-use borrow.Author.Rules.{rules}
 use Rattle.white.proofs.white.plain_ends.Goals as goal
 
 pub returns-then-s-eq0 : goal.returns-then-s-eq0

@@ -1,10 +1,7 @@
 -- `white::white::same_word` meets its contract: what is left at i decides as the whole does. The measure is what is left. (01: Tokens)
 use Prim.Native.Nat.{◌-◌}
-use native.Mathlib.Omega.{arith}
-use mathlib.Core.Path.{refl}
 use lib.ListN.{length}
-use borrow.Author.Rules.{rules}
-use Rattle.white.proofs.WhiteLaws.{Word, word-length, word_differ, word_next, word_end}
+use Rattle.white.proofs.WhiteLaws.{Word}
 use Rattle.white.proofs.white.same_word.Given as goal
 
 abbrev pub invariant-loop-i : goal.invariant-loop-i

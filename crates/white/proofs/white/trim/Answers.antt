@@ -1,6 +1,5 @@
 -- `white::white::trim` meets its contract: a text with plain ends stays. (01: Records)
 use mathlib.Core.Path.{sym}
-use borrow.Author.Rules.{rules}
 use Rattle.white.proofs.white.trim.Goals as goal
 
 pub returns-then-plain_ends : goal.returns-then-plain_ends

@@ -2,9 +2,8 @@
 use native.Mathlib.Omega.{arith}
 use mathlib.Core.Path.{ap, sym}
 use lib.Seq.{take-length, length-take-le}
-use borrow.Author.Rules.{rules}
 use Rattle.lin_spec.specs.White.{trim_end}
-use Rattle.white.proofs.WhiteLaws.{End, end-done, end-room, end-next, end-end}
+use Rattle.white.proofs.WhiteLaws.{end-done, end-room, end-next, end-end}
 use Rattle.white.proofs.white.trim_end.Goals as goal
 
 pub loop-n-init : goal.loop-n-init

@@ -1,7 +1,6 @@
 -- `white::white::trim_ends` meets its contract: the end is trimmed after the start. (01: Records)
 use mathlib.Core.Path.{sym}
 use lib.Seq.{length-take-le}
-use borrow.Author.Rules.{rules}
 use Rattle.white.proofs.WhiteLaws.{both_ends}
 use Rattle.white.proofs.white.trim_ends.Goals as goal
 

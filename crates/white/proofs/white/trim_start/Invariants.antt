@@ -1,10 +1,7 @@
 -- `white::white::trim_start` meets its contract: the white characters before i are passed. The measure is what is left. (01: Records)
 use Prim.Native.Nat.{◌-◌}
-use native.Mathlib.Omega.{arith}
-use mathlib.Core.Path.{refl}
 use lib.ListN.{length}
-use borrow.Author.Rules.{rules}
-use Rattle.white.proofs.WhiteLaws.{Start, start-done, start-room, start-next, start-end}
+use Rattle.white.proofs.WhiteLaws.{Start}
 use Rattle.white.proofs.white.trim_start.Given as goal
 
 abbrev pub invariant-loop-i : goal.invariant-loop-i

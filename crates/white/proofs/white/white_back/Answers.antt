@@ -1,7 +1,6 @@
 -- `white::white::white_back` meets its contract: a law for each answer, of the tests on the last three bytes; a byte below 80 hex ends no longer character. (01: Records)
 use native.Mathlib.Omega.{arith}
 use mathlib.Core.Path.{refl}
-use borrow.Author.Rules.{rules}
 use Rattle.white.proofs.WhiteLaws.{back_by, first-white, none-white, second-white, third_white}
 use Rattle.white.proofs.white.white_back.Goals as goal
 

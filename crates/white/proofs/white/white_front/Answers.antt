@@ -1,7 +1,6 @@
 -- `white::white::white_front` meets its contract: a law for each answer, of the tests on the first three bytes; a byte below 80 hex begins no longer character. (01: Records)
 use native.Mathlib.Omega.{arith}
 use mathlib.Core.Path.{refl}
-use borrow.Author.Rules.{rules}
 use Rattle.white.proofs.WhiteLaws.{front_by, first-white, none-white, second-white, third_white}
 use Rattle.white.proofs.white.white_front.Goals as goal
 

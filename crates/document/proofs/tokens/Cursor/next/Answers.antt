@@ -1,5 +1,4 @@
 -- `document::Cursor::next` meets its contract: the pipes that were found say which step it is.
-use borrow.Author.Rules.{rules}
 use mathlib.Core.Path.{sym}
 use Rattle.lin_spec.proofs.Cursor.{step_none, step_one, step_two, step_after}
 use Rattle.document.proofs.tokens.Cursor.next.Goals as goal

@@ -1,0 +1,8 @@
+-- `rows_reader::parse_lin_rows` meets its contract: its calls are stored where it is accepted, and none is where it is refused.
+use Rattle.rows_reader.specs.Reader.{read_rows}
+use Rattle.rows_reader.proofs.ReaderLaws.{rows-read}
+use Rattle.rows_reader.proofs.reader.parse_lin_rows.Goals as goal
+
+pub returns : goal.returns
+unfolding read_rows
+returns c = rows-read _ _ _ _ _ _ c.text_headed-h.ensures _ c.heading_alone.ensures _ c.store_rows.ensures
