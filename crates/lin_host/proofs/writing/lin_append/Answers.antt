@@ -1,0 +1,18 @@
+-- `lin_host::lin_append` meets its contract: the numbers of append's answer, with the same output. And what the types of its parameters say is so at the
+-- start of every call: eight words for the names, 208 counts.
+use mathlib.Core.Path.{ap, ◌∙◌}
+use Rattle.lin_host_numbers.specs.Answers.{outcome_numbers}
+use Rattle.lin_host.specs.Mixed.{TypedNumbers}
+use Rattle.lin_host.proofs.WritingLaws.{appending}
+use Rattle.lin_host.proofs.Types.{numbers_typed}
+use borrow.Author.Rules.{rules}
+use Rattle.lin_host.proofs.writing.lin_append.Goals as goal
+
+pub append_head-requires : goal.append_head-requires
+append_head-requires c =
+    let lent-typed : TypedNumbers c.args.board = numbers_typed c.args.board _ c.well_formed.1.0 in
+    (lent-typed).counts
+
+pub returns : goal.returns
+returns c = rw c.written.ensures
+    (ap outcome_numbers c.append_head.ensures ∙ appending c.args.text.now c.args.board c.args.rows.now c.args.cards.now c.args.out.now c.args.used c.bad_codes-other.ensures c.coded_head-head.ensures)
