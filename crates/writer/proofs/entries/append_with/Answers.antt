@@ -1,8 +1,5 @@
 -- `writer::append_with` meets its contract: a board is what it is without its deal, and its deal. And what the types of its parameters say is so at the start of
 -- every call, and so of every call of `append`: four names, 208 counts, a claim of one byte.
-use Rattle.lin_spec.specs.Lent.{lent}
-use Rattle.lin_spec.specs.ThirdDemand.{Typed}
-use Rattle.lin_spec.proofs.BoardType.{board_typed}
 use mathlib.Core.Path.{◌≡◌}
 use lib.ListN.{length}
 use borrow.Author.Rules.{rules}
