@@ -6,12 +6,16 @@ use Rattle.lin_host.specs.Mixed.{TypedNumbers}
 use Rattle.lin_host.proofs.WritingLaws.{appending}
 use Rattle.lin_host.proofs.Types.{numbers_typed}
 use borrow.Author.Rules.{rules}
+use Rattle.lin_host.proofs.writing.lin_append.Lts
+use Rattle.lin_host.proofs.writing.lin_append.Reads
+use Rattle.lin_host.proofs.writing.lin_append.Tie
 use Rattle.lin_host.proofs.writing.lin_append.Goals as goal
 
+lent_typed : (s : Lts.Start Tie.the-claims Reads.Pre Reads.Post) → TypedNumbers s.args.board
+lent_typed s = numbers_typed s.args.board _ s.well_formed.1.0
+
 pub append_head-requires : goal.append_head-requires
-append_head-requires c =
-    let lent-typed : TypedNumbers c.args.board = numbers_typed c.args.board _ c.well_formed.1.0 in
-    (lent-typed).counts
+append_head-requires c = (numbers_typed c.args.board _ c.well_formed.1.0).counts
 
 pub returns : goal.returns
 returns c = rw c.written.ensures
