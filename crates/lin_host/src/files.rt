@@ -172,12 +172,7 @@ pub fn lin_file_heading(text: &[u8], number: u64) -> LinHeading
 }
 
 // Rows and cards are as for lin_parse_lin.
-pub fn lin_file_board(
-    text: &[u8],
-    number: u64,
-    rows: &mut [u32],
-    cards: &mut [u8],
-) -> LinHeading
+pub fn lin_file_board(text: &[u8], number: u64, rows: &mut [u32], cards: &mut [u8]) -> LinHeading
     ensures { ◌≡◌ {A = Reading} (record { heading = result; rows = rows.new; cards = cards.new }) (reading_numbers (file_board text.now number rows.old cards.old)) }
 {
     heading_numbers(file_board(text, number as usize, rows, cards))

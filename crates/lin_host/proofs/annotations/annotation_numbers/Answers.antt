@@ -1,5 +1,4 @@
 -- `lin_host::annotation_numbers` meets its contract: by the case of the answer.
-use borrow.Author.Rules.{rules}
 use Rattle.lin_host.proofs.annotations.annotation_numbers.Goals as goal
 
 pub returns-in-Absent : goal.returns-in-Absent

@@ -1,7 +1,6 @@
 -- `lin_host::lin_check_auction` meets its contract: the numbers of the entry's answer, for the seat of the dealer's code.
 use mathlib.Core.Path.{ap, ◌∙◌}
 use lib.Dec.{ltb}
-use borrow.Author.Rules.{rules}
 use Rattle.lin_spec.specs.Lent.{call_rows}
 use Rattle.lin_spec.specs.declared.Seat.{Seat}
 use Rattle.auction.specs.Check.{check_auction}

@@ -2,7 +2,6 @@
 use mathlib.Core.Path.{ap, ◌∙◌}
 use Rattle.lin_host.specs.Converting.{conversion_numbers}
 use Rattle.lin_host.proofs.ConvertingLaws.{converting}
-use borrow.Author.Rules.{rules}
 use Rattle.lin_host.proofs.converting.lin_from_board.Goals as goal
 
 pub returns : goal.returns

@@ -1,5 +1,4 @@
 -- `lin_host::counted` meets its contract: by the case of the answer.
-use borrow.Author.Rules.{rules}
 use Rattle.lin_host.proofs.files.counted.Goals as goal
 
 pub returns-in-Count : goal.returns-in-Count

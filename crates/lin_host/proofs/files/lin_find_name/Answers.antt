@@ -2,7 +2,6 @@
 use mathlib.Core.Path.{ap, ◌∙◌}
 use Rattle.file_finder.proofs.FinderLaws.{work-after}
 use Rattle.lin_host_numbers.specs.Answers.{numbers_of}
-use borrow.Author.Rules.{rules}
 use Rattle.lin_host.proofs.files.lin_find_name.Goals as goal
 
 pub returns : goal.returns

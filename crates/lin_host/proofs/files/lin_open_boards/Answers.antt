@@ -1,7 +1,6 @@
 -- `lin_host::lin_open_boards` meets its contract: the numbers of the entry's answer.
 use mathlib.Core.Path.{ap, ◌∙◌}
 use Rattle.lin_host.specs.Files.{opened_numbers}
-use borrow.Author.Rules.{rules}
 use Rattle.lin_host.proofs.files.lin_open_boards.Goals as goal
 
 pub returns : goal.returns

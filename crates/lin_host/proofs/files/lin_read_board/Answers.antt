@@ -1,6 +1,5 @@
 -- `lin_host::lin_read_board` meets its contract: the numbers of the entry's answer, with the same rows and cards.
 use Rattle.lin_host.proofs.ReadingLaws.{read-numbers}
-use borrow.Author.Rules.{rules}
 use Rattle.lin_host.proofs.files.lin_read_board.Goals as goal
 
 pub returns : goal.returns

@@ -1,5 +1,4 @@
 -- `lin_host::next_answer` meets its contract: by the case of the step.
-use borrow.Author.Rules.{rules}
 use Rattle.lin_host.proofs.files.next_answer.Goals as goal
 
 pub returns-in-Found : goal.returns-in-Found

@@ -1,6 +1,5 @@
 -- `lin_host::opened_numbers` meets its contract: by the case of the answer.
 use Rattle.lin_host.specs.Files.{opened_numbers}
-use borrow.Author.Rules.{rules}
 use Rattle.lin_host.proofs.files.opened_numbers.Goals as goal
 
 pub returns-in-At : goal.returns-in-At

@@ -1,6 +1,5 @@
 -- `lin_host::section_numbers` meets its contract: by the case of the step.
 use Rattle.lin_host.specs.Files.{visit_numbers}
-use borrow.Author.Rules.{rules}
 use Rattle.lin_host.proofs.files.section_numbers.Goals as goal
 
 pub returns-in-Found : goal.returns-in-Found

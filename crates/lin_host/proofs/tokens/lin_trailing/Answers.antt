@@ -1,6 +1,5 @@
 -- `lin_host::lin_trailing` meets its contract: the place within the text, and the length of what is left.
 use Rattle.lin_host.proofs.ReadingLaws.{rest_beyond, rest-within}
-use borrow.Author.Rules.{rules}
 use Rattle.lin_host.proofs.tokens.lin_trailing.Goals as goal
 
 pub returns-then-end-at : goal.returns-then-end-at

@@ -1,5 +1,4 @@
 -- `lin_host::opened` meets its contract: by the case of the answer.
-use borrow.Author.Rules.{rules}
 use Rattle.lin_host.proofs.tokens.opened.Goals as goal
 
 pub returns-in-At : goal.returns-in-At

@@ -1,5 +1,4 @@
 -- `lin_host::stepped` meets its contract: by the case of the step.
-use borrow.Author.Rules.{rules}
 use Rattle.lin_host.proofs.tokens.stepped.Goals as goal
 
 pub returns-in-Found : goal.returns-in-Found

@@ -1,5 +1,4 @@
 -- `lin_host::compared` meets its contract: by the case of the answer.
-use borrow.Author.Rules.{rules}
 use Rattle.lin_host.proofs.writing.compared.Goals as goal
 
 pub returns-in-Equal : goal.returns-in-Equal

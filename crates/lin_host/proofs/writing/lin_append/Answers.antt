@@ -5,7 +5,6 @@ use Rattle.lin_host_numbers.specs.Answers.{outcome_numbers}
 use Rattle.lin_host.specs.Mixed.{TypedNumbers}
 use Rattle.lin_host.proofs.WritingLaws.{appending}
 use Rattle.lin_host.proofs.Types.{numbers_typed}
-use borrow.Author.Rules.{rules}
 use Rattle.lin_host.proofs.writing.lin_append.Lts
 use Rattle.lin_host.proofs.writing.lin_append.Reads
 use Rattle.lin_host.proofs.writing.lin_append.Tie

@@ -1,5 +1,4 @@
 -- `lin_host_numbers::written` meets its contract: by the case of the answer.
-use borrow.Author.Rules.{rules}
 use Rattle.lin_host_numbers.proofs.answers.written.Goals as goal
 
 pub returns-in-Length : goal.returns-in-Length

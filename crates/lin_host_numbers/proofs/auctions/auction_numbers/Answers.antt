@@ -1,5 +1,4 @@
 -- `lin_host_numbers::auction_numbers` meets its contract: by the case of the answer.
-use borrow.Author.Rules.{rules}
 use Rattle.lin_host_numbers.proofs.auctions.auction_numbers.Goals as goal
 
 pub returns-in-Checked : goal.returns-in-Checked

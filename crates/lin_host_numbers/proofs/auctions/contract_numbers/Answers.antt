@@ -1,5 +1,4 @@
 -- `lin_host_numbers::contract_numbers` meets its contract: the numbers of its fields.
-use borrow.Author.Rules.{rules}
 use Rattle.lin_host_numbers.proofs.auctions.contract_numbers.Goals as goal
 
 pub returns : goal.returns

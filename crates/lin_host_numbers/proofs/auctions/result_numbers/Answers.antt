@@ -1,5 +1,4 @@
 -- `lin_host_numbers::result_numbers` meets its contract: by the case of the result.
-use borrow.Author.Rules.{rules}
 use Rattle.lin_host_numbers.proofs.auctions.result_numbers.Goals as goal
 
 pub returns-in-PassedOut : goal.returns-in-PassedOut

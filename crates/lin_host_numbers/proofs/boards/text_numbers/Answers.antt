@@ -1,5 +1,4 @@
 -- `lin_host_numbers::text_numbers` meets its contract: by the case of the text.
-use borrow.Author.Rules.{rules}
 use Rattle.lin_host_numbers.proofs.boards.text_numbers.Goals as goal
 
 pub returns-in-Absent : goal.returns-in-Absent

@@ -1,5 +1,4 @@
 -- `lin_host_numbers::verdict_numbers` meets its contract: by the case of the verdict.
-use borrow.Author.Rules.{rules}
 use Rattle.lin_host_numbers.proofs.boards.verdict_numbers.Goals as goal
 
 pub returns-in-Accepted : goal.returns-in-Accepted

@@ -1,6 +1,5 @@
 -- `lin_host_numbers::bad_codes` meets its contract: the tests of its parts.
 use Rattle.lin_host_numbers.specs.Codes.{bad_codes}
-use borrow.Author.Rules.{rules}
 use Rattle.lin_host_numbers.proofs.codes.bad_codes.Goals as goal
 
 pub returns : goal.returns

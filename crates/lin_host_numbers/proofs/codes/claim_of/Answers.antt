@@ -1,6 +1,5 @@
 -- `lin_host_numbers::claim_of` meets its contract: by the flag, then by the bound.
 use borrow.Author.Tests.{eq-eqb, ne_eqb, lt-ltb, le-ltb}
-use borrow.Author.Rules.{rules}
 use Rattle.lin_host_numbers.proofs.codes.claim_of.Goals as goal
 
 pub returns-then-claimed-eq0 : goal.returns-then-claimed-eq0

@@ -1,5 +1,4 @@
 -- `lin_host_numbers::bad_names` meets its contract: the tests of its parts.
-use borrow.Author.Rules.{rules}
 use Rattle.lin_host_numbers.proofs.records.bad_names.Goals as goal
 
 pub returns : goal.returns

@@ -1,6 +1,5 @@
 -- `lin_host_numbers::bad_record_codes` meets its contract: the tests of its parts.
 use Rattle.lin_host_numbers.specs.Records.{bad_record}
-use borrow.Author.Rules.{rules}
 use Rattle.lin_host_numbers.proofs.records.bad_record_codes.Goals as goal
 
 pub returns : goal.returns

@@ -1,6 +1,5 @@
 -- `lin_host_numbers::given_dealer` meets its contract: by the flag.
 use borrow.Author.Tests.{eq-eqb, ne_eqb}
-use borrow.Author.Rules.{rules}
 use Rattle.lin_host_numbers.proofs.records.given_dealer.Goals as goal
 
 pub returns-then-given-eq0 : goal.returns-then-given-eq0

@@ -2,7 +2,6 @@
 use mir.Syntax.{w32}
 use mir.Facts.{to_z-of_z}
 use Rattle.lin_host_numbers.specs.Records.{record_of}
-use borrow.Author.Rules.{rules}
 use Rattle.lin_host_numbers.proofs.records.record_of.Goals as goal
 
 pub returns : goal.returns
