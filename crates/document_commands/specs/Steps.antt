@@ -11,7 +11,7 @@ use Rattle.document_commands.specs.Commands.{command_of, pc_no, mc_no, Unmarked}
 use Rattle.document_commands.specs.declared.steps.Commanded.{Commanded}
 use Rattle.document_commands.specs.declared.steps.Commanded.TheVariants.{Token, Ended}
 use Rattle.document_commands.specs.declared.steps.BoardToken.{BoardToken}
-use Rattle.document_commands.specs.declared.steps.BoardToken.TheVariants.{Card, Known, Other, Ended as None}
+use Rattle.document_commands.specs.declared.steps.BoardToken.TheVariants.{Card, Known, Other, Ended as NoToken}
 use Rattle.document_commands.specs.declared.steps.PartToken.{PartToken}
 use Rattle.document_commands.specs.declared.steps.PartToken.TheVariants.{Passed, Command, Ended as NoPart}
 
@@ -46,7 +46,7 @@ abbrev pub BoardTokens : (s : List ℕ) (at : ℕ) → BoardToken → Type 0
 BoardTokens s at (Card c n) = CardToken s at c n
 BoardTokens s at (Known k v n) = TokenAt s at k v n
 BoardTokens s at (Other n) = OtherToken s at n
-BoardTokens s at None = stream s at ≡ []
+BoardTokens s at NoToken = stream s at ≡ []
 
 -- the same for a file's parts: a token that is none of md, pn, qx and mn, and any token by its number
 pub record PassedToken (s : List ℕ) (at n : ℕ) : Type 0 where
