@@ -1,7 +1,7 @@
-//! Links liblin_host.a, which `rt staticlib lin_host` makes of the proved
-//! crates: that is run here unless the archive is newer than all that it is made
-//! of. The variable LIN_HOST_DIR names a folder whose archive is linked as it is.
-//! The tests are told the archive's folder as LIN_HOST_ARCHIVE_DIR.
+//! Links liblin_host.a, which `tools/archive` makes of the proved crates: that is
+//! run here unless the archive is newer than all that it is made of. The variable
+//! LIN_HOST_DIR names a folder whose archive is linked as it is. The tests are told
+//! the archive's folder as LIN_HOST_ARCHIVE_DIR.
 
 use std::{
     collections::BTreeSet,
@@ -31,9 +31,17 @@ fn built() -> PathBuf {
     let here = env::var_os("CARGO_MANIFEST_DIR").expect("cargo sets CARGO_MANIFEST_DIR");
     let root = Path::new(&here).join("..");
     let list = root.join("crates.txt");
-    let crates = reached(&fs::read_to_string(&list).expect("crates.txt"), "lin_host");
+    let crates = reached(
+        &fs::read_to_string(&list).expect("crates.txt"),
+        "lin_host_c",
+    );
     let mut parts = vec![list];
-    parts.extend(crates.iter().map(|name| root.join("crates").join(name)));
+    for name in &crates {
+        // not its out/, which each check changes
+        let folders =
+            ["src", "specs", "proofs"].map(|part| root.join("crates").join(name).join(part));
+        parts.extend(folders.into_iter().filter(|folder| folder.exists()));
+    }
     for part in &parts {
         println!("cargo:rerun-if-changed={}", part.display());
     }
@@ -45,13 +53,14 @@ fn built() -> PathBuf {
     dir
 }
 
-/// A crate and all that it depends on, by the lines `NAME: DEP DEP ..`.
+/// A crate and all that it depends on, by the lines `NAME: DEP DEP ..` and
+/// `NAME staticlib: DEP ..`.
 fn reached(list: &str, name: &str) -> BTreeSet<String> {
     let mut all = BTreeSet::new();
     let mut left = vec![name.to_string()];
     while let Some(name) = left.pop() {
         let lines = list.lines().filter_map(|line| line.split_once(':'));
-        for (_, deps) in lines.filter(|(of, _)| of.trim() == name) {
+        for (_, deps) in lines.filter(|(of, _)| of.split_whitespace().next() == Some(&name)) {
             left.extend(deps.split_whitespace().map(str::to_string));
             all.insert(name.clone());
         }
@@ -69,10 +78,12 @@ fn changed(path: &Path) -> Option<SystemTime> {
 }
 
 fn make(root: &Path) {
-    let mut rt = Command::new("rt");
-    rt.args(["staticlib", "lin_host"]).current_dir(root);
-    let done = rt.output().expect("rt, to prove and build lin_host");
+    let mut archive = Command::new("bash");
+    archive.arg("tools/archive").current_dir(root);
+    let done = archive
+        .output()
+        .expect("bash, to prove and build lin_host_c");
     let said = [done.stdout, done.stderr].concat();
     let said = String::from_utf8_lossy(&said);
-    assert!(done.status.success(), "rt staticlib lin_host: {said}");
+    assert!(done.status.success(), "tools/archive: {said}");
 }

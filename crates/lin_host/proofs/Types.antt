@@ -4,7 +4,6 @@
 use Prim.Native.Nat.{ℕ}
 use mathlib.Core.List.{List, [], ◌∷◌, map}
 use mir.Val.{Val}
-use borrow.Author.Rules.{length_unmapped}
 use denote.Laws.{Is}
 use denote.Struct.Declared.{row}
 use Rattle.lin_spec.specs.Base.{All}
@@ -25,8 +24,8 @@ use Rattle.lin_host.proofs.Mixed.{third_demand_mixed}
 pub numbers_typed : (b : LinBoard) (vs : List Val) → Is (row numbers.the_type) b vs → TypedNumbers b
 numbers_typed b vs h =
     record {
-      names = length_unmapped ℕ b.names 8 h.1.1.0.1.0.1;
-      counts = length_unmapped ℕ b.counts 208 h.1.1.1.1.1.1.1.1.1.1.0.1.0.1;
+      names = h.1.1.0.1.0.1;
+      counts = h.1.1.1.1.1.1.1.1.1.1.0.1.0.1;
     }
 
 -- a call of any of the three, with a board that some machine values `vs` hold

@@ -45,8 +45,7 @@ fn annotation_numbers(w: AnnotationWritten) -> LinAnnotation
 
 // Writes the text of the raw annotation at this span from the first byte of the output on. Each of the 256 notes takes three words: 0 if it is absent
 // and any other number if it is there, its start and its length.
-#[unsafe(no_mangle)]
-pub extern "C" fn lin_annotation_text(
+pub fn lin_annotation_text(
     text: &[u8],
     start: u32,
     len: u32,

@@ -7,16 +7,14 @@ use board::{parse_lin, parse_lin_heading};
 use lin_host_numbers::{LinHeading, heading_numbers};
 
 // The exports.
-#[unsafe(no_mangle)]
-pub extern "C" fn lin_parse_heading(text: &[u8]) -> LinHeading
+pub fn lin_parse_heading(text: &[u8]) -> LinHeading
     ensures { result ≡ heading_numbers (read_heading text.now) }
 {
     heading_numbers(parse_lin_heading(text))
 }
 
 // A call takes a row of six words: bid start and length, alerted, annotated, annotation start and length.
-#[unsafe(no_mangle)]
-pub extern "C" fn lin_parse_lin(text: &[u8], rows: &mut [u32], cards: &mut [u8]) -> LinHeading
+pub fn lin_parse_lin(text: &[u8], rows: &mut [u32], cards: &mut [u8]) -> LinHeading
     ensures { ◌≡◌ {A = Reading} (record { heading = result; rows = rows.new; cards = cards.new }) (reading_numbers (read_board text.now rows.old cards.old)) }
 {
     heading_numbers(parse_lin(text, rows, cards))

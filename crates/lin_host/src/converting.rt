@@ -17,8 +17,7 @@ pub struct LinConverted {
 // Makes a board of a record. A call of the record takes six words: kind 0 to 5 for pass, double, redouble, bid, continue, blank; level 1 to 7 and strain
 // 0 to 4 for C D H S N, of a bid; annotated 0 or 1; the raw annotation's start and length. An entry of the play is a card or, for a gap, 255. Notes are
 // as for lin_annotation_text; rows and cards are filled as by lin_parse_lin. A code outside its range is refusal 8.
-#[unsafe(no_mangle)]
-pub extern "C" fn lin_from_board(
+pub fn lin_from_board(
     text: &[u8],
     board: LinPbn,
     calls: &[u32],

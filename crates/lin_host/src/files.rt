@@ -159,51 +159,40 @@ fn next_step(next: NextBoard) -> BoardStep
 
 // The exports.
 
-#[unsafe(no_mangle)]
-pub extern "C" fn lin_count_boards(text: &[u8]) -> LinAnswer
+pub fn lin_count_boards(text: &[u8]) -> LinAnswer
     ensures { result ≡ numbers_of (count_boards text.now) }
 {
     counted(count_boards(text))
 }
 
-#[unsafe(no_mangle)]
-pub extern "C" fn lin_file_heading(text: &[u8], number: u64) -> LinHeading
+pub fn lin_file_heading(text: &[u8], number: u64) -> LinHeading
     ensures { result ≡ heading_numbers (file_heading text.now number) }
 {
     heading_numbers(file_heading(text, number as usize))
 }
 
 // Rows and cards are as for lin_parse_lin.
-#[unsafe(no_mangle)]
-pub extern "C" fn lin_file_board(
-    text: &[u8],
-    number: u64,
-    rows: &mut [u32],
-    cards: &mut [u8],
-) -> LinHeading
+pub fn lin_file_board(text: &[u8], number: u64, rows: &mut [u32], cards: &mut [u8]) -> LinHeading
     ensures { ◌≡◌ {A = Reading} (record { heading = result; rows = rows.new; cards = cards.new }) (reading_numbers (file_board text.now number rows.old cards.old)) }
 {
     heading_numbers(file_board(text, number as usize, rows, cards))
 }
 
 // A refusal leaves the work space as it was; after a success it may hold anything.
-#[unsafe(no_mangle)]
-pub extern "C" fn lin_find_name(text: &[u8], name: &[u8], work: &mut [u32]) -> LinAnswer
+pub fn lin_find_name(text: &[u8], name: &[u8], work: &mut [u32]) -> LinAnswer
     ensures { FindsNumbers text.now name.now work.old result work.new }
 {
     counted(find_name(text, name, work))
 }
 
-#[unsafe(no_mangle)]
-pub extern "C" fn lin_open_boards(text: &[u8]) -> LinBoards
+pub fn lin_open_boards(text: &[u8]) -> LinBoards
     ensures { result ≡ opened_numbers (open_boards text.now) }
 {
     opened_numbers(open_boards(text))
 }
 
 // The part or the line at a cursor of any numbers; lines other than 0 counts as 1.
-#[unsafe(no_mangle)]
-pub extern "C" fn lin_next_board(text: &[u8], at: u64, number: u64, lines: u32) -> LinSection
+pub fn lin_next_board(text: &[u8], at: u64, number: u64, lines: u32) -> LinSection
     ensures { result ≡ visit_numbers (visit text.now (standing at number lines)) }
 {
     let cursor = BoardCursor {
@@ -216,8 +205,7 @@ pub extern "C" fn lin_next_board(text: &[u8], at: u64, number: u64, lines: u32) 
 
 // The next board from a cursor of any numbers, read; parts or lines that are none are passed. Rows and cards are as for lin_parse_lin. 1, 2 and 3 refuse
 // the step, and 2 looks at the bytes from the cursor's place to the board's end.
-#[unsafe(no_mangle)]
-pub extern "C" fn lin_read_board(
+pub fn lin_read_board(
     text: &[u8],
     at: u64,
     number: u64,

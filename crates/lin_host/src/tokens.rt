@@ -75,15 +75,13 @@ fn stepped(s: Step) -> LinStep
 
 // The exports.
 
-#[unsafe(no_mangle)]
-pub extern "C" fn lin_open(text: &[u8]) -> LinAnswer
+pub fn lin_open(text: &[u8]) -> LinAnswer
     ensures { result ≡ numbers_of (open_text text.now) }
 {
     opened(open(text))
 }
 
-#[unsafe(no_mangle)]
-pub extern "C" fn lin_next(text: &[u8], at: u64) -> LinStep
+pub fn lin_next(text: &[u8], at: u64) -> LinStep
     ensures { result ≡ step_numbers (step_at text.now at) }
 {
     let cursor = Cursor { at: at as usize };
@@ -91,8 +89,7 @@ pub extern "C" fn lin_next(text: &[u8], at: u64) -> LinStep
 }
 
 // The part of the text from the cursor's place on; beyond the end, the empty part at the end.
-#[unsafe(no_mangle)]
-pub extern "C" fn lin_trailing(text: &[u8], at: u64) -> LinPart
+pub fn lin_trailing(text: &[u8], at: u64) -> LinPart
     ensures { result ≡ rest_numbers text.now at }
 {
     let end = text.len() as u64;
@@ -106,8 +103,7 @@ pub extern "C" fn lin_trailing(text: &[u8], at: u64) -> LinPart
     }
 }
 
-#[unsafe(no_mangle)]
-pub extern "C" fn lin_write_document(
+pub fn lin_write_document(
     text: &[u8],
     rows: &[u32],
     start: u32,

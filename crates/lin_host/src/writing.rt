@@ -34,8 +34,7 @@ fn compared(e: Equality) -> LinAnswer
 // all cards. The places of absent texts and an absent claim are not looked at; a code outside its range is refusal 8.
 
 // Adds a board after the used bytes, and gives the new used count.
-#[unsafe(no_mangle)]
-pub extern "C" fn lin_append(
+pub fn lin_append(
     text: &[u8],
     board: LinBoard,
     rows: &[u32],
@@ -62,8 +61,7 @@ pub extern "C" fn lin_append(
 }
 
 // Writes a board from the first byte of the output on, and gives its length.
-#[unsafe(no_mangle)]
-pub extern "C" fn lin_write_lin(
+pub fn lin_write_lin(
     text: &[u8],
     board: LinBoard,
     rows: &[u32],
@@ -76,16 +74,14 @@ pub extern "C" fn lin_write_lin(
 }
 
 // Writes the cards by tricks from the first byte of the output on, and gives the length.
-#[unsafe(no_mangle)]
-pub extern "C" fn lin_play_text(cards: &[u8], out: &mut [u8]) -> LinAnswer
+pub fn lin_play_text(cards: &[u8], out: &mut [u8]) -> LinAnswer
     ensures { ◌≡◌ {A = Outcome} (record { answer = result; output = out.new }) (outcome_numbers (format_cardplay cards.now out.old)) }
 {
     written(format_cardplay_by_trick(cards, out))
 }
 
 // 1 if the first board equals the second, else 0.
-#[unsafe(no_mangle)]
-pub extern "C" fn lin_same_board(
+pub fn lin_same_board(
     text: &[u8],
     board: LinBoard,
     rows: &[u32],

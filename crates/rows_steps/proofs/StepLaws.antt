@@ -41,7 +41,6 @@ use Rattle.rows_steps.specs.declared.steps.RowStep.{RowStep}
 use Rattle.rows_steps.specs.declared.steps.Headed.{Headed}
 use Rattle.rows.specs.Rows.{row_in}
 use Rattle.rows_steps.specs.Steps.{few_structs, text_answer, StepsTo, refused_headed, Heads}
-use Rattle.rows.proofs.Laws.{front}
 
 -- A text up to a place
 

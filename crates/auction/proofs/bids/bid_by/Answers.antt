@@ -1,5 +1,4 @@
 -- `auction::bids::bid_by` meets its contract: by the level.
-use borrow.Author.Rules.{rules}
 use Rattle.auction.proofs.BidLaws.{level_low, level_high, level_fits, level_none}
 use Rattle.auction.proofs.bids.bid_by.Goals as goal
 

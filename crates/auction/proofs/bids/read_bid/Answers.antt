@@ -1,5 +1,4 @@
 -- `auction::bids::read_bid` meets its contract: by the number of bytes.
-use borrow.Author.Rules.{rules}
 use Rattle.auction.proofs.BidLaws.{read_one, read-two, read-other, read_no_n, read_no_t, read_nt}
 use Rattle.auction.proofs.bids.read_bid.Goals as goal
 

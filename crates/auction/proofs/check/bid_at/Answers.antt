@@ -1,6 +1,5 @@
 -- `auction::bid_at` meets its contract: the bytes of the row's bid.
 use mathlib.Core.Path.{ap, ◌∙◌}
-use borrow.Author.Rules.{rules}
 use Rattle.lin_spec.specs.Records.{bytes_at}
 use Rattle.lin_spec.specs.declared.Call.{Call}
 use Rattle.auction.specs.Bids.{read_bid}

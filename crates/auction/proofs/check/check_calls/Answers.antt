@@ -1,6 +1,5 @@
 -- `auction::check_calls` meets its contract: the checks of a fresh board with these calls, then the bids.
 use mathlib.Core.Path.{ap, ◌∙◌}
-use borrow.Author.Rules.{rules}
 use Rattle.board_lent.specs.Heads.{head_of}
 use Rattle.auction.proofs.CheckLaws.{check_stops, check_goes_on}
 use Rattle.auction.proofs.check.check_calls.Goals as goal

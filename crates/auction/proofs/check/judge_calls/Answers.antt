@@ -1,5 +1,4 @@
 -- `auction::judge_calls` meets its contract: 9, or what the calls are.
-use borrow.Author.Rules.{rules}
 use Rattle.auction.proofs.CheckLaws.{judge_unknown, judge_known}
 use Rattle.auction.proofs.check.judge_calls.Goals as goal
 

@@ -1,9 +1,6 @@
 -- `auction::unknown_bid` meets its contract: a turn looks at a row.
-use Prim.Native.Nat.{◌-◌}
-use native.Mathlib.Omega.{arith}
-use lib.ListN.{length}
 use borrow.Author.Tests.{not-true, not-false}
-use Rattle.auction.proofs.SearchLaws.{Searched, search_begin, search_end, search_found, search_on}
+use Rattle.auction.proofs.SearchLaws.{search_begin, search_end, search_found, search_on}
 use Rattle.auction.proofs.check.unknown_bid.Goals as goal
 
 pub loop-i-init : goal.loop-i-init

@@ -1,6 +1,5 @@
 -- `board::board_at` meets its contract: the board where 3 does not meet the call, and the refusal where it does.
 use Rattle.board.proofs.ReaderLaws.{counted, fits, board-stored, rows-refused}
-use borrow.Author.Rules.{rules}
 use Rattle.board.proofs.reader.board_at.Goals as goal
 
 pub read_into-requires : goal.read_into-requires

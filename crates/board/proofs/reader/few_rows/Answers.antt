@@ -1,7 +1,6 @@
 -- `board::few_rows` meets its contract: each answer by the tests that led there.
 use Rattle.board.proofs.ReaderLaws.{ample, few-calls, few-cards, enough}
 use native.Mathlib.Omega.{arith}
-use borrow.Author.Rules.{rules}
 use Rattle.board.proofs.reader.few_rows.Goals as goal
 
 pub returns-then-roomy : goal.returns-then-roomy

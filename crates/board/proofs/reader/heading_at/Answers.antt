@@ -1,7 +1,6 @@
 -- `board::heading_at` meets its contract.
 use mathlib.Core.Path.{◌∙◌}
 use Rattle.board.proofs.ReaderLaws.{read-heading}
-use borrow.Author.Rules.{rules}
 use Rattle.board.proofs.reader.heading_at.Goals as goal
 
 pub returns : goal.returns

@@ -1,6 +1,5 @@
 -- `board::names_at` meets its contract.
 use Rattle.board.proofs.ReaderLaws.{read_names}
-use borrow.Author.Rules.{rules}
 use Rattle.board.proofs.reader.names_at.Goals as goal
 
 pub returns : goal.returns

@@ -2,7 +2,6 @@
 use Rattle.board.proofs.ReaderLaws.{short, board-read, board-refused}
 use native.Mathlib.Omega.{arith}
 use mathlib.Core.Path.{◌∙◌}
-use borrow.Author.Rules.{rules}
 use Rattle.board.proofs.reader.parse_lin.Goals as goal
 
 pub board_at-requires : goal.board_at-requires

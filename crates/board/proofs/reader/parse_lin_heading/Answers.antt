@@ -2,7 +2,6 @@
 use Rattle.board.proofs.ReaderLaws.{short, heading-read, heading-refused}
 use native.Mathlib.Omega.{arith}
 use mathlib.Core.Path.{◌∙◌}
-use borrow.Author.Rules.{rules}
 use Rattle.board.proofs.reader.parse_lin_heading.Goals as goal
 
 pub heading_at-requires : goal.heading_at-requires

@@ -1,13 +1,9 @@
 -- `board::put_cards` meets its contract: a turn takes one card off those that are left to store.
-use Rattle.board.proofs.ReaderLaws.{given-card, all-cards, card-left, cards-left}
 use Rattle.board_loop.specs.Head.{board_at}
 use Rattle.board_loop.specs.Play.{cards_from}
-use Rattle.output.proofs.Laws.{Left, roomy, step, finish}
+use Rattle.output.proofs.Laws.{Left}
 use Rattle.lin_spec.specs.Reading.{stream}
 use lib.ListN.{length}
-use borrow.Author.Rules.{rules}
-use mathlib.Core.Path.{ap}
-use native.Mathlib.Omega.{arith}
 use Rattle.board.proofs.reader.put_cards.Given as goal
 
 abbrev pub invariant-loop-c : goal.invariant-loop-c

@@ -1,6 +1,5 @@
 -- `board::roomy` meets its contract.
 use Rattle.board.proofs.ReaderLaws.{places}
-use borrow.Author.Rules.{rules}
 use Rattle.board.proofs.reader.roomy.Goals as goal
 
 pub returns : goal.returns

@@ -1,5 +1,4 @@
 -- `board_equality::check_both` meets its contract: each verdict by the tests that led there.
-use borrow.Author.Rules.{rules}
 use Rattle.board_equality.proofs.EqualityLaws.{most_long, most_long_2, most_other, most_number, most_past, most_ill, most_good}
 use Rattle.board_equality.proofs.boards.check_both.Goals as goal
 

@@ -1,5 +1,4 @@
 -- `board_equality::equal` meets its contract: part by part, up to the first that differs.
-use borrow.Author.Rules.{rules}
 use Rattle.board_equality.proofs.EqualityLaws.{unlike_names, unlike_dealt, unlike_texts, unlike_calls, like-calls}
 use Rattle.board_equality.proofs.boards.equal.Goals as goal
 

@@ -1,6 +1,5 @@
 -- `board_equality::same_claim` meets its contract: in each arm both claims are known.
 use mathlib.Core.Path.{refl}
-use borrow.Author.Rules.{rules}
 use Rattle.board_equality.proofs.boards.same_claim.Goals as goal
 
 pub returns-in-Claimed-b-2 : goal.returns-in-Claimed-b-2

@@ -1,5 +1,4 @@
 -- `board_equality::same_dealt` meets its contract: dealer, deal, vulnerability.
-use borrow.Author.Rules.{rules}
 use Rattle.board_equality.proofs.EqualityLaws.{and_stop, and_pass, and_unlike, and_like, eqb_of}
 use Rattle.board_equality.proofs.boards.same_dealt.Goals as goal
 

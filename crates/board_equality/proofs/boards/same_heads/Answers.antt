@@ -1,6 +1,5 @@
 -- `board_equality::same_heads` meets its contract: a refusal, or what the comparison says, 6 of the second board being left where they differ.
 use mathlib.Core.Path.{sym, ◌∙◌}
-use borrow.Author.Rules.{rules}
 use Rattle.board_equality.proofs.EqualityLaws.{same-refused, same-equal, same_unlike, most_accepted, equal-ill}
 use Rattle.board_equality.proofs.boards.same_heads.Goals as goal
 

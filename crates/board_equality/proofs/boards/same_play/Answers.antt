@@ -1,5 +1,4 @@
 -- `board_equality::same_play` meets its contract: the cards, then the claim.
-use borrow.Author.Rules.{rules}
 use Rattle.board_equality.proofs.EqualityLaws.{and_stop, and_pass}
 use Rattle.board_equality.proofs.boards.same_play.Goals as goal
 

@@ -1,5 +1,4 @@
 -- `board_equality::same_texts` meets its contract: text by text, up to the first that differs.
-use borrow.Author.Rules.{rules}
 use Rattle.board_equality.proofs.EqualityLaws.{and_stop, and_pass}
 use Rattle.board_equality.proofs.boards.same_texts.Goals as goal
 

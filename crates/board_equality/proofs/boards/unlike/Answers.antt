@@ -1,5 +1,4 @@
 -- `board_equality::unlike` meets its contract: the answer by the test of the second board's texts.
-use borrow.Author.Rules.{rules}
 use Rattle.board_equality.proofs.boards.unlike.Goals as goal
 
 pub returns-then-ill_texts : goal.returns-then-ill_texts

@@ -1,12 +1,9 @@
 -- `board_equality::held_in` meets its contract: a turn passes a card that the other holds, or that this one does not.
-use Prim.Native.Nat.{◌-◌, ◌*◌}
-use native.Mathlib.Omega.{arith}
-use mathlib.Core.Path.{◌≡◌, refl}
+use Prim.Native.Nat.{◌-◌}
+use mathlib.Core.Path.{◌≡◌}
 use lib.ListN.{drop}
 use Rattle.lin_spec.specs.Records.{part}
 use Rattle.lin_spec.specs.Writer.{held_in}
-use Rattle.cards.proofs.HandLaws.{count_at, counts_most}
-use Rattle.board_equality.proofs.EqualityLaws.{held-end, held-stop, held_on}
 use Rattle.board_equality.proofs.hands.held_in.Given as goal
 
 abbrev pub invariant-loop-c : goal.invariant-loop-c

@@ -1,5 +1,4 @@
 -- `board_equality::same_cards` meets its contract: the lengths, then the cards.
-use borrow.Author.Rules.{rules}
 use Rattle.board_equality.proofs.EqualityLaws.{and_unlike, and_like}
 use Rattle.board_equality.proofs.hands.same_cards.Goals as goal
 

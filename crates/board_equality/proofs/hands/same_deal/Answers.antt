@@ -1,7 +1,6 @@
 -- `board_equality::same_deal` meets its contract: the same counts, or seat by seat.
 use mathlib.Core.Path.{sym, ◌∙◌}
 use Rattle.board_equality.proofs.EqualityLaws.{same-counts}
-use borrow.Author.Rules.{rules}
 use Rattle.board_equality.proofs.hands.same_deal.Goals as goal
 
 pub returns-then-same_words : goal.returns-then-same_words

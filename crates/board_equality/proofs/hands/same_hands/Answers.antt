@@ -1,5 +1,4 @@
 -- `board_equality::same_hands` meets its contract: seat by seat, up to the first that differs.
-use borrow.Author.Rules.{rules}
 use Rattle.lin_spec.specs.Equality.{same_deal}
 use Rattle.board_equality.proofs.EqualityLaws.{and_stop, and_pass}
 use Rattle.board_equality.proofs.hands.same_hands.Goals as goal

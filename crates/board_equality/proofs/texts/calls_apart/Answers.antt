@@ -1,7 +1,6 @@
 -- `board_equality::calls_apart` meets its contract: by either index the answer is the same.
 use lib.ListN.{length}
 use lib.Dec.{ltb, leb}
-use borrow.Author.Rules.{rules}
 use borrow.Author.Tests.{leb-true}
 use Rattle.lin_spec.specs.Records.{limit}
 use Rattle.lin_spec.proofs.Base.{and_right}

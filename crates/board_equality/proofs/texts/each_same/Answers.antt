@@ -1,8 +1,6 @@
 -- `board_equality::each_same` meets its contract: a turn passes two calls that are the same.
-use Prim.Native.Nat.{◌-◌}
 use native.Mathlib.Omega.{arith}
-use lib.ListN.{length}
-use Rattle.board_equality.proofs.EqualityLaws.{Rows, rows_differ, rows_begin, rows-over, other_row, row_differs, row_next}
+use Rattle.board_equality.proofs.EqualityLaws.{rows_differ, rows_begin, rows-over, other_row, row_differs, row_next}
 use Rattle.board_equality.proofs.texts.each_same.Goals as goal
 
 pub returns-then-rows-rows2 : goal.returns-then-rows-rows2

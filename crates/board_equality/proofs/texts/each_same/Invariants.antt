@@ -1,8 +1,7 @@
 -- `board_equality::each_same` meets its contract: a turn passes two calls that are the same.
 use Prim.Native.Nat.{◌-◌}
-use native.Mathlib.Omega.{arith}
 use lib.ListN.{length}
-use Rattle.board_equality.proofs.EqualityLaws.{Rows, rows_differ, rows_begin, rows-over, other_row, row_differs, row_next}
+use Rattle.board_equality.proofs.EqualityLaws.{Rows}
 use Rattle.board_equality.proofs.texts.each_same.Given as goal
 
 abbrev pub invariant-loop-i : goal.invariant-loop-i

@@ -1,5 +1,4 @@
 -- `board_equality::same_annotation` meets its contract: none on the left, none on the right, or two to compare.
-use borrow.Author.Rules.{rules}
 use Rattle.board_equality.proofs.EqualityLaws.{bare-left, bare_right, both-annotated}
 use Rattle.board_equality.proofs.texts.same_annotation.Goals as goal
 

@@ -1,5 +1,4 @@
 -- `board_equality::same_call` meets its contract: part by part, up to the first that differs.
-use borrow.Author.Rules.{rules}
 use Rattle.lin_spec.specs.Equality.{eq_call}
 use Rattle.board_equality.proofs.EqualityLaws.{and_stop, and_pass}
 use Rattle.board_equality.proofs.texts.same_call.Goals as goal

@@ -5,7 +5,6 @@ use mathlib.Core.Bool.{◌&&◌}
 use lib.ListN.{length}
 use lib.Dec.{eqb}
 use borrow.Author.Tests.{eqb-true}
-use borrow.Author.Rules.{rules}
 use Rattle.lin_spec.proofs.Base.{and_left, and_right}
 use Rattle.board_equality.proofs.EqualityLaws.{whole_alike, calls-copied}
 use Rattle.board_equality.proofs.texts.same_calls.Goals as goal

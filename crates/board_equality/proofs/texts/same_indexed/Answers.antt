@@ -1,6 +1,5 @@
 -- `board_equality::same_indexed` meets its contract: what is compared is what the spans name.
 use native.Mathlib.Omega.{arith}
-use borrow.Author.Rules.{rules}
 use Rattle.board_equality.proofs.EqualityLaws.{place_same}
 use Rattle.board_equality.proofs.texts.same_indexed.Goals as goal
 

@@ -1,12 +1,6 @@
 -- `board_equality::same_names` meets its contract: a turn passes a seat whose names are the same.
-use Prim.Native.Nat.{◌-◌}
-use native.Mathlib.Omega.{arith}
-use mathlib.Core.Path.{◌≡◌, refl}
-use mathlib.Core.List.{map}
-use lib.ListN.{length, drop}
+use mathlib.Core.Path.{refl}
 use borrow.Author.Rules.{rules}
-use Rattle.lin_spec.specs.Base.{eq_all, eq_list}
-use Rattle.lin_spec.specs.Records.{bytes_at}
 use Rattle.board_equality.proofs.EqualityLaws.{names-end, names_differ, names-next}
 use Rattle.board_equality.proofs.texts.same_names.Goals as goal
 

@@ -1,6 +1,5 @@
 -- `board_equality::same_span` meets its contract: near spans name the same bytes, and of others these are compared.
 use mathlib.Core.Path.{sym, ◌∙◌}
-use borrow.Author.Rules.{rules}
 use Rattle.board_equality.proofs.EqualityLaws.{near-span}
 use Rattle.board_equality.proofs.texts.same_span.Goals as goal
 

@@ -1,6 +1,5 @@
 -- `board_equality::same_text` meets its contract: in each arm both texts are known.
 use mathlib.Core.Path.{refl}
-use borrow.Author.Rules.{rules}
 use Rattle.board_equality.proofs.texts.same_text.Goals as goal
 
 pub returns-in-Absent-y : goal.returns-in-Absent-y

@@ -1,10 +1,5 @@
 -- `board_equality::same_words` meets its contract: a turn looks at one word of each.
-use Prim.Native.Nat.{◌-◌}
-use native.Mathlib.Omega.{arith}
-use mathlib.Core.Path.{◌≡◌, refl}
-use mathlib.Core.Bool.{◌&&◌}
-use lib.ListN.{length, drop}
-use Rattle.lin_spec.specs.Base.{eq_list}
+use mathlib.Core.Path.{refl}
 use Rattle.board_equality.proofs.EqualityLaws.{words_differ, like-end, like-next}
 use Rattle.board_equality.proofs.texts.same_words.Goals as goal
 

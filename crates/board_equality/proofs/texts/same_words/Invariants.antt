@@ -1,11 +1,9 @@
 -- `board_equality::same_words` meets its contract: a turn looks at one word of each.
 use Prim.Native.Nat.{◌-◌}
-use native.Mathlib.Omega.{arith}
-use mathlib.Core.Path.{◌≡◌, refl}
+use mathlib.Core.Path.{◌≡◌}
 use mathlib.Core.Bool.{◌&&◌}
 use lib.ListN.{length, drop}
 use Rattle.lin_spec.specs.Base.{eq_list}
-use Rattle.board_equality.proofs.EqualityLaws.{words_differ, like-end, like-next}
 use Rattle.board_equality.proofs.texts.same_words.Given as goal
 
 abbrev pub invariant-loop-i : goal.invariant-loop-i

@@ -1,6 +1,5 @@
 -- `board_fields::is_dealer` meets its contract: the first byte, if there is one.
 use Rattle.board_fields.proofs.FieldLaws.{dealer-none, dealer-here}
-use borrow.Author.Rules.{rules}
 use Rattle.board_fields.proofs.fields.is_dealer.Goals as goal
 
 pub returns-then-s-eq0 : goal.returns-then-s-eq0

@@ -2,7 +2,6 @@
 use Prim.Native.Nat.{ℕ}
 use mathlib.Core.Path.{ap, ◌∙◌}
 use mathlib.Core.Option.{Option}
-use borrow.Author.Rules.{rules}
 use Rattle.lin_spec.specs.White.{trim}
 use Rattle.lin_spec.specs.Cards.{read_card}
 use Rattle.board_fields.specs.Fields.{more}

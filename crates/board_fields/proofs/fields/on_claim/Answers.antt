@@ -6,7 +6,6 @@ use Rattle.lin_spec.specs.White.{trim}
 use Rattle.digits.specs.Digits.{number_given}
 use mathlib.Core.Path.{ap, sym, ◌∙◌}
 use native.Mathlib.Omega.{arith}
-use borrow.Author.Rules.{rules}
 use Rattle.board_fields.proofs.fields.on_claim.Goals as goal
 
 pub returns-then-not-on : goal.returns-then-not-on

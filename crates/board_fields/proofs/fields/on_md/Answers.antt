@@ -3,7 +3,6 @@ use Rattle.board_fields.proofs.FieldLaws.{off, changed}
 use mathlib.Core.Path.{ap, sym, ◌∙◌}
 use Rattle.lin_spec.specs.White.{trim}
 use Rattle.board_fields.specs.Fields.{is_dealer}
-use borrow.Author.Rules.{rules}
 use Rattle.board_fields.proofs.fields.on_md.Goals as goal
 
 pub returns-then-not-on : goal.returns-then-not-on

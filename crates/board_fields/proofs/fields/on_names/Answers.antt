@@ -5,7 +5,6 @@ use Prim.Native.Nat.{ℕ}
 use Rattle.lin_spec.specs.Tokens.{cut}
 use Rattle.board_fields.specs.Fields.{names_from}
 use Rattle.board_fields.proofs.FieldLaws.{off, changed, names-by, value-end}
-use borrow.Author.Rules.{rules}
 use Rattle.board_fields.proofs.fields.on_names.Goals as goal
 
 pub returns-then-not-on : goal.returns-then-not-on

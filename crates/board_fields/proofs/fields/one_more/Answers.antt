@@ -1,5 +1,4 @@
 -- `board_fields::one_more` meets its contract: by the case of the card.
-use borrow.Author.Rules.{rules}
 use Rattle.board_fields.proofs.fields.one_more.Goals as goal
 
 pub returns-in-Card : goal.returns-in-Card

@@ -1,6 +1,5 @@
 -- `board_fields::read_sv` meets its contract: each test is that of an answer.
 use Rattle.board_fields.proofs.FieldLaws.{sv_n, sv_e, sv_b, sv_none}
-use borrow.Author.Rules.{rules}
 use Rattle.board_fields.proofs.fields.read_sv.Goals as goal
 
 pub returns-then-same_word : goal.returns-then-same_word

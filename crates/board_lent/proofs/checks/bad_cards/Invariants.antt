@@ -1,12 +1,10 @@
 -- `board_lent::bad_cards` meets its contract: a turn looks at a card.
 use Prim.Native.Nat.{◌-◌}
-use native.Mathlib.Omega.{arith}
-use mathlib.Core.Path.{◌≡◌, refl}
+use mathlib.Core.Path.{◌≡◌}
 use mathlib.Core.Bool.{◌||◌}
 use lib.ListN.{length, drop}
 use lib.Dec.{ltb}
 use Rattle.lin_spec.specs.Base.{any}
-use Rattle.board_lent.proofs.LentLaws.{all-each, or_each}
 use Rattle.board_lent.proofs.checks.bad_cards.Given as goal
 
 abbrev pub invariant-loop-i : goal.invariant-loop-i

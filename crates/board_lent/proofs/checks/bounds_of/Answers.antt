@@ -1,5 +1,4 @@
 -- `board_lent::bounds_of` meets its contract: the rows, the cards and the heading.
-use borrow.Author.Rules.{rules}
 use Rattle.board_lent.proofs.LentLaws.{bounds_all}
 use Rattle.board_lent.proofs.checks.bounds_of.Goals as goal
 

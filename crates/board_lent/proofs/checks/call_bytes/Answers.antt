@@ -1,5 +1,4 @@
 -- `board_lent::call_bytes` meets its contract: the bid, and the annotation where there is one.
-use borrow.Author.Rules.{rules}
 use Rattle.board_lent.proofs.LentLaws.{bytes-bare, bytes-both}
 use Rattle.board_lent.proofs.checks.call_bytes.Goals as goal
 

@@ -1,6 +1,5 @@
 -- `board_lent::call_meets` meets its contract: the bid, and the annotation where there is one.
 use mathlib.Core.Path.{sym, ◌∙◌}
-use borrow.Author.Rules.{rules}
 use Rattle.board_lent.proofs.LentLaws.{call-bid, call-bare, call-annotated}
 use Rattle.board_lent.proofs.checks.call_meets.Goals as goal
 

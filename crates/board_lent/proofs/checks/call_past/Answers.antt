@@ -1,5 +1,4 @@
 -- `board_lent::call_past` meets its contract: the bid, and the annotation where there is one.
-use borrow.Author.Rules.{rules}
 use Rattle.board_lent.proofs.LentLaws.{call_either}
 use Rattle.board_lent.proofs.checks.call_past.Goals as goal
 

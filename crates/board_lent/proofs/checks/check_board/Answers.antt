@@ -1,5 +1,4 @@
 -- `board_lent::check_board` meets its contract: each verdict by the tests that led there.
-use borrow.Author.Rules.{rules}
 use Rattle.board_lent.proofs.LentLaws.{check_long, check_other, check_number, check_past, check_ill, check_good}
 use Rattle.board_lent.proofs.checks.check_board.Goals as goal
 

@@ -1,6 +1,5 @@
 -- `board_lent::head_meets` meets its contract: the names, and the three texts that may be absent.
 use Rattle.board_lent.proofs.LentLaws.{head_four}
-use borrow.Author.Rules.{rules}
 use Rattle.board_lent.proofs.checks.head_meets.Goals as goal
 
 pub returns : goal.returns

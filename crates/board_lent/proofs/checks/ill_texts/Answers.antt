@@ -1,6 +1,5 @@
 -- `board_lent::ill_texts` meets its contract: the rows and the heading, by the index that was chosen.
 use native.Mathlib.Omega.{arith}
-use borrow.Author.Rules.{rules}
 use Rattle.board_lent.proofs.LentLaws.{word_count, texts-all}
 use Rattle.board_lent.proofs.checks.ill_texts.Goals as goal
 

@@ -1,5 +1,4 @@
 -- `board_lent::meets` meets its contract: the span passes the end, or the index says whether it is UTF-8.
-use borrow.Author.Rules.{rules}
 use Rattle.board_lent.proofs.LentLaws.{amiss-past, amiss-within}
 use Rattle.board_lent.proofs.checks.meets.Goals as goal
 

@@ -1,12 +1,8 @@
 -- `board_lent::name_meets` meets its contract: a turn passes a name without the fault.
-use Prim.Native.Nat.{◌-◌}
 use native.Mathlib.Omega.{arith}
-use mathlib.Core.Path.{◌≡◌, refl}
-use lib.ListN.{length, drop}
+use mathlib.Core.Path.{refl}
 use borrow.Author.Rules.{rules}
-use Rattle.lin_spec.specs.Base.{any}
 use Rattle.lin_spec.specs.Records.{span}
-use Rattle.board_lent.specs.Checks.{amiss}
 use Rattle.text.proofs.ListLaws.{any-end, any_found, any_next}
 use Rattle.board_lent.proofs.checks.name_meets.Goals as goal
 

@@ -1,13 +1,9 @@
 -- `board_lent::name_meets` meets its contract: a turn passes a name without the fault.
 use Prim.Native.Nat.{◌-◌}
-use native.Mathlib.Omega.{arith}
-use mathlib.Core.Path.{◌≡◌, refl}
+use mathlib.Core.Path.{◌≡◌}
 use lib.ListN.{length, drop}
-use borrow.Author.Rules.{rules}
 use Rattle.lin_spec.specs.Base.{any}
-use Rattle.lin_spec.specs.Records.{span}
 use Rattle.board_lent.specs.Checks.{amiss}
-use Rattle.text.proofs.ListLaws.{any-end, any_found, any_next}
 use Rattle.board_lent.proofs.checks.name_meets.Given as goal
 
 abbrev pub invariant-loop-seat : goal.invariant-loop-seat

@@ -1,13 +1,8 @@
 -- `board_lent::name_past` meets its contract: a turn looks at a name.
-use Prim.Native.Nat.{◌-◌}
 use native.Mathlib.Omega.{arith}
-use mathlib.Core.Path.{◌≡◌, refl}
-use mathlib.Core.Bool.{◌||◌}
-use lib.ListN.{length, drop}
+use mathlib.Core.Path.{refl}
 use borrow.Author.Rules.{rules}
-use Rattle.lin_spec.specs.Base.{any}
 use Rattle.lin_spec.specs.Records.{span}
-use Rattle.lin_spec.specs.Refusals.{passes_end}
 use Rattle.board_lent.proofs.LentLaws.{all-each, or_each}
 use Rattle.board_lent.proofs.checks.name_past.Goals as goal
 

@@ -1,14 +1,10 @@
 -- `board_lent::name_past` meets its contract: a turn looks at a name.
 use Prim.Native.Nat.{◌-◌}
-use native.Mathlib.Omega.{arith}
-use mathlib.Core.Path.{◌≡◌, refl}
+use mathlib.Core.Path.{◌≡◌}
 use mathlib.Core.Bool.{◌||◌}
 use lib.ListN.{length, drop}
-use borrow.Author.Rules.{rules}
 use Rattle.lin_spec.specs.Base.{any}
-use Rattle.lin_spec.specs.Records.{span}
 use Rattle.lin_spec.specs.Refusals.{passes_end}
-use Rattle.board_lent.proofs.LentLaws.{all-each, or_each}
 use Rattle.board_lent.proofs.checks.name_past.Given as goal
 
 abbrev pub invariant-loop-seat : goal.invariant-loop-seat

@@ -1,6 +1,5 @@
 -- `board_lent::present_meets` meets its contract: in each arm the text is known.
 use mathlib.Core.Path.{◌∙◌}
-use borrow.Author.Rules.{rules}
 use Rattle.board_lent.proofs.LentLaws.{absent_none, present-one}
 use Rattle.board_lent.proofs.checks.present_meets.Goals as goal
 

@@ -1,13 +1,7 @@
 -- `board_lent::row_bounds` meets its contract: a turn looks at a row.
-use Prim.Native.Nat.{◌-◌, ◌≤◌}
 use native.Mathlib.Omega.{arith}
-use mathlib.Core.Path.{◌≡◌, refl}
-use mathlib.Core.Bool.{◌||◌}
-use lib.ListN.{length, drop}
-use Rattle.lin_spec.specs.Base.{any}
-use Rattle.lin_spec.specs.Refusals.{passes_end}
-use Rattle.lin_spec.specs.Lent.{call_row, call_rows, bad_flag}
-use Rattle.board_lent.specs.Calls.{spans_of_call}
+use mathlib.Core.Path.{refl}
+use Rattle.lin_spec.specs.Lent.{call_row, bad_flag}
 use Rattle.board_lent.proofs.LentLaws.{all-rows, or_row}
 use Rattle.board_lent.proofs.checks.row_bounds.Goals as goal
 

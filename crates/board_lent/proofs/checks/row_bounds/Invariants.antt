@@ -1,14 +1,12 @@
 -- `board_lent::row_bounds` meets its contract: a turn looks at a row.
 use Prim.Native.Nat.{◌-◌, ◌≤◌}
-use native.Mathlib.Omega.{arith}
-use mathlib.Core.Path.{◌≡◌, refl}
+use mathlib.Core.Path.{◌≡◌}
 use mathlib.Core.Bool.{◌||◌}
 use lib.ListN.{length, drop}
 use Rattle.lin_spec.specs.Base.{any}
 use Rattle.lin_spec.specs.Refusals.{passes_end}
-use Rattle.lin_spec.specs.Lent.{call_row, call_rows, bad_flag}
+use Rattle.lin_spec.specs.Lent.{call_rows, bad_flag}
 use Rattle.board_lent.specs.Calls.{spans_of_call}
-use Rattle.board_lent.proofs.LentLaws.{all-rows, or_row}
 use Rattle.board_lent.proofs.checks.row_bounds.Given as goal
 
 abbrev pub invariant-loop-i : goal.invariant-loop-i

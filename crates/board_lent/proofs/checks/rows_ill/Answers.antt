@@ -1,6 +1,5 @@
 -- `board_lent::rows_ill` meets its contract: by either index the answer is the same.
 use native.Mathlib.Omega.{arith}
-use borrow.Author.Rules.{rules}
 use Rattle.board_lent.proofs.checks.rows_ill.Goals as goal
 
 pub overflow_cast-next : goal.overflow_cast-next

@@ -1,14 +1,12 @@
 -- `board_lent::rows_meet` meets its contract: a turn looks at a row.
 use Prim.Native.Nat.{◌-◌, ◌≤◌}
-use native.Mathlib.Omega.{arith}
-use mathlib.Core.Path.{◌≡◌, refl}
+use mathlib.Core.Path.{◌≡◌}
 use mathlib.Core.Bool.{◌||◌}
 use lib.ListN.{length, drop}
 use Rattle.lin_spec.specs.Base.{any}
-use Rattle.lin_spec.specs.Lent.{call_row, call_rows}
+use Rattle.lin_spec.specs.Lent.{call_rows}
 use Rattle.board_lent.specs.Calls.{spans_of_call}
 use Rattle.board_lent.specs.Checks.{amiss}
-use Rattle.board_lent.proofs.LentLaws.{all-rows, or_row}
 use Rattle.board_lent.proofs.checks.rows_meet.Given as goal
 
 abbrev pub invariant-loop-i : goal.invariant-loop-i

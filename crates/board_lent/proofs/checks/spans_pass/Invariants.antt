@@ -1,7 +1,6 @@
 -- `board_lent::spans_pass` ends. The loop's invariant: i is a place in the rows. The measure is what is left of them.
 use Prim.Native.Nat.{◌-◌, ◌≤◌}
 use lib.ListN.{length}
-use borrow.Author.Rules.{rules}
 use Rattle.board_lent.proofs.checks.spans_pass.Given as goal
 
 abbrev pub invariant-loop-i : goal.invariant-loop-i

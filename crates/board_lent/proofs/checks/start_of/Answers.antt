@@ -1,6 +1,5 @@
 -- `board_lent::start_of` meets its contract: no word is an index, and the longest well-formed start is one.
 use native.Mathlib.Omega.{arith}
-use borrow.Author.Rules.{rules}
 use Rattle.lin_spec.proofs.Utf8.{longest-within}
 use Rattle.board_lent.proofs.LentLaws.{started}
 use Rattle.board_lent.proofs.checks.start_of.Goals as goal

@@ -1,10 +1,8 @@
 -- `board_loop::bid_len` meets its contract: a turn takes a mark off the end.
 use Rattle.board_loop.proofs.CallLaws.{take_whole, mark_off, mark-none, marks_only, take_len}
-use Rattle.lin_spec.specs.Board.{without_end}
-use lib.ListN.{length, take}
-use mathlib.Core.Path.{◌≡◌, sym, ap, ◌∙◌}
+use lib.ListN.{length}
+use mathlib.Core.Path.{sym, ap, ◌∙◌}
 use native.Mathlib.Omega.{arith}
-use Prim.Native.Nat.{◌≤◌}
 use Rattle.board_loop.proofs.calls.bid_len.Goals as goal
 
 pub loop-n-init : goal.loop-n-init

@@ -2,7 +2,6 @@
 use native.Mathlib.Omega.{arith}
 use mathlib.Core.Path.{refl, ap, ◌∙◌}
 use lib.ListN.{length}
-use borrow.Author.Rules.{rules}
 use Rattle.lin_spec.specs.Records.{option_of}
 use Rattle.lin_spec.specs.Board.{without_end}
 use Rattle.board_loop.proofs.CallLaws.{call-row, bid-short}

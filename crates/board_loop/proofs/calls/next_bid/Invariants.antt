@@ -1,12 +1,8 @@
 -- `board_loop::next_bid` meets its contract: a turn takes a token that is no mb off those that are still to be read.
-use Rattle.board_loop.proofs.CallLaws.{from_end, from_mb, from-other}
 use Rattle.board_loop.specs.Calls.{calls_from}
 use Rattle.lin_spec.specs.Reading.{stream}
-use Rattle.document_commands.proofs.StepLaws.{commanded, spanned, value-short}
 use lib.ListN.{length}
-use mathlib.Core.Path.{◌≡◌, refl, ◌∙◌, sym}
-use borrow.Author.Rules.{rules}
-use native.Mathlib.Omega.{arith}
+use mathlib.Core.Path.{◌≡◌}
 use Prim.Native.Nat.{◌-◌}
 use Rattle.board_loop.proofs.calls.next_bid.Given as goal
 

@@ -1,7 +1,6 @@
 -- `board_loop::next_call` meets its contract: an mb, and the annotation after it.
 use Rattle.board_loop.proofs.CallLaws.{bidden}
 use mathlib.Core.Path.{◌∙◌}
-use borrow.Author.Rules.{rules}
 use Rattle.board_loop.proofs.calls.next_call.Goals as goal
 
 pub call_of-call-requires : goal.call_of-call-requires

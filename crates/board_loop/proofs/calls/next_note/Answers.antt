@@ -1,17 +1,8 @@
 -- `board_loop::next_note` meets its contract: a turn takes a token that is no mb off those that are still to be read.
 use Rattle.board_loop.proofs.CallLaws.{after-end, after_mb, after-other}
-use Rattle.board_loop.specs.Calls.{calls_after}
-use Rattle.lin_spec.specs.Reading.{stream}
-use Rattle.lin_spec.specs.declared.Span.{Span}
-use Rattle.lin_spec.specs.Board.{CallOf}
-use Rattle.lin_spec.specs.Records.{option_of}
-use mathlib.Core.Option.{none}
 use Rattle.document_commands.proofs.StepLaws.{commanded, spanned, value-short}
-use lib.ListN.{length}
-use mathlib.Core.Path.{◌≡◌, refl, ◌∙◌, sym}
-use borrow.Author.Rules.{rules}
+use mathlib.Core.Path.{refl, ◌∙◌, sym}
 use native.Mathlib.Omega.{arith}
-use Prim.Native.Nat.{◌-◌}
 use Rattle.board_loop.proofs.calls.next_note.Goals as goal
 
 pub loop-k-init : goal.loop-k-init

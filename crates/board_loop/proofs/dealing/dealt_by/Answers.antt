@@ -1,7 +1,6 @@
 -- `board_loop::dealt_by` meets its contract: before the first md, or from its value.
 use Rattle.board_loop.proofs.DealingLaws.{none-dealt, short-value, from-none, from_some}
 use mathlib.Core.Path.{◌∙◌}
-use borrow.Author.Rules.{rules}
 use Rattle.board_loop.proofs.dealing.dealt_by.Goals as goal
 
 pub read_md-requires : goal.read_md-requires

@@ -2,7 +2,6 @@
 use Rattle.board_loop.proofs.DealingLaws.{none-dealt, md_empty, md-none, md-given}
 use Rattle.board_loop.specs.Dealing.{seat_of}
 use mathlib.Core.Path.{ap, sym, ◌∙◌}
-use borrow.Author.Rules.{rules}
 use Rattle.board_loop.proofs.dealing.read_md.Goals as goal
 
 pub returns-then-s-eq0 : goal.returns-then-s-eq0

@@ -3,7 +3,6 @@ use Rattle.board_loop.proofs.PlayLaws.{card-on, card_off}
 use Rattle.lin_spec.specs.White.{trim}
 use Rattle.lin_spec.specs.Cards.{read_card}
 use mathlib.Core.Path.{ap, ◌∙◌}
-use borrow.Author.Rules.{rules}
 use Rattle.board_loop.proofs.play.card_at.Goals as goal
 
 pub returns-then-k-eq-PC : goal.returns-then-k-eq-PC

@@ -1,14 +1,9 @@
 -- `board_loop::next_card` meets its contract: a turn takes a token without a card off those that are still to be read.
 use Rattle.board_loop.proofs.PlayLaws.{no_card, card-here}
-use Rattle.board_loop.specs.Play.{cards_from}
 use Rattle.cards.specs.Letters.{maybe_card}
-use Rattle.lin_spec.specs.Reading.{stream}
 use Rattle.document_commands.proofs.StepLaws.{commanded, spanned, value-short}
-use lib.ListN.{length}
-use mathlib.Core.Path.{◌≡◌, refl, ◌∙◌, sym, ap}
-use borrow.Author.Rules.{rules}
+use mathlib.Core.Path.{◌∙◌, sym, ap}
 use native.Mathlib.Omega.{arith}
-use Prim.Native.Nat.{◌-◌}
 use Rattle.board_loop.proofs.play.next_card.Goals as goal
 
 pub span_of-requires : goal.span_of-requires

@@ -1,7 +1,6 @@
 -- `board_loop::store_bid` meets its contract: the row of the call.
 use mathlib.Core.Path.{refl}
 use native.Mathlib.Omega.{arith}
-use borrow.Author.Rules.{rules}
 use Rattle.board_loop.proofs.StoringLaws.{row_room, row_put}
 use Rattle.board_loop.proofs.storing.store_bid.Goals as goal
 

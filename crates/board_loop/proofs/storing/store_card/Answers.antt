@@ -2,7 +2,6 @@
 use mathlib.Core.Path.{ap, sym, ◌∙◌}
 use Rattle.cards.specs.Letters.{maybe_card}
 use Rattle.board_loop.proofs.StoringLaws.{one-room, one_put, none_put}
-use borrow.Author.Rules.{rules}
 use Rattle.board_loop.proofs.storing.store_card.Goals as goal
 
 pub put_byte-requires : goal.put_byte-requires

@@ -1,6 +1,5 @@
 -- `board_loop::store_last` meets its contract: the last three words of the last row.
 use native.Mathlib.Omega.{arith}
-use borrow.Author.Rules.{rules}
 use Rattle.board_loop.proofs.StoringLaws.{last-room, last-noted, none-noted}
 use Rattle.board_loop.proofs.storing.store_last.Goals as goal
 

@@ -1,7 +1,5 @@
 -- `board_loop::store_note` meets its contract: a run of puts, each of which takes one word off what is left to store.
 -- what is left to store after k of the puts
-use Prim.Native.Nat.{ℕ}
-use mathlib.Core.List.{List}
 use lib.ListN.{drop}
 use Rattle.output.specs.Put.{joined}
 use Rattle.output.proofs.Laws.{Left, start, roomy, step, finish}

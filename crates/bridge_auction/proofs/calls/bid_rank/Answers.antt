@@ -1,5 +1,4 @@
 -- `bridge_auction::calls::bid_rank` meets its contract: by the kind of call.
-use borrow.Author.Rules.{rules}
 use Rattle.bridge_auction.specs.Auction.{rank}
 use Rattle.bridge_auction.proofs.StateLaws.{rank-bid}
 use Rattle.bridge_auction.proofs.calls.bid_rank.Goals as goal

@@ -1,5 +1,4 @@
 -- `bridge_auction::state::allows` meets its contract: a law of the history for each kind of call.
-use borrow.Author.Rules.{rules}
 use Rattle.bridge_auction.proofs.StateLaws.{says-over, says_pass, says_double, says_redouble, says-bid}
 use Rattle.bridge_auction.proofs.state.allows.Goals as goal
 

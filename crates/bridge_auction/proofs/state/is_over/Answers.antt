@@ -1,5 +1,4 @@
 -- `bridge_auction::state::is_over` meets its contract: by whether there is a bid.
-use borrow.Author.Rules.{rules}
 use mathlib.Core.Path.{sym, ◌∙◌}
 use Rattle.bridge_auction.proofs.state.is_over.Goals as goal
 

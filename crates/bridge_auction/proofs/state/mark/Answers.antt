@@ -1,5 +1,4 @@
 -- `bridge_auction::state::mark` meets its contract: by whether the place is free.
-use borrow.Author.Rules.{rules}
 use native.Mathlib.Omega.{arith}
 use Rattle.bridge_auction.proofs.NameLaws.{mark-kept, mark_free}
 use Rattle.bridge_auction.proofs.state.mark.Goals as goal

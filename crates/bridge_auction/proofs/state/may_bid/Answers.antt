@@ -1,5 +1,4 @@
 -- `bridge_auction::state::may_bid` meets its contract: by the ranks of both.
-use borrow.Author.Rules.{rules}
 use Rattle.bridge_auction.proofs.state.may_bid.Goals as goal
 
 pub returns : goal.returns

@@ -1,5 +1,4 @@
 -- `bridge_auction::state::may_double` meets its contract: by what the latest call is.
-use borrow.Author.Rules.{rules}
 use Rattle.bridge_auction.proofs.state.may_double.Goals as goal
 
 pub returns : goal.returns

@@ -1,5 +1,4 @@
 -- `bridge_auction::state::may_redouble` meets its contract: by what the latest call is.
-use borrow.Author.Rules.{rules}
 use Rattle.bridge_auction.proofs.state.may_redouble.Goals as goal
 
 pub returns : goal.returns

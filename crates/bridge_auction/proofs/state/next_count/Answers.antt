@@ -1,5 +1,4 @@
 -- `bridge_auction::state::next_count` meets its contract: by whether there is one more.
-use borrow.Author.Rules.{rules}
 use borrow.Author.Tests.{lt-ltb, le-ltb}
 use Rattle.bridge_auction.proofs.state.next_count.Goals as goal
 

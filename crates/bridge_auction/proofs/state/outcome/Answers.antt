@@ -1,5 +1,4 @@
 -- `bridge_auction::state::outcome` meets its contract: a law of the history for each answer.
-use borrow.Author.Rules.{rules}
 use borrow.Author.Tests.{not-true, not-false}
 use Rattle.bridge_auction.proofs.StateLaws.{still_open, passed_out, the_contract}
 use Rattle.bridge_auction.proofs.state.outcome.Goals as goal

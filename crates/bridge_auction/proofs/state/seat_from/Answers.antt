@@ -1,5 +1,4 @@
 -- `bridge_auction::state::seat_from` meets its contract: by the dealer's number.
-use borrow.Author.Rules.{rules}
 use mathlib.Core.Path.{◌∙◌}
 use Rattle.bridge_auction.specs.Auction.{caller}
 use Rattle.bridge_auction.proofs.state.seat_from.Goals as goal

@@ -1,5 +1,4 @@
 -- `bridge_auction::state::slot` meets its contract: ten places, five for each side.
-use borrow.Author.Rules.{rules}
 use native.Mathlib.Omega.{arith}
 use Rattle.bridge_auction.specs.State.{slot}
 use Rattle.bridge_auction.proofs.NameLaws.{five}

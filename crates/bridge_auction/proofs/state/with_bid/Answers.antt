@@ -1,5 +1,4 @@
 -- `bridge_auction::state::with_bid` meets its contract: by the next seat and the table of names.
-use borrow.Author.Rules.{rules}
 use Rattle.bridge_auction.specs.State.{state_with_bid}
 use Rattle.bridge_auction.proofs.state.with_bid.Goals as goal
 

@@ -1,5 +1,4 @@
 -- `bridge_auction::state::with_call` meets its contract: a law of the history for each kind of call.
-use borrow.Author.Rules.{rules}
 use Rattle.bridge_auction.proofs.StateLaws.{after_pass, after_double, after_redouble, after-bid}
 use Rattle.bridge_auction.proofs.state.with_call.Goals as goal
 

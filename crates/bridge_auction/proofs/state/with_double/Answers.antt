@@ -1,5 +1,4 @@
 -- `bridge_auction::state::with_double` meets its contract: by the next seat.
-use borrow.Author.Rules.{rules}
 use Rattle.bridge_auction.specs.State.{state_with_double}
 use Rattle.bridge_auction.proofs.state.with_double.Goals as goal
 

@@ -1,5 +1,4 @@
 -- `bridge_auction::state::with_pass` meets its contract: by the next seat and the count.
-use borrow.Author.Rules.{rules}
 use Rattle.bridge_auction.specs.State.{state_with_pass}
 use Rattle.bridge_auction.proofs.state.with_pass.Goals as goal
 

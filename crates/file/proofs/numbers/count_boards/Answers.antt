@@ -1,7 +1,6 @@
 -- `file::count_boards` meets its contract.
 use Rattle.file.proofs.NumberLaws.{counted, count-refused}
 use Rattle.file_sections.proofs.WayLaws.{at_first}
-use borrow.Author.Rules.{rules}
 use Rattle.file.proofs.numbers.count_boards.Goals as goal
 
 pub count_from-requires : goal.count_from-requires

@@ -1,10 +1,7 @@
 -- `file::count_from` meets its contract: a turn passes a section.
-use Rattle.file_sections.proofs.SectionLaws.{seen}
-use Rattle.file_sections.proofs.WayLaws.{Way, way_begin, way_on, way_end}
+use Rattle.file_sections.proofs.WayLaws.{Way}
 use Rattle.file_sections.specs.Sections.{standing_of}
 use lib.ListN.{length}
-use borrow.Author.Rules.{rules}
-use native.Mathlib.Omega.{arith}
 use Prim.Native.Nat.{◌+◌, ◌-◌}
 use Rattle.file.proofs.numbers.count_from.Given as goal
 

@@ -3,7 +3,6 @@ use Rattle.file.proofs.NumberLaws.{given, board-refused, board-found, board_miss
 use Rattle.file_sections.proofs.WayLaws.{at_first}
 use Rattle.file_sections.proofs.SectionLaws.{inside-long, inside-within}
 use native.Mathlib.Omega.{arith}
-use borrow.Author.Rules.{rules}
 use Rattle.file.proofs.numbers.file_board.Goals as goal
 
 pub returns-in-Refused : goal.returns-in-Refused

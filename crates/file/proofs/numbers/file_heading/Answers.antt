@@ -3,7 +3,6 @@ use Rattle.file.proofs.NumberLaws.{given, heading-refused, heading-found, headin
 use Rattle.file_sections.proofs.WayLaws.{at_first}
 use Rattle.file_sections.proofs.SectionLaws.{inside-long, inside-within}
 use native.Mathlib.Omega.{arith}
-use borrow.Author.Rules.{rules}
 use Rattle.file.proofs.numbers.file_heading.Goals as goal
 
 pub returns-in-Refused : goal.returns-in-Refused

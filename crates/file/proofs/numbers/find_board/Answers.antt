@@ -1,11 +1,7 @@
 -- `file::find_board` meets its contract: a turn passes a section that is not the one looked for.
 use Rattle.file_sections.proofs.SectionLaws.{seen}
-use Rattle.file.proofs.NumberLaws.{Seeks, seeks_begin, seeks_on, seeks_found, seeks_missing}
-use Rattle.file_sections.specs.Sections.{standing_of}
-use lib.ListN.{length}
-use borrow.Author.Rules.{rules}
+use Rattle.file.proofs.NumberLaws.{seeks_begin, seeks_on, seeks_found, seeks_missing}
 use native.Mathlib.Omega.{arith}
-use Prim.Native.Nat.{◌+◌, ◌-◌}
 use Rattle.file.proofs.numbers.find_board.Goals as goal
 
 pub loop-n-init : goal.loop-n-init

@@ -1,10 +1,6 @@
 -- `file_finder::finder::any_same` meets its contract: a turn passes a seat with another name. The measure is how many are left.
 use Prim.Native.Nat.{◌-◌}
-use native.Mathlib.Omega.{arith}
-use mathlib.Core.Path.{refl, ◌∙◌}
-use borrow.Author.Rules.{rules}
-use Rattle.lin_spec.specs.Records.{span}
-use Rattle.file_finder.proofs.FinderLaws.{Seats, looking_on, seat_fits, seat_found, seat_next, seats_end}
+use Rattle.file_finder.proofs.FinderLaws.{Seats}
 use Rattle.file_finder.proofs.finder.any_same.Given as goal
 
 abbrev pub invariant-loop-seat : goal.invariant-loop-seat

@@ -1,7 +1,6 @@
 -- `file_finder::finder::find_checked` meets its contract: 7 by what is told of the room, and else the count.
 use native.Mathlib.Omega.{arith}
 use mathlib.Core.Path.{refl, ◌∙◌}
-use borrow.Author.Rules.{rules}
 use Rattle.file_finder.specs.declared.measure.Room.TheVariants.{Enough, Needed}
 use Rattle.file_finder.proofs.FinderLaws.{first_ready, sought_small, room_told, boards-fit, checked-short, enough, front_fits, checked-count}
 use Rattle.file_finder.proofs.finder.find_checked.Goals as goal

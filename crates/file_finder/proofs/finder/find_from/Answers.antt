@@ -1,12 +1,8 @@
 -- `file_finder::finder::find_from` meets its contract: a turn passes a section. The measure is what is left of the text.
-use Prim.Native.Nat.{◌+◌, ◌-◌}
 use native.Mathlib.Omega.{arith}
-use lib.ListN.{length}
-use borrow.Author.Rules.{rules}
-use Rattle.file_sections.specs.Sections.{standing_of}
 use Rattle.file_sections.proofs.SectionLaws.{seen}
 use Rattle.file_sections.proofs.WayLaws.{found_inside}
-use Rattle.file_finder.proofs.FinderLaws.{Tally, tally_begin, section_fits, tally_small, tally_on, tally_end}
+use Rattle.file_finder.proofs.FinderLaws.{tally_begin, section_fits, tally_small, tally_on, tally_end}
 use Rattle.file_finder.proofs.finder.find_from.Goals as goal
 
 pub loop-p-init : goal.loop-p-init

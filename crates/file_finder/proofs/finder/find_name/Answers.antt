@@ -1,5 +1,4 @@
 -- `file_finder::finder::find_name` meets its contract: each answer by the tests that led there.
-use borrow.Author.Rules.{rules}
 use Rattle.file_finder.proofs.FinderLaws.{find-long, find_name_long, find-ill, find_name_ill, both-well, find-checked}
 use Rattle.file_finder.proofs.finder.find_name.Goals as goal
 

@@ -1,6 +1,5 @@
 -- `file_finder::measure::room_for` meets its contract: what any name of the text fits is enough, and else the names are measured.
 use native.Mathlib.Omega.{arith}
-use borrow.Author.Rules.{rules}
 use Rattle.file_finder.proofs.MeasureLaws.{file_most, sum-small}
 use Rattle.file_finder.proofs.measure.room_for.Goals as goal
 

@@ -1,6 +1,5 @@
 -- `file_reader::check_utf8` meets its contract: by the length of the longest well-formed start.
 use Rattle.file_reader.proofs.StepLaws.{longest_of, check_ill, check_well}
-use borrow.Author.Rules.{rules}
 use Rattle.file_reader.proofs.steps.check_utf8.Goals as goal
 
 pub returns-then-n-stop : goal.returns-then-n-stop

@@ -1,6 +1,5 @@
 -- `file_reader::none_left` meets its contract: 2 over what is left, if anything is.
 use Rattle.file_reader.proofs.StepLaws.{none_met, none_left, none_beyond}
-use borrow.Author.Rules.{rules}
 use Rattle.file_reader.proofs.steps.none_left.Goals as goal
 
 pub returns-in-Refused : goal.returns-in-Refused

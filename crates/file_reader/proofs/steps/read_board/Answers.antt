@@ -1,6 +1,5 @@
 -- `file_reader::read_board` meets its contract: each answer by the step that was found.
 use Rattle.file_reader.proofs.StepLaws.{step_long, step_inside, step_found, step_ended}
-use borrow.Author.Rules.{rules}
 use Rattle.file_reader.proofs.steps.read_board.Goals as goal
 
 pub returns-then-text-gt-LIMIT : goal.returns-then-text-gt-LIMIT

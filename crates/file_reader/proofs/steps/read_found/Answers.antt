@@ -1,7 +1,6 @@
 -- `file_reader::read_found` meets its contract: 2 over the bytes looked at, then 3, then the board.
 use Rattle.file_reader.proofs.StepLaws.{found-ill, found-few, found-read}
 use Rattle.file_sections.proofs.SectionLaws.{inside-long, inside-within}
-use borrow.Author.Rules.{rules}
 use Rattle.file_reader.proofs.steps.read_found.Goals as goal
 
 pub returns-in-Refused : goal.returns-in-Refused

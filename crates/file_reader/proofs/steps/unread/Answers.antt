@@ -1,6 +1,5 @@
 -- `file_reader::unread` meets its contract.
 use mathlib.Core.Path.{refl}
-use borrow.Author.Rules.{rules}
 use Rattle.file_reader.proofs.steps.unread.Goals as goal
 
 pub returns : goal.returns

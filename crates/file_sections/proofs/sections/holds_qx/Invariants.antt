@@ -1,13 +1,9 @@
 -- `file_sections::holds_qx` meets its contract: a turn takes a token that is no qx off those that are still to be read.
-use Rattle.file_sections.proofs.SectionLaws.{qx-here, qx-later, no_qx}
-use Rattle.document_commands.proofs.StepLaws.{commanded}
 use Rattle.lin_spec.specs.File.{holds}
 use Rattle.lin_spec.specs.Reading.{stream}
 use Rattle.lin_spec.specs.Base.{ascii}
 use lib.ListN.{length}
-use borrow.Author.Rules.{rules}
-use mathlib.Core.Path.{◌≡◌, refl, ◌∙◌}
-use native.Mathlib.Omega.{arith}
+use mathlib.Core.Path.{◌≡◌}
 use Prim.Native.Nat.{◌-◌}
 use Rattle.file_sections.proofs.sections.holds_qx.Given as goal
 

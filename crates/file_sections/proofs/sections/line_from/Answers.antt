@@ -1,7 +1,6 @@
 -- `file_sections::line_from` meets its contract: the line ends at the next LF or at the end.
 use Rattle.file_sections.proofs.SectionLaws.{line-stop, line-is}
 use native.Mathlib.Omega.{arith}
-use borrow.Author.Rules.{rules}
 use Rattle.file_sections.proofs.sections.line_from.Goals as goal
 
 pub slice_bounds-is_blank-count : goal.slice_bounds-is_blank-count

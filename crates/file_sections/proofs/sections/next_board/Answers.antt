@@ -1,10 +1,6 @@
 -- `file_sections::next_board` meets its contract: a turn passes a section that is no board.
-use Rattle.file_sections.proofs.SectionLaws.{Seeking, seeking_begins, seeking_on, seeking_found, seeking_ended, seen}
-use Rattle.file_sections.specs.Sections.{standing_of}
-use lib.ListN.{length}
-use borrow.Author.Rules.{rules}
+use Rattle.file_sections.proofs.SectionLaws.{seeking_begins, seeking_on, seeking_found, seeking_ended, seen}
 use native.Mathlib.Omega.{arith}
-use Prim.Native.Nat.{◌+◌, ◌-◌}
 use Rattle.file_sections.proofs.sections.next_board.Goals as goal
 
 pub loop-n-init : goal.loop-n-init

@@ -1,9 +1,7 @@
 -- `file_sections::next_board` meets its contract: a turn passes a section that is no board.
-use Rattle.file_sections.proofs.SectionLaws.{Seeking, seeking_begins, seeking_on, seeking_found, seeking_ended, seen}
+use Rattle.file_sections.proofs.SectionLaws.{Seeking}
 use Rattle.file_sections.specs.Sections.{standing_of}
 use lib.ListN.{length}
-use borrow.Author.Rules.{rules}
-use native.Mathlib.Omega.{arith}
 use Prim.Native.Nat.{◌+◌, ◌-◌}
 use Rattle.file_sections.proofs.sections.next_board.Given as goal
 

@@ -2,7 +2,6 @@
 use Prim.Native.Nat.{◌+◌}
 use Rattle.file_sections.proofs.SectionLaws.{number-stays, number_more}
 use native.Mathlib.Omega.{arith}
-use borrow.Author.Rules.{rules}
 use Rattle.file_sections.proofs.sections.next_number.Goals as goal
 
 pub returns-then-not-board : goal.returns-then-not-board

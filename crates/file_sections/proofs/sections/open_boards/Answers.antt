@@ -1,6 +1,5 @@
 -- `file_sections::open_boards` meets its contract.
 use Rattle.file_sections.proofs.SectionLaws.{boards-opened, boards-refused}
-use borrow.Author.Rules.{rules}
 use Rattle.file_sections.proofs.sections.open_boards.Goals as goal
 
 pub returns-in-At : goal.returns-in-At

@@ -1,10 +1,7 @@
 -- `file_sections::part_from` meets its contract: a turn passes a token that ends no part.
-use Prim.Native.Nat.{◌-◌}
 use native.Mathlib.Omega.{arith}
-use lib.ListN.{length}
-use borrow.Author.Rules.{rules}
 use Rattle.document_commands.proofs.StepLaws.{parted}
-use Rattle.file_sections.proofs.SectionLaws.{Walks, walks_begin, walks_end, walks_stop, walks_on, passes_on}
+use Rattle.file_sections.proofs.SectionLaws.{walks_begin, walks_end, walks_stop, walks_on, passes_on}
 use Rattle.file_sections.proofs.sections.part_from.Goals as goal
 
 pub loop-next-init : goal.loop-next-init

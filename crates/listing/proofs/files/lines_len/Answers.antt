@@ -1,12 +1,8 @@
 -- `listing::lines_len` meets its contract: a turn measures the line of one section.
 use Rattle.file_sections.proofs.SectionLaws.{seen}
-use Rattle.listing.proofs.FileLaws.{Measured, measured_begin, measured-on, measured-end}
+use Rattle.listing.proofs.FileLaws.{measured_begin, measured-on, measured-end}
 use Rattle.file_sections.proofs.WayLaws.{found_inside}
-use Rattle.file_sections.specs.Sections.{standing_of}
-use lib.ListN.{length}
-use borrow.Author.Rules.{rules}
 use native.Mathlib.Omega.{arith}
-use Prim.Native.Nat.{◌+◌, ◌-◌}
 use Rattle.listing.proofs.files.lines_len.Goals as goal
 
 pub loop-number-init : goal.loop-number-init

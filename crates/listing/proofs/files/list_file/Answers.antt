@@ -1,7 +1,6 @@
 -- `listing::list_file` meets its contract: its answer by the tests that led there.
 use Rattle.listing.proofs.FileLaws.{as_listed, list_over, list_refused, list_boards}
 use Rattle.file_sections.proofs.WayLaws.{at_first}
-use borrow.Author.Rules.{rules}
 use Rattle.listing.proofs.files.list_file.Goals as goal
 
 pub returns-then-text-gt-LIST_LIMIT : goal.returns-then-text-gt-LIST_LIMIT

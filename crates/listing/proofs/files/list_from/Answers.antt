@@ -1,6 +1,5 @@
 -- `listing::list_from` meets its contract: its answer by the test that led there.
 use Rattle.listing.proofs.FileLaws.{whole-small, header-room, lines-room, whole-done}
-use borrow.Author.Rules.{rules}
 use Rattle.listing.proofs.files.list_from.Goals as goal
 
 pub returns-then-room-need : goal.returns-then-room-need

@@ -1,6 +1,5 @@
 -- `listing::list_whole` meets its contract: no listing is refused the room.
 use Rattle.listing.proofs.FitLaws.{whole_put, never_refused}
-use borrow.Author.Rules.{rules}
 use Rattle.listing.proofs.files.list_whole.Goals as goal
 
 pub returns-in-Length : goal.returns-in-Length

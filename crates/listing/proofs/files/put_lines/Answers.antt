@@ -1,12 +1,8 @@
 -- `listing::put_lines` meets its contract: a turn puts the line of one section.
 use Rattle.file_sections.proofs.SectionLaws.{seen}
-use Rattle.listing.proofs.FileLaws.{Listed, listed_begin, listed_room, listed_on, listed_end}
+use Rattle.listing.proofs.FileLaws.{listed_begin, listed_room, listed_on, listed_end}
 use Rattle.file_sections.proofs.WayLaws.{found_inside}
-use Rattle.file_sections.specs.Sections.{standing_of}
-use lib.ListN.{length}
-use borrow.Author.Rules.{rules}
 use native.Mathlib.Omega.{arith}
-use Prim.Native.Nat.{◌+◌, ◌-◌}
 use Rattle.listing.proofs.files.put_lines.Goals as goal
 
 pub loop-number-init : goal.loop-number-init

@@ -1,6 +1,5 @@
 -- `listing::put_section` meets its contract.
 use Rattle.listing.proofs.FileLaws.{no_line, put_none, its_room, its_put}
-use borrow.Author.Rules.{rules}
 use Rattle.listing.proofs.files.put_section.Goals as goal
 
 pub returns-then-not-p : goal.returns-then-not-p

@@ -1,6 +1,5 @@
 -- `listing::section_len` meets its contract.
 use Rattle.listing.proofs.FileLaws.{no_line-long, its_line-long}
-use borrow.Author.Rules.{rules}
 use Rattle.listing.proofs.files.section_len.Goals as goal
 
 pub returns-then-not-p : goal.returns-then-not-p

@@ -1,7 +1,6 @@
 -- `listing_lines::board_line` meets its contract: by the heading's verdict.
 use mathlib.Core.Path.{sym, ◌∙◌}
 use Rattle.listing_lines.proofs.Answers.{by-verdict}
-use borrow.Author.Rules.{rules}
 use Rattle.listing_lines.proofs.lines.board_line.Goals as goal
 
 pub returns-in-Accepted : goal.returns-in-Accepted

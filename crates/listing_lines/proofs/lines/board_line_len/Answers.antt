@@ -8,7 +8,6 @@ use Rattle.lin_spec.specs.Decimal.{decimal}
 use lib.ListN.{length}
 use mathlib.Core.Path.{ap, sym, ◌∙◌}
 use Prim.Native.Nat.{ℕ, ◌+◌}
-use borrow.Author.Rules.{rules}
 use Rattle.listing_lines.proofs.lines.board_line_len.Goals as goal
 
 pub returns : goal.returns

@@ -1,7 +1,6 @@
 -- `listing_lines::header_line` meets its contract: its answer by the test that led there.
 use Rattle.listing_lines.proofs.LineLaws.{header-long}
 use Rattle.listing_lines.proofs.Answers.{line_small, line-fits, line-done}
-use borrow.Author.Rules.{rules}
 use Rattle.listing_lines.proofs.lines.header_line.Goals as goal
 
 pub returns-then-room-need : goal.returns-then-room-need

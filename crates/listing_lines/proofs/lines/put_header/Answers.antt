@@ -1,6 +1,5 @@
 -- `listing_lines::put_header` meets its contract: one put.
 use Rattle.listing_lines.proofs.LineLaws.{header_is}
-use borrow.Author.Rules.{rules}
 use Rattle.listing_lines.proofs.lines.put_header.Goals as goal
 
 pub put_bytes-requires : goal.put_bytes-requires

@@ -1,9 +1,6 @@
 -- `listing_lines::put_refusal_line` meets its contract: a run of puts, each of which takes one piece off what is left to write.
 -- what is left to write after k of the puts
-use Prim.Native.Nat.{ℕ}
-use mathlib.Core.List.{List}
 use lib.ListN.{drop}
-use borrow.Author.Rules.{rules}
 use Rattle.output.specs.Put.{joined}
 use Rattle.output.proofs.Laws.{Left, start, roomy, step, finish}
 use Rattle.lin_spec.specs.Listing.{refusal_line}

@@ -1,6 +1,5 @@
 -- `listing_lines::refusal_line` meets its contract: its answer by the test that led there.
 use Rattle.listing_lines.proofs.Answers.{line_small, line-fits, line-done}
-use borrow.Author.Rules.{rules}
 use Rattle.listing_lines.proofs.lines.refusal_line.Goals as goal
 
 pub returns-then-room-need : goal.returns-then-room-need

@@ -1,5 +1,4 @@
 -- `listing_lines::claim_len` meets its contract, by the case of the claim.
-use borrow.Author.Rules.{rules}
 use Rattle.listing_lines.proofs.words.claim_len.Goals as goal
 
 pub returns-in-Claimed : goal.returns-in-Claimed

@@ -1,7 +1,6 @@
 -- `listing_lines::field_len` meets its contract: a space and the digits.
 use Rattle.listing_lines.proofs.LineLaws.{field-long}
 use native.Mathlib.Omega.{arith}
-use borrow.Author.Rules.{rules}
 use Rattle.listing_lines.proofs.words.field_len.Goals as goal
 
 pub returns : goal.returns

@@ -1,5 +1,4 @@
 -- `listing_lines::length_len` meets its contract: the length of the hand is what is counted.
-use borrow.Author.Rules.{rules}
 use Rattle.listing_lines.proofs.words.length_len.Goals as goal
 
 pub returns : goal.returns

@@ -9,7 +9,6 @@ use Rattle.lin_spec.specs.Letters.{hand_length}
 use lib.ListN.{length}
 use mathlib.Core.Path.{ap, sym, ◌∙◌}
 use Prim.Native.Nat.{ℕ, ◌+◌}
-use borrow.Author.Rules.{rules}
 use Rattle.listing_lines.proofs.words.lengths_len.Goals as goal
 
 pub returns : goal.returns

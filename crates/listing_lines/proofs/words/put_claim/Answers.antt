@@ -1,5 +1,4 @@
 -- `listing_lines::put_claim` meets its contract: one put, by the case of the claim.
-use borrow.Author.Rules.{rules}
 use Rattle.listing_lines.proofs.words.put_claim.Goals as goal
 
 pub put_byte-requires : goal.put_byte-requires

@@ -1,5 +1,4 @@
 -- `listing_lines::put_length` meets its contract: the length of the hand is what is put.
-use borrow.Author.Rules.{rules}
 use Rattle.listing_lines.proofs.words.put_length.Goals as goal
 
 pub put_field-requires : goal.put_field-requires

@@ -1,5 +1,4 @@
 -- `listing_lines::put_number` meets its contract: the number of the refusal is what is put.
-use borrow.Author.Rules.{rules}
 use Rattle.listing_lines.proofs.words.put_number.Goals as goal
 
 pub put_decimal-requires : goal.put_decimal-requires

@@ -1,5 +1,4 @@
 -- `listing_lines::put_seat` meets its contract: the letter of the seat is what is put.
-use borrow.Author.Rules.{rules}
 use Rattle.listing_lines.proofs.words.put_seat.Goals as goal
 
 pub put_byte-requires : goal.put_byte-requires

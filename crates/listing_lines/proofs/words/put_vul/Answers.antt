@@ -1,5 +1,4 @@
 -- `listing_lines::put_vul` meets its contract: the letter of the vulnerability is what is put.
-use borrow.Author.Rules.{rules}
 use Rattle.listing_lines.proofs.words.put_vul.Goals as goal
 
 pub put_byte-requires : goal.put_byte-requires

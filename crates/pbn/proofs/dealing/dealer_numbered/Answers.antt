@@ -1,5 +1,4 @@
 -- `pbn::dealer_numbered` meets its contract: by the number.
-use borrow.Author.Rules.{rules}
 use Rattle.pbn.proofs.dealing.dealer_numbered.Goals as goal
 
 pub returns-in-Number : goal.returns-in-Number

@@ -1,6 +1,5 @@
 -- `pbn::convert_checked` meets its contract: each answer by the tests that led there.
 use Rattle.pbn.proofs.StoreLaws.{calls-refused, cards-refused, counted}
-use borrow.Author.Rules.{rules}
 use Rattle.pbn.proofs.entry.convert_checked.Goals as goal
 
 pub returns-then-rows-n : goal.returns-then-rows-n

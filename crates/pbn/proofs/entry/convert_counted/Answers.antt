@@ -4,7 +4,6 @@ use Prim.Native.Nat.{◌≤◌}
 use native.Mathlib.Omega.{arith}
 use Rattle.lin_spec.specs.Output.{room}
 use Rattle.pbn.proofs.StoreLaws.{Known, output-refused, texts-room, rows-room, cards-room, stored}
-use borrow.Author.Rules.{rules}
 use Rattle.pbn.proofs.entry.convert_counted.Goals as goal
 
 pub layout_of-layout-requires : goal.layout_of-layout-requires

@@ -2,7 +2,6 @@
 use mathlib.Core.Path.{◌∙◌}
 use Rattle.lin_spec.specs.Pbn.{pbn}
 use Rattle.pbn.proofs.StoreLaws.{convert-refused, convert-passed, convert_may}
-use borrow.Author.Rules.{rules}
 use Rattle.pbn.proofs.entry.from_board_with.Goals as goal
 
 pub convert_checked-requires : goal.convert_checked-requires

@@ -1,7 +1,6 @@
 -- `pbn::refused_record` meets its contract: the heading of a refused call.
 use mathlib.Core.Path.{ap}
 use Rattle.lin_spec.specs.declared.Heading.{Heading}
-use borrow.Author.Rules.{rules}
 use Rattle.pbn.proofs.entry.refused_record.Goals as goal
 
 pub returns : goal.returns

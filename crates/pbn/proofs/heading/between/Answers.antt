@@ -1,5 +1,4 @@
 -- `pbn::between` meets its contract: by which place comes first.
-use native.Mathlib.Omega.{arith}
 use Rattle.pbn.proofs.MadeLaws.{between_none, between-some}
 use Rattle.pbn.proofs.heading.between.Goals as goal
 

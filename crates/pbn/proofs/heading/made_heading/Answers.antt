@@ -1,6 +1,5 @@
 -- `pbn::made_heading` meets its contract: field by field.
 use mathlib.Core.Path.{refl}
-use borrow.Author.Rules.{rules}
 use Rattle.pbn.specs.Made.{made_heading}
 use Rattle.pbn.proofs.heading.made_heading.Goals as goal
 

@@ -2,7 +2,6 @@
 use mathlib.Core.Path.{sym, ◌∙◌}
 use Rattle.text.specs.Fault.{fault_of}
 use Rattle.pbn_annotation.proofs.Answers.{raw-found, raw-next}
-use borrow.Author.Rules.{rules}
 use Rattle.pbn_annotation.proofs.entry.annotation_faulty.Goals as goal
 
 pub returns-then-faulty : goal.returns-then-faulty

@@ -1,6 +1,5 @@
 -- `pbn_annotation::annotation_text` meets its contract: each answer by the tests that led there.
 use Rattle.pbn_annotation.proofs.Answers.{write-long, write-past, write-ill, write-small, write-absent, write_done}
-use borrow.Author.Rules.{rules}
 use Rattle.pbn_annotation.proofs.entry.annotation_text.Goals as goal
 
 pub returns-then-text-gt-LIMIT : goal.returns-then-text-gt-LIMIT

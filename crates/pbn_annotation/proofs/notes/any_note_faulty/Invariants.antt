@@ -1,12 +1,10 @@
 -- `pbn_annotation::any_note_faulty` meets its contract: no note before word i has the fault.
 use Prim.Native.Nat.{◌-◌, ◌≤◌}
-use native.Mathlib.Omega.{arith}
-use mathlib.Core.Path.{◌≡◌, refl}
+use mathlib.Core.Path.{◌≡◌}
 use lib.ListN.{length, drop}
 use Rattle.lin_spec.specs.Base.{any}
 use Rattle.lin_spec.specs.Annotation.{note_spans}
 use Rattle.text.specs.Fault.{fault_of}
-use Rattle.pbn_annotation.proofs.NoteLaws.{any-note-end, any-note-found, any-note-next}
 use Rattle.pbn_annotation.proofs.notes.any_note_faulty.Given as goal
 
 abbrev pub invariant-loop-i : goal.invariant-loop-i

@@ -1,7 +1,6 @@
 -- `pbn_annotation::note_faulty` meets its contract: a note whose first word is 0 is none.
 use Rattle.text.specs.Fault.{fault_of}
 use Rattle.pbn_annotation.proofs.NoteLaws.{note-none, note-one}
-use borrow.Author.Rules.{rules}
 use Rattle.pbn_annotation.proofs.notes.note_faulty.Goals as goal
 
 pub returns-then-words-i-eq0 : goal.returns-then-words-i-eq0

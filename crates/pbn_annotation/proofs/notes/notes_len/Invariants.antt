@@ -1,6 +1,5 @@
 -- `pbn_annotation::notes_len` ends, and its sum does not pass what 256 spans can have.
 use Prim.Native.Nat.{◌-◌, ◌*◌, ◌^◌, ◌≤◌}
-use borrow.Author.Rules.{rules}
 use Rattle.pbn_annotation.proofs.notes.notes_len.Given as goal
 
 abbrev pub invariant-loop-i : goal.invariant-loop-i

@@ -6,7 +6,6 @@ use lib.ListN.{length}
 use Rattle.lin_spec.specs.Refusals.{sat}
 use Rattle.pbn_words.specs.Words.{parts_text}
 use Rattle.pbn_annotation.proofs.AnnotationLaws.{text-is}
-use borrow.Author.Rules.{rules}
 use Rattle.pbn_annotation.proofs.texts.annotation_len.Goals as goal
 
 pub returns : goal.returns

@@ -1,7 +1,6 @@
 -- `pbn_annotation::joined_len` meets its contract: nothing, the word, or a space and the word.
 use native.Mathlib.Omega.{arith}
 use Rattle.pbn_words.proofs.WordLaws.{joined-none, joined-first, joined-later}
-use borrow.Author.Rules.{rules}
 use Rattle.pbn_annotation.proofs.texts.joined_len.Goals as goal
 
 pub returns-then-w-eq0 : goal.returns-then-w-eq0

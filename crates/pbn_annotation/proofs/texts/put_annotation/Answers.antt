@@ -3,7 +3,6 @@ use mathlib.Core.Path.{ap, sym, ◌∙◌}
 use Rattle.pbn_words.specs.Words.{parts_text}
 use Rattle.pbn_words.proofs.WordLaws.{room_as, put_as}
 use Rattle.pbn_annotation.proofs.AnnotationLaws.{text-is}
-use borrow.Author.Rules.{rules}
 use Rattle.pbn_annotation.proofs.texts.put_annotation.Goals as goal
 
 pub put_annotation_words-requires : goal.put_annotation_words-requires

@@ -1,11 +1,6 @@
 -- `pbn_annotation::put_annotation_words` meets its contract: a turn takes one part off what is left to put.
-use Prim.Native.Nat.{◌-◌, ◌≤◌}
 use native.Mathlib.Omega.{arith}
-use lib.ListN.{length, drop}
-use lib.Dec.{ltb}
-use Rattle.lin_spec.specs.Annotation.{annotation_parts}
-use Rattle.output.proofs.Laws.{Left, roomy, finish}
-use Rattle.pbn_words.specs.Words.{text_from, parts_text}
+use Rattle.output.proofs.Laws.{roomy, finish}
 use Rattle.pbn_annotation.proofs.AnnotationLaws.{part_taken, part_moves, put_start, put_left, put_turn, put_end}
 use Rattle.pbn_annotation.proofs.texts.put_annotation_words.Goals as goal
 

@@ -1,13 +1,11 @@
 -- `pbn_annotation::words_len` meets its contract: a turn takes one part off what is left to count.
 use Prim.Native.Nat.{◌+◌, ◌-◌, ◌^◌, ◌≤◌, ◌<◌}
-use native.Mathlib.Omega.{arith}
 use mathlib.Core.Path.{◌≡◌}
 use lib.ListN.{length, drop}
 use lib.Dec.{ltb}
 use Rattle.lin_spec.specs.Refusals.{sat}
 use Rattle.lin_spec.specs.Annotation.{annotation_parts}
 use Rattle.pbn_words.specs.Words.{text_from, parts_text}
-use Rattle.pbn_annotation.proofs.AnnotationLaws.{part_taken, part_moves, count-start, count_turn, count-end}
 use Rattle.pbn_annotation.proofs.texts.words_len.Given as goal
 
 abbrev pub invariant-loop-i : goal.invariant-loop-i

@@ -1,6 +1,5 @@
 -- `pbn_checks::bad_board_number` meets its contract: in each arm the number is known.
 use mathlib.Core.Path.{ap, sym}
-use borrow.Author.Rules.{rules}
 use Rattle.lin_spec.specs.Pbn.{bad_board_number}
 use Rattle.pbn_checks.proofs.checks.bad_board_number.Goals as goal
 

@@ -1,10 +1,7 @@
 -- `pbn_checks::bad_calls` meets its contract: a turn passes a call whose numbers are within their ranges.
-use Prim.Native.Nat.{◌-◌, ◌≤◌}
 use native.Mathlib.Omega.{arith}
-use mathlib.Core.Path.{◌≡◌, refl}
-use lib.ListN.{length, drop}
-use Rattle.lin_spec.specs.Base.{any}
-use Rattle.lin_spec.specs.Pbn.{pbn_row, pbn_rows, bad_call}
+use mathlib.Core.Path.{refl}
+use Rattle.lin_spec.specs.Pbn.{pbn_row, bad_call}
 use Rattle.board_lent.proofs.LentLaws.{none_row, found-row, next_row}
 use Rattle.pbn_checks.proofs.checks.bad_calls.Goals as goal
 

@@ -1,11 +1,9 @@
 -- `pbn_checks::bad_calls` meets its contract: a turn passes a call whose numbers are within their ranges.
 use Prim.Native.Nat.{◌-◌, ◌≤◌}
-use native.Mathlib.Omega.{arith}
-use mathlib.Core.Path.{◌≡◌, refl}
+use mathlib.Core.Path.{◌≡◌}
 use lib.ListN.{length, drop}
 use Rattle.lin_spec.specs.Base.{any}
-use Rattle.lin_spec.specs.Pbn.{pbn_row, pbn_rows, bad_call}
-use Rattle.board_lent.proofs.LentLaws.{none_row, found-row, next_row}
+use Rattle.lin_spec.specs.Pbn.{pbn_rows, bad_call}
 use Rattle.pbn_checks.proofs.checks.bad_calls.Given as goal
 
 abbrev pub invariant-loop-i : goal.invariant-loop-i

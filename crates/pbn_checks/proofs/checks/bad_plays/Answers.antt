@@ -1,9 +1,4 @@
 -- `pbn_checks::bad_plays` meets its contract: a turn passes a card or a gap.
-use Prim.Native.Nat.{◌-◌}
-use native.Mathlib.Omega.{arith}
-use mathlib.Core.Path.{◌≡◌, refl}
-use lib.ListN.{length, drop}
-use Rattle.lin_spec.specs.Base.{any}
 use Rattle.lin_spec.specs.Pbn.{bad_entry}
 use Rattle.text.proofs.ListLaws.{any-end, any_found, any_next}
 use Rattle.pbn_checks.proofs.checks.bad_plays.Goals as goal

@@ -1,7 +1,6 @@
 -- `pbn_checks::bad_record` meets its contract: the number, the calls, the play.
 use mathlib.Core.Path.{sym, ◌∙◌}
 use Rattle.pbn_checks.proofs.CheckLaws.{number-calls, number-plays}
-use borrow.Author.Rules.{rules}
 use Rattle.pbn_checks.proofs.checks.bad_record.Goals as goal
 
 pub returns-then-bad_calls : goal.returns-then-bad_calls

@@ -1,6 +1,5 @@
 -- `pbn_checks::check_record` meets its contract: each verdict by the tests that led there.
 use Rattle.pbn_checks.proofs.CheckLaws.{check_long, check_other, check_number, check_past, check_ill, check_good}
-use borrow.Author.Rules.{rules}
 use Rattle.pbn_checks.proofs.checks.check_record.Goals as goal
 
 pub returns-then-text-gt-LIMIT : goal.returns-then-text-gt-LIMIT

@@ -5,7 +5,6 @@ use Rattle.lin_spec.specs.Base.{any}
 use Rattle.lin_spec.specs.Pbn.{name_spans}
 use Rattle.lin_spec.specs.declared.MaybeSpan.{MaybeSpan}
 use Rattle.text.specs.Fault.{fault_of}
-use borrow.Author.Rules.{rules}
 use Rattle.pbn_checks.proofs.checks.names_faulty.Goals as goal
 
 pub returns : goal.returns

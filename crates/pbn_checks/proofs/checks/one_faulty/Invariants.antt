@@ -1,16 +1,11 @@
 -- `pbn_checks::one_faulty` meets its contract: a turn passes a name without the fault.
 use Prim.Native.Nat.{◌-◌}
-use native.Mathlib.Omega.{arith}
-use mathlib.Core.Path.{◌≡◌, refl, sym, ◌∙◌}
+use mathlib.Core.Path.{◌≡◌}
 use lib.ListN.{length, drop}
-use borrow.Author.Rules.{rules}
 use Rattle.lin_spec.specs.Base.{any}
 use Rattle.lin_spec.specs.Records.{option_of}
 use Rattle.lin_spec.specs.Lent.{span_in}
-use Rattle.lin_spec.specs.declared.MaybeSpan.TheVariants.{Absent}
 use Rattle.text.specs.Fault.{fault_of}
-use Rattle.text.proofs.ListLaws.{any-end, any_found, any_next}
-use Rattle.pbn_checks.proofs.CheckLaws.{names-any}
 use Rattle.pbn_checks.proofs.checks.one_faulty.Given as goal
 
 abbrev pub invariant-loop-seat : goal.invariant-loop-seat

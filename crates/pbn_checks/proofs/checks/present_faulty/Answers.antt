@@ -1,6 +1,5 @@
 -- `pbn_checks::present_faulty` meets its contract: in each arm the text is known.
 use mathlib.Core.Path.{◌∙◌}
-use borrow.Author.Rules.{rules}
 use Rattle.board_lent.proofs.LentLaws.{absent_none, present-one}
 use Rattle.pbn_checks.proofs.checks.present_faulty.Goals as goal
 

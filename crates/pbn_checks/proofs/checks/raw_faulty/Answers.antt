@@ -1,6 +1,5 @@
 -- `pbn_checks::raw_faulty` meets its contract: the annotation where there is one.
 use mathlib.Core.Path.{◌∙◌}
-use borrow.Author.Rules.{rules}
 use Rattle.pbn_checks.proofs.CheckLaws.{raw-none, raw-some}
 use Rattle.pbn_checks.proofs.checks.raw_faulty.Goals as goal
 

@@ -1,12 +1,7 @@
 -- `pbn_checks::raws_faulty` meets its contract: a turn passes a call whose annotation is without the fault.
-use Prim.Native.Nat.{◌-◌, ◌≤◌}
 use native.Mathlib.Omega.{arith}
-use mathlib.Core.Path.{◌≡◌, refl, sym, ◌∙◌}
-use lib.ListN.{length, drop}
-use Rattle.lin_spec.specs.Base.{any}
-use Rattle.lin_spec.specs.Lent.{span_in}
-use Rattle.lin_spec.specs.Pbn.{pbn_row, pbn_rows, raw_of}
-use Rattle.text.specs.Fault.{fault_of}
+use mathlib.Core.Path.{refl, sym, ◌∙◌}
+use Rattle.lin_spec.specs.Pbn.{pbn_row}
 use Rattle.board_lent.proofs.LentLaws.{none_row, found-row, next_row}
 use Rattle.pbn_checks.proofs.CheckLaws.{raws-any}
 use Rattle.pbn_checks.proofs.checks.raws_faulty.Goals as goal

@@ -1,14 +1,11 @@
 -- `pbn_checks::raws_faulty` meets its contract: a turn passes a call whose annotation is without the fault.
 use Prim.Native.Nat.{◌-◌, ◌≤◌}
-use native.Mathlib.Omega.{arith}
-use mathlib.Core.Path.{◌≡◌, refl, sym, ◌∙◌}
+use mathlib.Core.Path.{◌≡◌}
 use lib.ListN.{length, drop}
 use Rattle.lin_spec.specs.Base.{any}
 use Rattle.lin_spec.specs.Lent.{span_in}
-use Rattle.lin_spec.specs.Pbn.{pbn_row, pbn_rows, raw_of}
+use Rattle.lin_spec.specs.Pbn.{pbn_rows, raw_of}
 use Rattle.text.specs.Fault.{fault_of}
-use Rattle.board_lent.proofs.LentLaws.{none_row, found-row, next_row}
-use Rattle.pbn_checks.proofs.CheckLaws.{raws-any}
 use Rattle.pbn_checks.proofs.checks.raws_faulty.Given as goal
 
 abbrev pub invariant-loop-i : goal.invariant-loop-i

@@ -1,7 +1,6 @@
 -- `pbn_checks::raws_pass` ends. The loop's invariant: i is a place in the calls. The measure is what is left of them.
 use Prim.Native.Nat.{◌-◌, ◌≤◌}
 use lib.ListN.{length}
-use borrow.Author.Rules.{rules}
 use Rattle.pbn_checks.proofs.checks.raws_pass.Given as goal
 
 abbrev pub invariant-loop-i : goal.invariant-loop-i

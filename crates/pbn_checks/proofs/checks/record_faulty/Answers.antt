@@ -1,6 +1,5 @@
 -- `pbn_checks::record_faulty` meets its contract: the names, the texts that may be absent, the calls and the notes.
 use Rattle.pbn_checks.proofs.CheckLaws.{in_names, in_event, in_date, in_id, in_raws, in_notes}
-use borrow.Author.Rules.{rules}
 use Rattle.pbn_checks.proofs.checks.record_faulty.Goals as goal
 
 pub returns-then-names_faulty : goal.returns-then-names_faulty

@@ -1,12 +1,6 @@
 -- `pbn_texts::put_kept_rows` meets its contract: a turn stores the row of one call, and goes past its texts.
-use Prim.Native.Nat.{◌+◌, ◌-◌, ◌≤◌}
 use native.Mathlib.Omega.{arith}
-use lib.ListN.{length, drop}
-use Rattle.lin_spec.specs.Records.{limit}
-use Rattle.lin_spec.specs.Pbn.{pbn_rows}
-use Rattle.output.proofs.Laws.{Left, start, roomy, finish}
-use Rattle.pbn_texts.specs.Calls.{pbn_calls_bytes}
-use Rattle.pbn_texts.specs.Rows.{placed_rows}
+use Rattle.output.proofs.Laws.{start, roomy, finish}
 use Rattle.pbn_texts.proofs.RowLaws.{row-left, row_step, no_row-left, fits_here, fits_next}
 use Rattle.pbn_texts.proofs.call_rows.put_kept_rows.Goals as goal
 

@@ -1,6 +1,5 @@
 -- `pbn_texts::put_noted` meets its contract: by the length.
 use Rattle.pbn_texts.proofs.RowLaws.{noted-none, noted-some}
-use borrow.Author.Rules.{rules}
 use Rattle.pbn_texts.proofs.call_rows.put_noted.Goals as goal
 
 pub put_three-requires : goal.put_three-requires

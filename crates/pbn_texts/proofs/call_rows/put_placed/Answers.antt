@@ -1,7 +1,6 @@
 -- `pbn_texts::put_placed` meets its contract: nothing, or the row of the call.
 use native.Mathlib.Omega.{arith}
 use Rattle.pbn_texts.proofs.RowLaws.{row_dropped, row-after, row_kept}
-use borrow.Author.Rules.{rules}
 use Rattle.pbn_texts.proofs.call_rows.put_placed.Goals as goal
 
 pub returns-then-not-is_kept : goal.returns-then-not-is_kept

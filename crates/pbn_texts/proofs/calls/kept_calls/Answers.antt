@@ -1,10 +1,5 @@
 -- `pbn_texts::kept_calls` meets its contract: a turn takes one call off those that are left to count.
-use Prim.Native.Nat.{◌+◌, ◌-◌, ◌≤◌}
 use native.Mathlib.Omega.{arith}
-use mathlib.Core.Path.{◌≡◌}
-use lib.ListN.{length, drop}
-use Rattle.lin_spec.specs.Pbn.{pbn_rows}
-use Rattle.pbn_texts.specs.Calls.{kept_many}
 use Rattle.pbn_texts.proofs.CallLaws.{many-next, many-none}
 use Rattle.pbn_texts.proofs.calls.kept_calls.Goals as goal
 

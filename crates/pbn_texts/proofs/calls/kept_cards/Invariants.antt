@@ -1,11 +1,8 @@
 -- `pbn_texts::kept_cards` meets its contract: a turn takes one entry off those that are left to count.
 use Prim.Native.Nat.{◌+◌, ◌-◌, ◌≤◌}
-use native.Mathlib.Omega.{arith}
 use mathlib.Core.Path.{◌≡◌}
-use mathlib.Core.Path.{ap}
 use lib.ListN.{length, drop}
 use Rattle.lin_spec.specs.Pbn.{kept_cards}
-use Rattle.pbn_texts.proofs.CallLaws.{cards-count, cards-end}
 use Rattle.pbn_texts.proofs.calls.kept_cards.Given as goal
 
 abbrev pub invariant-loop-i : goal.invariant-loop-i

@@ -1,7 +1,6 @@
 -- `pbn_texts::kept_one` meets its contract: by the kind of call.
 use native.Mathlib.Omega.{arith}
 use Rattle.pbn_texts.proofs.CallLaws.{one_kept, one_dropped}
-use borrow.Author.Rules.{rules}
 use Rattle.pbn_texts.proofs.calls.kept_one.Goals as goal
 
 pub returns-then-is_kept : goal.returns-then-is_kept

@@ -3,7 +3,6 @@ use native.Mathlib.Omega.{arith}
 use mathlib.Core.Path.{ap}
 use lib.ListN.{length}
 use Rattle.pbn_texts.proofs.CallLaws.{call_dropped, call_long}
-use borrow.Author.Rules.{rules}
 use Rattle.pbn_texts.proofs.calls.pbn_call_len.Goals as goal
 
 pub returns-then-not-is_kept : goal.returns-then-not-is_kept

@@ -1,12 +1,10 @@
 -- `pbn_texts::pbn_calls_len` meets its contract: a turn takes one call off what is left to count.
 use Prim.Native.Nat.{◌+◌, ◌-◌, ◌^◌, ◌≤◌, ◌<◌}
-use native.Mathlib.Omega.{arith}
 use mathlib.Core.Path.{◌≡◌}
 use lib.ListN.{length, drop}
 use Rattle.lin_spec.specs.Refusals.{sat}
 use Rattle.lin_spec.specs.Pbn.{pbn_rows}
 use Rattle.pbn_texts.specs.Calls.{pbn_calls_bytes}
-use Rattle.pbn_texts.proofs.CallLaws.{count-call, count_none}
 use Rattle.pbn_texts.proofs.calls.pbn_calls_len.Given as goal
 
 abbrev pub invariant-loop-i : goal.invariant-loop-i

@@ -3,7 +3,6 @@ use native.Mathlib.Omega.{arith}
 use mathlib.Core.Path.{ap}
 use lib.ListN.{length}
 use Rattle.pbn_texts.proofs.CallLaws.{note-none, note-some}
-use borrow.Author.Rules.{rules}
 use Rattle.pbn_texts.proofs.calls.pbn_note_len.Goals as goal
 
 pub returns-then-c-eq0 : goal.returns-then-c-eq0

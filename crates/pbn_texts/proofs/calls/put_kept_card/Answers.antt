@@ -1,7 +1,6 @@
 -- `pbn_texts::put_kept_card` meets its contract: nothing, or one put.
 use Rattle.output.proofs.Laws.{start, finish}
 use Rattle.pbn_texts.proofs.CallLaws.{card-gap, card-kept}
-use borrow.Author.Rules.{rules}
 use Rattle.pbn_texts.proofs.calls.put_kept_card.Goals as goal
 
 pub returns-then-b-eq-GAP : goal.returns-then-b-eq-GAP

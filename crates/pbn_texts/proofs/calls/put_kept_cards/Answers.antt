@@ -1,9 +1,6 @@
 -- `pbn_texts::put_kept_cards` meets its contract: a turn takes one entry off those that are left to store.
-use Prim.Native.Nat.{◌-◌, ◌≤◌}
 use native.Mathlib.Omega.{arith}
-use lib.ListN.{length, drop}
-use Rattle.lin_spec.specs.Pbn.{kept_cards}
-use Rattle.output.proofs.Laws.{Left, start, roomy, step, finish}
+use Rattle.output.proofs.Laws.{start, roomy, step, finish}
 use Rattle.pbn_texts.proofs.CallLaws.{cards-left, cards-end}
 use Rattle.pbn_texts.proofs.calls.put_kept_cards.Goals as goal
 

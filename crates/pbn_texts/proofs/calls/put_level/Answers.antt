@@ -4,7 +4,6 @@ use lib.ListN.{get_or}
 use Rattle.lin_spec.specs.Base.{ascii}
 use Rattle.lin_spec.specs.Decimal.{digit}
 use Rattle.output.proofs.Laws.{start, step, finish}
-use borrow.Author.Rules.{rules}
 use Rattle.pbn_texts.proofs.calls.put_level.Goals as goal
 
 pub returns : goal.returns

@@ -1,7 +1,6 @@
 -- `pbn_texts::put_pbn_bid` meets its contract: by the kind of call.
 use Rattle.output.proofs.Laws.{start, finish}
 use Rattle.pbn_texts.proofs.CallLaws.{bid_pass, bid_double, bid_redouble, bid_level, bid-none, level_sound}
-use borrow.Author.Rules.{rules}
 use Rattle.pbn_texts.proofs.calls.put_pbn_bid.Goals as goal
 
 pub put_byte-requires : goal.put_byte-requires

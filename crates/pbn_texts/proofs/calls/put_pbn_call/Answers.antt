@@ -1,7 +1,6 @@
 -- `pbn_texts::put_pbn_call` meets its contract: nothing, or two puts.
 use Rattle.output.proofs.Laws.{start, roomy, step, finish}
 use Rattle.pbn_texts.proofs.CallLaws.{call_dropped, call-start}
-use borrow.Author.Rules.{rules}
 use Rattle.pbn_texts.proofs.calls.put_pbn_call.Goals as goal
 
 pub returns-then-not-is_kept : goal.returns-then-not-is_kept

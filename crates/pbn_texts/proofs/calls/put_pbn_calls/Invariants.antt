@@ -1,14 +1,12 @@
 -- `pbn_texts::put_pbn_calls` meets its contract: a turn takes one call off what is left to write.
 use Prim.Native.Nat.{◌-◌, ◌≤◌}
-use native.Mathlib.Omega.{arith}
 use mathlib.Core.Path.{◌≡◌}
 use mathlib.Core.Bool.{false}
 use lib.ListN.{length, drop}
 use Rattle.lin_spec.specs.Base.{any}
 use Rattle.lin_spec.specs.Pbn.{pbn_rows, bad_call}
-use Rattle.output.proofs.Laws.{Left, start, roomy, step, finish}
+use Rattle.output.proofs.Laws.{Left}
 use Rattle.pbn_texts.specs.Calls.{pbn_calls_bytes}
-use Rattle.pbn_texts.proofs.CallLaws.{call-left, none_left, sound-next}
 use Rattle.pbn_texts.proofs.calls.put_pbn_calls.Given as goal
 
 abbrev pub invariant-loop-i : goal.invariant-loop-i

@@ -1,7 +1,6 @@
 -- `pbn_texts::put_pbn_note` meets its contract: by the flag.
 use Rattle.output.proofs.Laws.{start, finish}
 use Rattle.pbn_texts.proofs.CallLaws.{note-none, note-some}
-use borrow.Author.Rules.{rules}
 use Rattle.pbn_texts.proofs.calls.put_pbn_note.Goals as goal
 
 pub returns-then-c-eq0 : goal.returns-then-c-eq0

@@ -1,11 +1,10 @@
 -- `pbn_texts::layout_of` meets its contract: each text begins where the one before it ends, and no text is longer than the limit lets it be.
 -- the names and the title, by how many bytes they have
-use Prim.Native.Nat.{ℕ, ◌+◌, ◌*◌, ◌≤◌}
+use Prim.Native.Nat.{◌+◌, ◌*◌, ◌≤◌}
 use native.Mathlib.Omega.{arith}
 use mathlib.Core.Path.{◌≡◌}
 use lib.ListN.{length, get_or}
 use Rattle.lin_spec.specs.Records.{span}
-use Rattle.lin_spec.specs.declared.Span.{Span}
 use Rattle.pbn_texts.specs.Texts.{title_text}
 use Rattle.pbn_texts.specs.Names.{pbn_names_text}
 use Rattle.pbn_texts.proofs.TextLaws.{title_most}

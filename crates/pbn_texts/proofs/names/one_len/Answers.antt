@@ -2,7 +2,6 @@
 use mathlib.Core.Path.{ap, sym, ◌∙◌}
 use lib.ListN.{length}
 use Rattle.pbn_texts.proofs.NameLaws.{name_absent, name_present}
-use borrow.Author.Rules.{rules}
 use Rattle.pbn_texts.proofs.names.one_len.Goals as goal
 
 pub returns-in-Absent : goal.returns-in-Absent

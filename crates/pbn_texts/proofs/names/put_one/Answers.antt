@@ -1,7 +1,6 @@
 -- `pbn_texts::put_one` meets its contract: nothing, or one put.
 use Rattle.output.proofs.Laws.{start, finish}
 use Rattle.pbn_texts.proofs.NameLaws.{name_absent, name_present}
-use borrow.Author.Rules.{rules}
 use Rattle.pbn_texts.proofs.names.put_one.Goals as goal
 
 pub put_name-requires : goal.put_name-requires

@@ -1,13 +1,11 @@
 -- `pbn_texts::put_texts` meets its contract: two puts, the second cleaned where it stands.
 -- the names, and the texts after them
-use Prim.Native.Nat.{ℕ}
-use mathlib.Core.List.{List, ◌++◌}
+use mathlib.Core.List.{◌++◌}
 use Rattle.lin_spec.specs.Writer.{clean}
 use Rattle.output.specs.Put.{Room}
 use Rattle.pbn_texts.specs.Names.{pbn_names_text}
 use Rattle.pbn_texts.specs.Raw.{raw_text, texts_of}
 use Rattle.pbn_texts.proofs.RawLaws.{first_fits, second_fits, second-ends, cleaned_put}
-use borrow.Author.Rules.{rules}
 use Rattle.pbn_texts.proofs.raw.put_texts.Goals as goal
 
 pub put_pbn_names-a-requires : goal.put_pbn_names-a-requires

@@ -1,6 +1,5 @@
 -- `pbn_texts::filled` meets its contract: by the length.
 use Rattle.pbn_texts.proofs.SourceLaws.{filled_empty, filled_full}
-use borrow.Author.Rules.{rules}
 use Rattle.pbn_texts.proofs.sources.filled.Goals as goal
 
 pub returns-then-shown-eq0 : goal.returns-then-shown-eq0

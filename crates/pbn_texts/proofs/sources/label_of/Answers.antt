@@ -1,6 +1,5 @@
 -- `pbn_texts::label_of` meets its contract: by the id, or else by the number.
 use Rattle.pbn_texts.proofs.SourceLaws.{label-number, label_id}
-use borrow.Author.Rules.{rules}
 use Rattle.pbn_texts.proofs.sources.label_of.Goals as goal
 
 pub returns-in-Absent : goal.returns-in-Absent

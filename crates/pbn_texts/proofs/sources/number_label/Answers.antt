@@ -1,6 +1,5 @@
 -- `pbn_texts::number_label` meets its contract: by the number.
 use mathlib.Core.Path.{refl}
-use borrow.Author.Rules.{rules}
 use Rattle.pbn_texts.proofs.sources.number_label.Goals as goal
 
 pub returns-in-Absent : goal.returns-in-Absent

@@ -1,5 +1,4 @@
 -- `pbn_texts::sources_of` meets its contract: each source by its own function.
-use borrow.Author.Rules.{rules}
 use Rattle.pbn_texts.proofs.sources.sources_of.Goals as goal
 
 pub returns : goal.returns

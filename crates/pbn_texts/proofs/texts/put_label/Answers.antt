@@ -1,6 +1,5 @@
 -- `pbn_texts::put_label` meets its contract: by the kind of label.
 use Rattle.output.proofs.Laws.{start, finish}
-use borrow.Author.Rules.{rules}
 use Rattle.pbn_texts.proofs.texts.put_label.Goals as goal
 
 pub put_span-requires : goal.put_span-requires

@@ -1,7 +1,6 @@
 -- `pbn_texts::put_labelled` meets its contract: by the label.
 use Rattle.output.proofs.Laws.{start, finish}
 use Rattle.pbn_texts.proofs.TextLaws.{labelled-yes, labelled_no}
-use borrow.Author.Rules.{rules}
 use Rattle.pbn_texts.proofs.texts.put_labelled.Goals as goal
 
 pub put_labels-requires : goal.put_labels-requires

@@ -1,6 +1,5 @@
 -- `pbn_texts::put_title` meets its contract: by the date.
 use Rattle.pbn_texts.proofs.TextLaws.{title-plain, title_dated}
-use borrow.Author.Rules.{rules}
 use Rattle.pbn_texts.proofs.texts.put_title.Goals as goal
 
 pub put_uncleaned-requires : goal.put_uncleaned-requires

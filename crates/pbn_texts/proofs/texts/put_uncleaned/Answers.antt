@@ -1,6 +1,5 @@
 -- `pbn_texts::put_uncleaned` meets its contract: nothing, or one put.
 use Rattle.output.proofs.Laws.{start, finish}
-use borrow.Author.Rules.{rules}
 use Rattle.pbn_texts.proofs.texts.put_uncleaned.Goals as goal
 
 pub put_span-requires : goal.put_span-requires

@@ -3,7 +3,6 @@ use native.Mathlib.Omega.{arith}
 use mathlib.Core.Path.{ap}
 use lib.ListN.{length}
 use Rattle.pbn_texts.proofs.TextLaws.{title-plain, title_dated, dated_long}
-use borrow.Author.Rules.{rules}
 use Rattle.pbn_texts.proofs.texts.title_len.Goals as goal
 
 pub returns-in-Absent : goal.returns-in-Absent

@@ -1,7 +1,6 @@
 -- `pbn_words::char_bytes` meets its contract: by the table of first bytes.
 use Rattle.lin_spec.specs.Utf8.{first}
 use Rattle.pbn_words.proofs.PartLaws.{char_none, char_some}
-use borrow.Author.Rules.{rules}
 use Rattle.pbn_words.proofs.parts.char_bytes.Goals as goal
 
 pub returns-then-n-eq0 : goal.returns-then-n-eq0

@@ -1,6 +1,5 @@
 -- `pbn_words::is_of` meets its contract: by the kind.
 use mathlib.Core.Path.{ap, sym, ◌∙◌}
-use borrow.Author.Rules.{rules}
 use Rattle.pbn_words.specs.Parts.{test_of}
 use Rattle.pbn_words.specs.declared.parts.RunOf.{RunOf}
 use Rattle.pbn_words.proofs.parts.is_of.Goals as goal

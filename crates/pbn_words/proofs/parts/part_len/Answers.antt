@@ -1,7 +1,6 @@
 -- `pbn_words::part_len` meets its contract: each part by its first byte.
 use native.Mathlib.Omega.{arith}
 use Rattle.pbn_words.proofs.PartLaws.{part_equals, part_dollar, part-mark, part_char}
-use borrow.Author.Rules.{rules}
 use Rattle.pbn_words.proofs.parts.part_len.Goals as goal
 
 pub returns-then-b-eq61 : goal.returns-then-b-eq61

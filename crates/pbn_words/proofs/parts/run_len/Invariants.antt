@@ -1,12 +1,9 @@
 -- `pbn_words::run_len` meets its contract: the bytes before i are all of the run.
 use Prim.Native.Nat.{◌+◌, ◌-◌, ◌≤◌}
-use native.Mathlib.Omega.{arith}
 use mathlib.Core.Path.{◌≡◌}
 use lib.ListN.{length, drop}
-use borrow.Author.Tests.{not-true, not-false}
 use Rattle.lin_spec.specs.Annotation.{run}
 use Rattle.pbn_words.specs.Parts.{test_of}
-use Rattle.pbn_words.proofs.PartLaws.{run_end, run-stop, run-next}
 use Rattle.pbn_words.proofs.parts.run_len.Given as goal
 
 abbrev pub invariant-loop-i : goal.invariant-loop-i

@@ -2,7 +2,6 @@
 use native.Mathlib.Omega.{arith}
 use Rattle.digits.proofs.DigitLaws.{number_most}
 use Rattle.pbn_words.proofs.WordLaws.{equals_short, equals_open, equals_note, equals_itself}
-use borrow.Author.Rules.{rules}
 use Rattle.pbn_words.proofs.words.equals_word.Goals as goal
 
 pub returns-then-part-lt2 : goal.returns-then-part-lt2

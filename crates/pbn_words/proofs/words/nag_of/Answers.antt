@@ -1,6 +1,5 @@
 -- `pbn_words::nag_of` meets its contract: a part of two bytes has one digit.
 use Rattle.pbn_words.proofs.WordLaws.{nag_none, nag_mark}
-use borrow.Author.Rules.{rules}
 use Rattle.pbn_words.proofs.words.nag_of.Goals as goal
 
 pub returns-then-part-ne2 : goal.returns-then-part-ne2

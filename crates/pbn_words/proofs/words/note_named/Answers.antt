@@ -1,6 +1,5 @@
 -- `pbn_words::note_named` meets its contract: a note whose first word is 0 is none.
 use Rattle.pbn_words.proofs.WordLaws.{note_absent, note-present}
-use borrow.Author.Rules.{rules}
 use Rattle.pbn_words.proofs.words.note_named.Goals as goal
 
 pub returns-then-notes-i-eq0 : goal.returns-then-notes-i-eq0

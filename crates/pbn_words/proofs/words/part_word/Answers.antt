@@ -1,6 +1,5 @@
 -- `pbn_words::part_word` meets its contract: the word by the first byte.
 use Rattle.pbn_words.proofs.WordLaws.{front-none, front_equals, front_nag, front-mark, front-other}
-use borrow.Author.Rules.{rules}
 use Rattle.pbn_words.proofs.words.part_word.Goals as goal
 
 pub returns-then-part-eq0 : goal.returns-then-part-eq0

@@ -5,7 +5,6 @@ use Rattle.lin_spec.specs.Base.{eq_all}
 use Rattle.lin_spec.specs.Annotation.{nag_word}
 use Rattle.pbn_words.specs.Words.{nag_text, spaced_word}
 use Rattle.pbn_words.proofs.WordLaws.{mark-none, room_as, put_as, put_none}
-use borrow.Author.Rules.{rules}
 use Rattle.pbn_words.proofs.words.put_mark.Goals as goal
 
 pub put_spaced-requires : goal.put_spaced-requires

@@ -3,7 +3,6 @@ use mathlib.Core.Path.{sym}
 use borrow.Author.Tests.{not-true, not-false}
 use Rattle.output.proofs.Laws.{start, roomy, step, finish}
 use Rattle.pbn_words.proofs.WordLaws.{spaced_none, spaced_first, spaced_later, room_as, put_as, put_none}
-use borrow.Author.Rules.{rules}
 use Rattle.pbn_words.proofs.words.put_spaced.Goals as goal
 
 pub returns-then-w-eq0 : goal.returns-then-w-eq0

@@ -3,7 +3,6 @@ use mathlib.Core.Path.{ap, sym, ◌∙◌}
 use Rattle.pbn_words.specs.declared.words.Word.{Word}
 use Rattle.pbn_words.specs.Words.{word_text, spaced_word}
 use Rattle.pbn_words.proofs.WordLaws.{room_as, put_as, put_none}
-use borrow.Author.Rules.{rules}
 use Rattle.pbn_words.proofs.words.put_spaced_word.Goals as goal
 
 pub put_spaced-requires : goal.put_spaced-requires

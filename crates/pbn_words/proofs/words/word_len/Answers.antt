@@ -3,7 +3,6 @@ use mathlib.Core.Path.{ap, sym, ◌∙◌}
 use lib.ListN.{length}
 use Rattle.pbn_words.specs.declared.words.Word.{Word}
 use Rattle.pbn_words.specs.Words.{word_text}
-use borrow.Author.Rules.{rules}
 use Rattle.pbn_words.proofs.words.word_len.Goals as goal
 
 pub returns-in-Itself : goal.returns-in-Itself

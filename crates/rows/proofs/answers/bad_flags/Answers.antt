@@ -1,10 +1,6 @@
-use Prim.Native.Nat.{◌-◌, ◌≤◌}
 use native.Mathlib.Omega.{arith}
-use mathlib.Core.Path.{◌≡◌, refl}
-use mathlib.Core.Bool.{◌||◌}
-use lib.ListN.{length, drop}
-use Rattle.lin_spec.specs.Base.{any}
-use Rattle.lin_spec.specs.Lent.{call_row, call_rows, bad_flag}
+use mathlib.Core.Path.{refl}
+use Rattle.lin_spec.specs.Lent.{call_row, bad_flag}
 use Rattle.board_lent.proofs.LentLaws.{all-rows, or_row}
 use Rattle.rows.proofs.answers.bad_flags.Goals as goal
 

@@ -1,4 +1,3 @@
-use borrow.Author.Rules.{rules}
 use Rattle.rows.proofs.Laws.{fill-flag, fill-few, fill-all}
 use Rattle.rows.proofs.answers.fill_answer.Goals as goal
 

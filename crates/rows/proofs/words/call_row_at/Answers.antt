@@ -1,5 +1,4 @@
 use mathlib.Core.Path.{ap, ◌∙◌}
-use borrow.Author.Rules.{rules}
 use Rattle.lin_spec.specs.Lent.{call_in}
 use Rattle.lin_spec.specs.declared.Call.{Call}
 use Rattle.rows.specs.Rows.{row_in}

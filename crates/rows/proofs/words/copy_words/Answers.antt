@@ -1,8 +1,5 @@
 use native.Mathlib.Omega.{arith}
-use Prim.Native.Nat.{◌-◌, ◌≤◌}
-use lib.ListN.{length, drop}
-use borrow.Author.Rules.{rules}
-use Rattle.output.proofs.Laws.{Left, start, finish, turn, inside, end_of}
+use Rattle.output.proofs.Laws.{start, finish, turn, inside, end_of}
 use Rattle.rows.proofs.words.copy_words.Goals as goal
 
 pub loop-j-init : goal.loop-j-init

@@ -1,8 +1,6 @@
-use native.Mathlib.Omega.{arith}
 use Prim.Native.Nat.{◌-◌, ◌≤◌}
 use lib.ListN.{length, drop}
-use borrow.Author.Rules.{rules}
-use Rattle.output.proofs.Laws.{Left, start, finish, turn, inside, end_of}
+use Rattle.output.proofs.Laws.{Left}
 use Rattle.rows.proofs.words.copy_words.Given as goal
 
 abbrev pub invariant-loop-j : goal.invariant-loop-j

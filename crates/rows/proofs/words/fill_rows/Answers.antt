@@ -1,5 +1,5 @@
 -- `rows::fill_rows` meets its contract: a turn fills one row more.
-use Rattle.std.proofs.Common.{◌≡◌, ◌<◌, ◌≤◌, ◌/◌, length, length-set, arith, subst, sym, ◌∙◌}
+use Rattle.std.proofs.Common.{arith}
 use Rattle.rows.specs.Rows.{moved_of}
 use Rattle.rows.proofs.Laws.{fill_start, fill_more, fill_end, fill_fits, fill_done}
 use Rattle.rows.proofs.words.fill_rows.Goals as goal

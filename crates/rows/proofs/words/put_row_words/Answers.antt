@@ -1,7 +1,6 @@
 use Prim.Native.Nat.{ℕ}
 use mathlib.Core.Path.{sym, subst}
 use mathlib.Core.List.{List}
-use borrow.Author.Rules.{rules}
 use Rattle.output.specs.Put.{Room, Put}
 use Rattle.rows.proofs.words.put_row_words.Goals as goal
 

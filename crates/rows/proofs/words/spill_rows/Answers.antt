@@ -1,5 +1,5 @@
 -- `rows::spill_rows` meets its contract: a turn spills one row more.
-use Rattle.std.proofs.Common.{◌≡◌, ◌<◌, ◌≤◌, ◌/◌, length, arith}
+use Rattle.std.proofs.Common.{arith}
 use Rattle.output.proofs.Laws.{roomy}
 use Rattle.rows.specs.Rows.{moved_of}
 use Rattle.rows.proofs.Laws.{spill_start, spill_next, spill_more, spill_end, spill_fits, spill_done}

@@ -1,5 +1,4 @@
 -- `rows::words_of` meets its contract: the words are the row's six numbers.
-use borrow.Author.Rules.{rules}
 use Rattle.rows.proofs.Laws.{words-numbered}
 use Rattle.rows.proofs.words.words_of.Goals as goal
 

@@ -1,4 +1,3 @@
-use borrow.Author.Rules.{rules}
 use Rattle.file.proofs.NumberLaws.{given}
 use Rattle.file_sections.proofs.WayLaws.{at_first}
 use Rattle.rows_steps.proofs.FileLaws.{section-within, file_refused, file_missing, file_read}

@@ -1,5 +1,4 @@
 use Rattle.rows_steps.proofs.StepLaws.{cut-is, cut_short, few-rows, few-places, places, heads_read}
-use borrow.Author.Rules.{rules}
 use Rattle.rows_steps.proofs.steps.headed_at.Goals as goal
 
 pub slice_bounds-heading_at-end : goal.slice_bounds-heading_at-end

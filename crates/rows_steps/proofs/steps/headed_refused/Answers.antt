@@ -1,6 +1,5 @@
 use mathlib.Core.Path.{ap}
 use Rattle.lin_spec.specs.declared.Heading.{Heading}
-use borrow.Author.Rules.{rules}
 use Rattle.rows_steps.proofs.steps.headed_refused.Goals as goal
 
 pub returns : goal.returns

@@ -1,4 +1,3 @@
-use borrow.Author.Rules.{rules}
 use Rattle.rows_steps.proofs.StepLaws.{cut-is, cut_short, step_found, step_none}
 use Rattle.rows_steps.proofs.steps.next_row.Goals as goal
 

@@ -1,7 +1,6 @@
 use Rattle.lin_spec.specs.declared.Refusal.TheVariants.{TextTooLong}
 use Rattle.rows_steps.specs.Steps.{refused_headed}
 use Rattle.rows_steps.proofs.StepLaws.{text-short, text-read, text-refused}
-use borrow.Author.Rules.{rules}
 use Rattle.rows_steps.proofs.steps.text_headed.Goals as goal
 
 pub headed_at-requires : goal.headed_at-requires

@@ -1,5 +1,4 @@
 use mathlib.Core.Path.{sym, subst}
-use borrow.Author.Rules.{rules}
 use Rattle.lin_spec.specs.declared.Call.{Call}
 use Rattle.output.specs.Put.{Room, Put}
 use Rattle.writer_texts.specs.Calls.{call_bytes}

@@ -1,5 +1,5 @@
 -- `rows_walks::put_rows` meets its contract: a turn puts one call more.
-use Rattle.std.proofs.Common.{arith, ◌<◌, ◌≤◌}
+use Rattle.std.proofs.Common.{arith}
 use Rattle.output.proofs.Laws.{roomy}
 use Rattle.rows_walks.proofs.PutLaws.{put_start, put_next, put_more, put_end}
 use Rattle.rows_walks.proofs.puts.put_rows.Goals as goal

@@ -1,7 +1,6 @@
 use mathlib.Core.Path.{subst}
 use Prim.Native.Nat.{ℕ}
 use mathlib.Core.List.{List}
-use borrow.Author.Rules.{rules}
 use Rattle.text.specs.Index.{Indexed}
 use Rattle.rows_walks.proofs.ScanLaws.{lesser_long, take_lesser, looked_is}
 use Rattle.rows_walks.proofs.scans.look_at_call.Goals as goal

@@ -1,4 +1,3 @@
-use borrow.Author.Rules.{rules}
 use Rattle.lin_spec.specs.Writer.{pipe_mark, line_mark}
 use Rattle.rows_walks.proofs.ScanLaws.{measured-is}
 use Rattle.rows_walks.proofs.scans.measure.Goals as goal

@@ -1,4 +1,3 @@
-use borrow.Author.Rules.{rules}
 use Rattle.rows_walks.proofs.ScanLaws.{row_looked, row-measured}
 use Rattle.rows_walks.proofs.scans.scan_row.Goals as goal
 

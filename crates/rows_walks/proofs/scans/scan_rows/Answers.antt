@@ -1,5 +1,5 @@
 -- `rows_walks::scan_rows` meets its contract: a turn looks at one row more.
-use Rattle.std.proofs.Common.{◌≡◌, ℕ, List, take, subst, sym, ◌∙◌, ap, refl, ◌+◌, drop}
+use Rattle.std.proofs.Common.{ℕ, take, subst, sym, ◌∙◌, ap, refl, ◌+◌, drop}
 use Rattle.rows_walks.specs.declared.Scan.{Scan}
 use Rattle.rows_walks.specs.Walks.{scanned}
 use Rattle.text.specs.Index.{Indexed}

@@ -9,7 +9,19 @@ use Rattle.rows.specs.Rows.{lent_rows}
 use Rattle.rows.proofs.RowType.{rows_typed}
 use Rattle.rows_writer.proofs.BeginLaws.{began_passed, began_refused}
 use borrow.Author.Rules.{rules}
+use Rattle.rows_writer.proofs.begins.begin.Lts
+use Rattle.rows_writer.proofs.begins.begin.Reads
+use Rattle.rows_writer.proofs.begins.begin.Tie
 use Rattle.rows_writer.proofs.begins.begin.Goals as goal
+use mathlib.Core.List.{List}
+use Rattle.lin_spec.specs.ThirdDemand.{Typed}
+use Rattle.rows.specs.declared.CallRow.{CallRow}
+use Rattle.rows.specs.Rows.{lent_rows}
+use Rattle.rows.proofs.RowType.{rows_typed}
+
+-- what the types of the parameters say is so at the start of every call, whatever the rows: four names, 208 counts, a claim of one byte
+lent_typed : (c : Lts.Start Tie.the-claims Reads.Pre Reads.Post) (rs : List CallRow) → Typed (lent_rows c.args.text.now c.args.board rs c.args.cards.now)
+lent_typed c rs = rows_typed c.args.board _ c.well_formed.1.0 c.args.text.now rs c.args.cards.now
 
 pub begin_checked-requires : goal.begin_checked-requires
 begin_checked-requires c =

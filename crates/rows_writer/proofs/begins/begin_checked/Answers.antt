@@ -3,7 +3,6 @@ use mathlib.Core.Path.{refl}
 use Rattle.board_lent.specs.Heads.{board_of}
 use Rattle.writer.specs.Pieces.{back_text}
 use Rattle.rows_writer.proofs.BeginLaws.{fit_small, refused-begins, passed-begins, front-room}
-use borrow.Author.Rules.{rules}
 use Rattle.rows_writer.proofs.begins.begin_checked.Goals as goal
 
 pub returns-then-room-sat_add : goal.returns-then-room-sat_add

@@ -1,6 +1,5 @@
 -- `rows_writer::finish` meets its contract: the answer, by whether the board was begun.
 use Rattle.rows_writer.proofs.BeginLaws.{finish_refused, finish_asks, finish_passed}
-use borrow.Author.Rules.{rules}
 use Rattle.rows_writer.proofs.begins.finish.Goals as goal
 
 pub returns-then-not-begun : goal.returns-then-not-begun

@@ -1,7 +1,6 @@
 -- `rows_writer::verdict_of` meets its contract: each verdict by the tests that led there.
 use Rattle.rows_writer.proofs.BeginLaws.{row-long, row_beyond, row-cards, row-past, row-ill, row_good}
 use Rattle.text.proofs.IndexLaws.{indexed_none}
-use borrow.Author.Rules.{rules}
 use Rattle.rows_writer.proofs.begins.verdict_of.Goals as goal
 
 pub returns-then-text-gt-LIMIT : goal.returns-then-text-gt-LIMIT

@@ -1,7 +1,6 @@
 -- `rows_writer::looking` meets its contract: an index, or none; and what was measured stays.
 use mathlib.Core.Path.{refl}
 use Rattle.rows_writer.proofs.ScanLaws.{looks_index, looks_none, looked_short}
-use borrow.Author.Rules.{rules}
 use Rattle.rows_writer.proofs.scans.looking.Goals as goal
 
 pub index_text-requires : goal.index_text-requires

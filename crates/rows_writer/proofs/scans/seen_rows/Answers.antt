@@ -1,5 +1,5 @@
 -- `rows_writer::seen_rows` meets its contract: two scans of the rows, the second by what the first has measured.
-use Rattle.rows_writer.proofs.ScanLaws.{first-index, seen_found}
+use Rattle.rows_writer.proofs.ScanLaws.{seen_found}
 use Rattle.rows_writer.proofs.scans.seen_rows.Goals as goal
 
 pub returns : goal.returns

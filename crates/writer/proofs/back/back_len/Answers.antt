@@ -1,7 +1,6 @@
 -- `writer::back_len` meets its contract: the sum of the lengths of the pieces.
 use native.Mathlib.Omega.{arith}
 use Rattle.writer.proofs.PieceLaws.{back_long}
-use borrow.Author.Rules.{rules}
 use Rattle.writer.proofs.back.back_len.Goals as goal
 
 pub returns : goal.returns

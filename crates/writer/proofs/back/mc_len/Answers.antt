@@ -1,6 +1,5 @@
 -- `writer::mc_len` meets its contract: nothing, or the length of one put.
 use Rattle.writer.proofs.PieceLaws.{claim-long}
-use borrow.Author.Rules.{rules}
 use native.Mathlib.Omega.{arith}
 use Rattle.writer.proofs.back.mc_len.Goals as goal
 

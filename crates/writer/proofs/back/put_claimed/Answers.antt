@@ -1,12 +1,9 @@
 -- `writer::put_claimed` meets its contract: a run of puts, each of which takes one piece off what is left to write.
 -- what is left to write after k of the puts
-use Prim.Native.Nat.{ℕ}
-use mathlib.Core.List.{List}
 use lib.ListN.{drop}
 use Rattle.output.specs.Put.{joined}
 use Rattle.output.proofs.Laws.{Left, start, roomy, step, finish}
 use Rattle.writer.specs.Pieces.{claimed_pieces, claimed_text}
-use borrow.Author.Rules.{rules}
 use Rattle.writer.proofs.back.put_claimed.Goals as goal
 
 pub put_bytes-a-requires : goal.put_bytes-a-requires

@@ -1,7 +1,6 @@
 -- `writer::put_mc` meets its contract: nothing, or one put.
 use Rattle.output.proofs.Laws.{start, finish}
 use Rattle.writer.proofs.PieceLaws.{claimed_is}
-use borrow.Author.Rules.{rules}
 use Rattle.writer.proofs.back.put_mc.Goals as goal
 
 pub put_claimed-requires : goal.put_claimed-requires

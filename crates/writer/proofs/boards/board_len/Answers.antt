@@ -5,7 +5,6 @@ use Rattle.lin_spec.specs.Refusals.{sat}
 use Rattle.board_lent.specs.Heads.{board_of}
 use Rattle.output.proofs.Laws.{sat-sum}
 use Rattle.writer.proofs.PieceLaws.{written-long}
-use borrow.Author.Rules.{rules}
 use Rattle.writer.proofs.boards.board_len.Goals as goal
 
 pub returns : goal.returns

@@ -1,6 +1,5 @@
 -- `writer::others_len` meets its contract: the sum of the lengths of the two parts.
 use Rattle.output.proofs.Laws.{sat-sum}
-use borrow.Author.Rules.{rules}
 use Rattle.writer.proofs.boards.others_len.Goals as goal
 
 pub returns : goal.returns

@@ -6,8 +6,6 @@ use Rattle.writer_texts.specs.Calls.{calls_bytes}
 use Rattle.writer.specs.Pieces.{board_pieces}
 use Rattle.writer.specs.Filing.{filing}
 use Rattle.writer.proofs.PieceLaws.{written_is}
-use Prim.Native.Nat.{ℕ}
-use mathlib.Core.List.{List}
 use lib.ListN.{drop}
 use Rattle.output.specs.Put.{joined}
 use Rattle.output.proofs.Laws.{Left, start, roomy, step, finish}

@@ -1,6 +1,5 @@
 -- `writer::append_checked` meets its contract: its answer by the test that led there.
 use Rattle.writer.proofs.Answers.{fit_small, fit-room, fit-done}
-use borrow.Author.Rules.{rules}
 use Rattle.writer.proofs.entries.append_checked.Goals as goal
 
 pub board_len-need-requires : goal.board_len-need-requires

@@ -2,7 +2,6 @@
 use mathlib.Core.Path.{◌∙◌}
 use Rattle.writer.proofs.Answers.{append-refused, append-passed, append-may}
 use Rattle.board_lent.specs.Heads.{board_of}
-use borrow.Author.Rules.{rules}
 use Rattle.writer.proofs.entries.append_head.Goals as goal
 
 pub append_checked-requires : goal.append_checked-requires

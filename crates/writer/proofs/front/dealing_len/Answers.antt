@@ -1,7 +1,6 @@
 -- `writer::dealing_len` meets its contract: the sum of the lengths of the pieces.
 use Rattle.board_lent.specs.Heads.{board_of}
 use Rattle.writer.proofs.PieceLaws.{dealing_long}
-use borrow.Author.Rules.{rules}
 use native.Mathlib.Omega.{arith}
 use Rattle.writer.proofs.front.dealing_len.Goals as goal
 

@@ -1,13 +1,10 @@
 -- `writer::put_dealing` meets its contract: a run of puts, each of which takes one piece off what is left to write.
 -- what is left to write after k of the puts
 use Rattle.board_lent.specs.Heads.{board_of}
-use Prim.Native.Nat.{ℕ}
-use mathlib.Core.List.{List}
 use lib.ListN.{drop}
 use Rattle.output.specs.Put.{joined}
 use Rattle.output.proofs.Laws.{Left, start, roomy, step, finish}
 use Rattle.writer.specs.Pieces.{dealing_pieces, dealing_text}
-use borrow.Author.Rules.{rules}
 use Rattle.writer.proofs.front.put_dealing.Goals as goal
 
 pub put_bytes-a-requires : goal.put_bytes-a-requires

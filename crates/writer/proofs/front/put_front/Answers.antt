@@ -2,8 +2,6 @@
 -- what is left to write after k of the puts
 use Rattle.board_lent.specs.Heads.{board_of}
 use Rattle.writer.specs.Pieces.{front_pieces, front_text}
-use Prim.Native.Nat.{ℕ}
-use mathlib.Core.List.{List}
 use lib.ListN.{drop}
 use Rattle.output.specs.Put.{joined}
 use Rattle.output.proofs.Laws.{Left, start, roomy, step, finish}

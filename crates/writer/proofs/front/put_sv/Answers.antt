@@ -1,5 +1,4 @@
 -- `writer::put_sv` meets its contract: the letter of the vulnerability is what is put.
-use borrow.Author.Rules.{rules}
 use Rattle.writer.proofs.front.put_sv.Goals as goal
 
 pub put_byte-requires : goal.put_byte-requires

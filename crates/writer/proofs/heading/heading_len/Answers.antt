@@ -3,7 +3,6 @@ use Prim.Native.Nat.{ℕ}
 use mathlib.Core.Path.{ap, sym, ◌∙◌}
 use Rattle.lin_spec.specs.Refusals.{sat}
 use Rattle.writer.proofs.PieceLaws.{heading-long, heading-sum}
-use borrow.Author.Rules.{rules}
 use Rattle.writer.proofs.heading.heading_len.Goals as goal
 
 pub returns : goal.returns

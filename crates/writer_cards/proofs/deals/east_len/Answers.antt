@@ -3,7 +3,6 @@ use Prim.Native.Nat.{◌*◌}
 use native.Mathlib.Omega.{arith}
 use mathlib.Core.Path.{ap, sym}
 use lib.ListN.{length}
-use borrow.Author.Rules.{rules}
 use Rattle.lin_spec.specs.Letters.{hand_at}
 use Rattle.lin_spec.specs.declared.Seat.TheVariants.{East}
 use Rattle.cards.proofs.HandLaws.{counts_most}

@@ -1,7 +1,6 @@
 -- `writer_cards::md_len` meets its contract: the hands, a digit and two commas.
 use Prim.Native.Nat.{◌*◌}
 use native.Mathlib.Omega.{arith}
-use borrow.Author.Rules.{rules}
 use Rattle.lin_spec.specs.Letters.{hand_at}
 use Rattle.lin_spec.specs.declared.Seat.TheVariants.{South, West, North}
 use Rattle.cards.proofs.HandLaws.{counts_most}

@@ -1,7 +1,6 @@
 -- `writer_cards::deals::put_bare` meets its contract: a digit, then the commas.
 use mathlib.Core.Path.{refl}
 use mathlib.Core.List.{[], ◌∷◌}
-use borrow.Author.Rules.{rules}
 use Rattle.lin_spec.specs.Base.{ascii}
 use Rattle.lin_spec.specs.Writer.{dealer_digit}
 use Rattle.writer_cards.proofs.PutLaws.{put_both}

@@ -1,5 +1,4 @@
 -- `writer_cards::deals::put_east` meets its contract: by the test, nothing or a comma and a hand.
-use borrow.Author.Rules.{rules}
 use Rattle.writer_cards.proofs.PutLaws.{put_none, first-room, second-room, put_both}
 use Rattle.writer_cards.proofs.DealLaws.{east_out, east_in}
 use Rattle.writer_cards.proofs.deals.put_east.Goals as goal

@@ -1,9 +1,7 @@
 -- `writer_cards::deals::put_hands` meets its contract: a run of puts, each of which takes one piece off what is left to write.
 -- what is left to write after k of the puts
-use Prim.Native.Nat.{ℕ}
-use mathlib.Core.List.{List, [], ◌∷◌}
+use mathlib.Core.List.{[], ◌∷◌}
 use lib.ListN.{drop}
-use borrow.Author.Rules.{rules}
 use Rattle.lin_spec.specs.Writer.{dealer_digit, md_text}
 use Rattle.output.specs.Put.{joined}
 use Rattle.output.proofs.Laws.{Left, start, roomy, step, finish}

@@ -1,5 +1,4 @@
 -- `writer_cards::put_md` meets its contract: by the test, commas or the hands.
-use borrow.Author.Rules.{rules}
 use Rattle.writer_cards.proofs.PutLaws.{room_as, put_as}
 use Rattle.writer_cards.proofs.SizeLaws.{md-bare}
 use Rattle.writer_cards.proofs.deals.put_md.Goals as goal

@@ -2,7 +2,6 @@
 use native.Mathlib.Omega.{arith}
 use mathlib.Core.Path.{ap, sym}
 use lib.ListN.{length}
-use borrow.Author.Rules.{rules}
 use Rattle.writer_cards.proofs.HandLaws.{suits_long, hand-none, hand-some}
 use Rattle.writer_cards.proofs.hands.hand_text_len.Goals as goal
 

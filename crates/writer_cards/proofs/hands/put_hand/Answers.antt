@@ -1,5 +1,4 @@
 -- `writer_cards::hands::put_hand` meets its contract: by the test, nothing or the suits.
-use borrow.Author.Rules.{rules}
 use Rattle.writer_cards.proofs.PutLaws.{put_none, room_as, put_as}
 use Rattle.writer_cards.proofs.HandLaws.{hand-none, hand_suits}
 use Rattle.writer_cards.proofs.hands.put_hand.Goals as goal

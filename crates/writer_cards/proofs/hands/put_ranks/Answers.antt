@@ -4,7 +4,6 @@ use mathlib.Core.Path.{◌≡◌, refl}
 use mathlib.Core.List.{◌++◌}
 use native.Mathlib.Omega.{arith}
 use lib.ListN.{get_or, replicate}
-use borrow.Author.Rules.{rules}
 use Rattle.lin_spec.specs.Base.{ascii}
 use Rattle.lin_spec.specs.Records.{part}
 use Rattle.lin_spec.specs.Writer.{ranks_from}

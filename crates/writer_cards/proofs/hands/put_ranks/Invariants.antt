@@ -1,15 +1,8 @@
 -- `writer_cards::hands::put_ranks` meets its contract: a turn takes one rank off what is left to write.
-use Prim.Native.Nat.{ℕ, ◌+◌, ◌-◌, ◌*◌}
-use mathlib.Core.Path.{◌≡◌, refl}
-use mathlib.Core.List.{◌++◌}
-use native.Mathlib.Omega.{arith}
-use lib.ListN.{get_or, replicate}
-use borrow.Author.Rules.{rules}
-use Rattle.lin_spec.specs.Base.{ascii}
+use Prim.Native.Nat.{◌-◌, ◌*◌}
 use Rattle.lin_spec.specs.Records.{part}
 use Rattle.lin_spec.specs.Writer.{ranks_from}
-use Rattle.output.proofs.Laws.{Left, start, roomy, step, finish}
-use Rattle.writer_cards.proofs.HandLaws.{ranks_cons, ranks-end}
+use Rattle.output.proofs.Laws.{Left}
 use Rattle.writer_cards.proofs.hands.put_ranks.Given as goal
 
 abbrev pub invariant-loop-k : goal.invariant-loop-k

@@ -1,9 +1,6 @@
 -- `writer_cards::hands::put_repeated` meets its contract: a turn takes one byte off what is left to write.
-use native.Mathlib.Omega.{arith}
 use lib.ListN.{replicate}
-use borrow.Author.Rules.{rules}
-use Rattle.output.proofs.Laws.{Left, start, finish}
-use Rattle.writer_cards.proofs.HandLaws.{repeat_inside, repeat_turn, repeat_end, repeat_none, repeat_once}
+use Rattle.output.proofs.Laws.{Left}
 use Rattle.writer_cards.proofs.hands.put_repeated.Given as goal
 
 abbrev pub invariant-loop-left : goal.invariant-loop-left

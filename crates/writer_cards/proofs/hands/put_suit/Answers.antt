@@ -1,5 +1,4 @@
 -- `writer_cards::hands::put_suit` meets its contract: two puts.
-use borrow.Author.Rules.{rules}
 use Rattle.writer_cards.proofs.PutLaws.{first-room, second-room, put_both}
 use Rattle.writer_cards.proofs.HandLaws.{suit_is}
 use Rattle.writer_cards.proofs.hands.put_suit.Goals as goal

@@ -1,8 +1,7 @@
 -- `writer_cards::hands::put_suits` meets its contract: a run of puts, each of which takes one piece off what is left to write.
 -- what is left to write after k of the puts
-use Prim.Native.Nat.{ℕ, ◌*◌}
+use Prim.Native.Nat.{◌*◌}
 use native.Mathlib.Omega.{arith}
-use mathlib.Core.List.{List}
 use lib.ListN.{drop}
 use Rattle.lin_spec.specs.Records.{part}
 use Rattle.output.specs.Put.{joined}

@@ -1,5 +1,4 @@
 -- `writer_cards::letters::put_letters` meets its contract: two puts of a byte.
-use borrow.Author.Rules.{rules}
 use Rattle.writer_cards.proofs.PutLaws.{put_both}
 use Rattle.writer_cards.proofs.TrickLaws.{letters_are}
 use Rattle.writer_cards.proofs.letters.put_card_letters.Goals as goal

@@ -1,5 +1,4 @@
 -- `writer_cards::format_cardplay_by_trick` meets its contract: each answer by the tests that led there.
-use borrow.Author.Rules.{rules}
 use Rattle.writer_cards.proofs.Answers.{play-range, play-small, play-fits, play-done}
 use Rattle.writer_cards.proofs.play.format_cardplay_by_trick.Goals as goal
 

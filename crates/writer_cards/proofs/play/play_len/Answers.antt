@@ -1,6 +1,5 @@
 -- `writer_cards::play::play_len` meets its contract: three bytes for each card, but for the last one two.
 use native.Mathlib.Omega.{arith}
-use borrow.Author.Rules.{rules}
 use Rattle.writer_cards.proofs.PlayLaws.{play-long}
 use Rattle.writer_cards.proofs.play.play_len.Goals as goal
 

@@ -1,5 +1,4 @@
 -- `writer_cards::play::put_between` meets its contract: by the tests, one put or none.
-use borrow.Author.Rules.{rules}
 use Rattle.writer_cards.proofs.PutLaws.{put_none, room_as, put_as}
 use Rattle.writer_cards.proofs.PlayLaws.{none_between, pipe-between, space_between}
 use Rattle.writer_cards.proofs.play.put_between.Goals as goal

@@ -1,9 +1,8 @@
 -- `writer_cards::play::put_play` meets its contract: a turn takes one card, and what stands before it, off what is left to write.
-use Prim.Native.Nat.{◌+◌, ◌-◌, ◌≤◌}
+use Prim.Native.Nat.{◌+◌}
 use mathlib.Core.List.{◌++◌}
 use native.Mathlib.Omega.{arith}
-use lib.ListN.{length, get_or, drop}
-use borrow.Author.Rules.{rules}
+use lib.ListN.{get_or, drop}
 use Rattle.lin_spec.specs.Writer.{card_letters}
 use Rattle.lin_spec.specs.Play.{play_text}
 use Rattle.output.proofs.Laws.{Left, start, roomy, step, finish}

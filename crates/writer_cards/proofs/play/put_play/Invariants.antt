@@ -1,15 +1,9 @@
 -- `writer_cards::play::put_play` meets its contract: a turn takes one card, and what stands before it, off what is left to write.
-use Prim.Native.Nat.{◌+◌, ◌-◌, ◌≤◌}
-use mathlib.Core.List.{◌++◌}
-use native.Mathlib.Omega.{arith}
-use lib.ListN.{length, get_or, drop}
-use borrow.Author.Rules.{rules}
-use Rattle.lin_spec.specs.Writer.{card_letters}
+use Prim.Native.Nat.{◌-◌, ◌≤◌}
+use lib.ListN.{length, drop}
 use Rattle.lin_spec.specs.Play.{play_text}
-use Rattle.output.proofs.Laws.{Left, start, roomy, step, finish}
-use Rattle.writer_cards.specs.Tricks.{before_card}
-use Rattle.writer_cards.proofs.TrickLaws.{good_card}
-use Rattle.writer_cards.proofs.PlayLaws.{words_from, play-from, words_cons, words-end}
+use Rattle.output.proofs.Laws.{Left}
+use Rattle.writer_cards.proofs.PlayLaws.{words_from}
 use Rattle.writer_cards.proofs.play.put_play.Given as goal
 
 abbrev pub invariant-loop-i : goal.invariant-loop-i

@@ -1,10 +1,6 @@
 -- `writer_cards::sizes::has_cards` meets its contract: a turn looks at a count.
-use Prim.Native.Nat.{◌-◌}
 use native.Mathlib.Omega.{arith}
-use mathlib.Core.Path.{◌≡◌, refl}
-use mathlib.Core.Bool.{◌||◌}
-use lib.ListN.{length, drop}
-use Rattle.lin_spec.specs.Base.{any}
+use mathlib.Core.Path.{refl}
 use Rattle.board_lent.proofs.LentLaws.{all-each, or_each}
 use Rattle.writer_cards.specs.Sizes.{counted}
 use Rattle.writer_cards.proofs.sizes.has_cards.Goals as goal

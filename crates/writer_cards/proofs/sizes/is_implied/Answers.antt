@@ -1,5 +1,4 @@
 -- `writer_cards::sizes::is_implied` meets its contract: each answer by the tests that led there.
-use borrow.Author.Rules.{rules}
 use borrow.Author.Tests.{not-true, not-false}
 use Rattle.writer_cards.proofs.EastLaws.{three_sums, implied-few, implied-none, implied-rest}
 use Rattle.writer_cards.proofs.sizes.is_implied.Goals as goal

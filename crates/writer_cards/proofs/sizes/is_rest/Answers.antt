@@ -1,15 +1,9 @@
 -- `writer_cards::sizes::is_rest` meets its contract. The loop's invariant: the remainder's cards passed are counted, and `held` says whether those of East are in it.
 -- The measure is what is left.
-use Prim.Native.Nat.{◌+◌, ◌-◌, ◌≤◌}
 use native.Mathlib.Nat.{zero-add}
 use native.Mathlib.Omega.{arith}
-use mathlib.Core.Path.{◌≡◌, refl}
-use mathlib.Core.Bool.{◌&&◌}
-use lib.ListN.{drop}
-use borrow.Author.Rules.{rules}
-use Rattle.lin_spec.specs.Cards.{sum}
+use mathlib.Core.Path.{refl}
 use Rattle.lin_spec.specs.Letters.{hand_at}
-use Rattle.lin_spec.specs.Writer.{held_in}
 use Rattle.lin_spec.specs.declared.Seat.TheVariants.{East}
 use Rattle.cards.proofs.HandLaws.{sum-next, sum-end, count_at, counts_most}
 use Rattle.writer_cards.specs.Hands.{rest_of}

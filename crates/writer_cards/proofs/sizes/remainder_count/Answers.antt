@@ -1,6 +1,5 @@
 -- `writer_cards::sizes::remainder_count` meets its contract: the test is the remainder's.
 use native.Mathlib.Omega.{arith}
-use borrow.Author.Rules.{rules}
 use Rattle.writer_cards.proofs.EastLaws.{rest_free, rest-held}
 use Rattle.writer_cards.proofs.sizes.remainder_count.Goals as goal
 

@@ -1,5 +1,4 @@
 -- `writer_cards::sizes::sizes_of` meets its contract: no card is held, or the hands were summed.
-use borrow.Author.Rules.{rules}
 use Rattle.writer_cards.proofs.SizeLaws.{has-held, sized_none, small-none}
 use Rattle.writer_cards.proofs.sizes.sizes_of.Goals as goal
 

@@ -1,5 +1,4 @@
 -- `writer_cards::tricks::put_card` meets its contract: three puts, each of which takes one piece off what is left to write.
-use borrow.Author.Rules.{rules}
 use Rattle.output.proofs.Laws.{start, step, finish}
 use Rattle.writer_cards.proofs.tricks.put_pc.Goals as goal
 

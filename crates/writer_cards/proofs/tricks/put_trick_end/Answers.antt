@@ -1,5 +1,4 @@
 -- `writer_cards::tricks::put_trick_end` meets its contract: by the test, one put or none.
-use borrow.Author.Rules.{rules}
 use Rattle.writer_cards.proofs.PutLaws.{put_none, room_as, put_as}
 use Rattle.writer_cards.proofs.TrickLaws.{end-here, end_later}
 use Rattle.writer_cards.proofs.tricks.put_trick_end.Goals as goal

@@ -1,9 +1,8 @@
 -- `writer_cards::put_tricks` meets its contract: a turn takes one card, and what follows it, off what is left to write.
-use Prim.Native.Nat.{◌+◌, ◌-◌, ◌≤◌}
+use Prim.Native.Nat.{◌+◌}
 use mathlib.Core.List.{◌++◌}
 use native.Mathlib.Omega.{arith}
 use lib.ListN.{length, get_or, drop}
-use borrow.Author.Rules.{rules}
 use Rattle.lin_spec.specs.Writer.{card_text, tricks_text}
 use Rattle.output.proofs.Laws.{Left, start, roomy, step, finish}
 use Rattle.writer_cards.specs.Tricks.{trick_end}

@@ -1,6 +1,5 @@
 -- `writer_cards::tricks_len` meets its contract: six bytes for each card and five for each trick.
 use native.Mathlib.Omega.{arith}
-use borrow.Author.Rules.{rules}
 use Rattle.writer_cards.proofs.TrickLaws.{tricks-long}
 use Rattle.writer_cards.proofs.tricks.tricks_len.Goals as goal
 

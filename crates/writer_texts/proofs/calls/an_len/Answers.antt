@@ -5,7 +5,6 @@ use Rattle.lin_spec.specs.Base.{ascii}
 use Rattle.lin_spec.specs.Records.{bytes_at}
 use Rattle.writer_texts.proofs.TextLaws.{after-length}
 use Rattle.writer_texts.proofs.CallLaws.{annotation-none, annotation-some}
-use borrow.Author.Rules.{rules}
 use native.Mathlib.Omega.{arith}
 use Rattle.writer_texts.proofs.calls.an_len.Goals as goal
 

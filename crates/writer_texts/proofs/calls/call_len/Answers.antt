@@ -1,6 +1,5 @@
 -- `writer_texts::call_len` meets its contract: the sum of the lengths of the pieces.
 use Rattle.writer_texts.proofs.CallLaws.{call_long}
-use borrow.Author.Rules.{rules}
 use native.Mathlib.Omega.{arith}
 use Rattle.writer_texts.proofs.calls.call_len.Goals as goal
 

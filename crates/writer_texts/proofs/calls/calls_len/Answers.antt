@@ -1,9 +1,4 @@
 -- `writer_texts::calls_len` meets its contract: a turn takes one call off what is left to count.
-use Prim.Native.Nat.{ℕ, ◌+◌, ◌-◌, ◌^◌, ◌≤◌, ◌<◌}
-use mathlib.Core.Path.{◌≡◌}
-use lib.ListN.{length, drop}
-use Rattle.lin_spec.specs.Refusals.{sat}
-use Rattle.writer_texts.specs.Calls.{calls_bytes}
 use Rattle.writer_texts.proofs.CallLaws.{count-call, count_none}
 use native.Mathlib.Omega.{arith}
 use Rattle.writer_texts.proofs.calls.calls_len.Goals as goal

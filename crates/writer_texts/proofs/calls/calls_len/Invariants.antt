@@ -4,8 +4,6 @@ use mathlib.Core.Path.{◌≡◌}
 use lib.ListN.{length, drop}
 use Rattle.lin_spec.specs.Refusals.{sat}
 use Rattle.writer_texts.specs.Calls.{calls_bytes}
-use Rattle.writer_texts.proofs.CallLaws.{count-call, count_none}
-use native.Mathlib.Omega.{arith}
 use Rattle.writer_texts.proofs.calls.calls_len.Given as goal
 
 abbrev pub invariant-loop-i : goal.invariant-loop-i

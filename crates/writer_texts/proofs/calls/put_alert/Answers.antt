@@ -1,7 +1,6 @@
 -- `writer_texts::put_alert` meets its contract: by the flag.
 use Rattle.output.proofs.Laws.{start, finish}
 use Rattle.writer_texts.proofs.CallLaws.{alert_none, alert_set}
-use borrow.Author.Rules.{rules}
 use Rattle.writer_texts.proofs.calls.put_alert.Goals as goal
 
 pub returns-then-alerted-eq0 : goal.returns-then-alerted-eq0

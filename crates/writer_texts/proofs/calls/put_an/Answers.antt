@@ -1,7 +1,6 @@
 -- `writer_texts::put_an` meets its contract: by the flag.
 use Rattle.output.proofs.Laws.{start, finish}
 use Rattle.writer_texts.proofs.CallLaws.{annotation-none, annotation-some}
-use borrow.Author.Rules.{rules}
 use Rattle.writer_texts.proofs.calls.put_an.Goals as goal
 
 pub returns-then-c-eq0 : goal.returns-then-c-eq0

@@ -1,13 +1,10 @@
 -- `writer_texts::put_call` meets its contract: a run of puts, each of which takes one piece off what is left to write.
 -- what is left to write after k of the puts
-use Prim.Native.Nat.{ℕ}
-use mathlib.Core.List.{List}
 use lib.ListN.{drop}
 use Rattle.output.specs.Put.{joined}
 use Rattle.output.proofs.Laws.{Left, start, roomy, step, finish}
 use Rattle.writer_texts.specs.Calls.{call_pieces, call_bytes}
 use Rattle.writer_texts.proofs.CallLaws.{call-is}
-use borrow.Author.Rules.{rules}
 use Rattle.writer_texts.proofs.calls.put_call.Goals as goal
 
 pub put_bytes-a-requires : goal.put_bytes-a-requires

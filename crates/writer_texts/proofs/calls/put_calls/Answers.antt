@@ -1,8 +1,5 @@
 -- `writer_texts::put_calls` meets its contract: a turn takes one call off what is left to write.
-use Prim.Native.Nat.{◌-◌, ◌≤◌}
-use lib.ListN.{length, drop}
-use Rattle.output.proofs.Laws.{Left, start, roomy, step, finish}
-use Rattle.writer_texts.specs.Calls.{calls_bytes}
+use Rattle.output.proofs.Laws.{start, roomy, step, finish}
 use Rattle.writer_texts.proofs.CallLaws.{call-left, none_left}
 use native.Mathlib.Omega.{arith}
 use Rattle.writer_texts.proofs.calls.put_calls.Goals as goal

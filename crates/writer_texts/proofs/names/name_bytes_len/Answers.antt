@@ -1,8 +1,6 @@
 -- `writer_texts::name_bytes_len` meets its contract: a turn takes one byte off what is left to count.
-use Prim.Native.Nat.{◌+◌, ◌-◌, ◌≤◌}
-use mathlib.Core.Path.{◌≡◌, ap}
-use lib.ListN.{length, drop}
-use Rattle.lin_spec.specs.Writer.{clean_name}
+use mathlib.Core.Path.{ap}
+use lib.ListN.{length}
 use Rattle.writer_texts.proofs.TextLaws.{name_count, name_end, kept_most}
 use native.Mathlib.Omega.{arith}
 use Rattle.writer_texts.proofs.names.name_bytes_len.Goals as goal

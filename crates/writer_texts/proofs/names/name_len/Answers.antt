@@ -1,5 +1,4 @@
 -- `writer_texts::name_len` meets its contract: the bytes of the span are counted.
-use borrow.Author.Rules.{rules}
 use Rattle.writer_texts.proofs.names.name_len.Goals as goal
 
 pub returns : goal.returns

@@ -1,7 +1,6 @@
 -- `writer_texts::put_kept` meets its contract: a comma is left out.
 use Rattle.writer_texts.proofs.TextLaws.{kept_comma, kept-other}
 use Rattle.output.proofs.Laws.{start, finish}
-use borrow.Author.Rules.{rules}
 use Rattle.writer_texts.proofs.names.put_kept.Goals as goal
 
 pub returns-then-b-eq44 : goal.returns-then-b-eq44

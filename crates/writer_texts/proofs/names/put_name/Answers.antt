@@ -1,5 +1,4 @@
 -- `writer_texts::put_name` meets its contract: the bytes of the span are what is put.
-use borrow.Author.Rules.{rules}
 use Rattle.writer_texts.proofs.names.put_name.Goals as goal
 
 pub put_name_bytes-requires : goal.put_name_bytes-requires

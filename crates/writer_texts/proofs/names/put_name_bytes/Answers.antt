@@ -1,8 +1,5 @@
 -- `writer_texts::put_name_bytes` meets its contract: a turn takes one byte off what is left to write.
-use Prim.Native.Nat.{◌-◌, ◌≤◌}
-use lib.ListN.{length, drop}
-use Rattle.lin_spec.specs.Writer.{clean_name}
-use Rattle.output.proofs.Laws.{Left, start, roomy, step, finish}
+use Rattle.output.proofs.Laws.{start, roomy, step, finish}
 use Rattle.writer_texts.proofs.TextLaws.{name_left, name_end}
 use native.Mathlib.Omega.{arith}
 use Rattle.writer_texts.proofs.names.put_name_bytes.Goals as goal

@@ -2,9 +2,7 @@
 use Prim.Native.Nat.{◌-◌, ◌≤◌}
 use lib.ListN.{length, drop}
 use Rattle.lin_spec.specs.Writer.{clean_name}
-use Rattle.output.proofs.Laws.{Left, start, roomy, step, finish}
-use Rattle.writer_texts.proofs.TextLaws.{name_left, name_end}
-use native.Mathlib.Omega.{arith}
+use Rattle.output.proofs.Laws.{Left}
 use Rattle.writer_texts.proofs.names.put_name_bytes.Given as goal
 
 abbrev pub invariant-loop-j : goal.invariant-loop-j

@@ -1,11 +1,7 @@
 -- `writer_texts::clean_part` meets its contract: a turn cleans one byte of those that are left.
-use Prim.Native.Nat.{◌-◌, ◌≤◌}
 use native.Mathlib.Omega.{arith}
-use mathlib.Core.Path.{◌≡◌, refl}
-use lib.ListN.{drop}
-use Rattle.lin_spec.specs.Records.{part}
-use Rattle.lin_spec.specs.Writer.{clean}
-use Rattle.output.proofs.Laws.{Left, start, finish}
+use mathlib.Core.Path.{refl}
+use Rattle.output.proofs.Laws.{start, finish}
 use Rattle.writer_texts.proofs.PartLaws.{part_room, part_end, part-turn, part-rest}
 use Rattle.writer_texts.proofs.texts.clean_part.Goals as goal
 

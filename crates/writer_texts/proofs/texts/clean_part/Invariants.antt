@@ -1,12 +1,10 @@
 -- `writer_texts::clean_part` meets its contract: a turn cleans one byte of those that are left.
 use Prim.Native.Nat.{◌-◌, ◌≤◌}
-use native.Mathlib.Omega.{arith}
-use mathlib.Core.Path.{◌≡◌, refl}
+use mathlib.Core.Path.{◌≡◌}
 use lib.ListN.{drop}
 use Rattle.lin_spec.specs.Records.{part}
 use Rattle.lin_spec.specs.Writer.{clean}
-use Rattle.output.proofs.Laws.{Left, start, finish}
-use Rattle.writer_texts.proofs.PartLaws.{part_room, part_end, part-turn, part-rest}
+use Rattle.output.proofs.Laws.{Left}
 use Rattle.writer_texts.proofs.texts.clean_part.Given as goal
 
 abbrev pub invariant-loop-i : goal.invariant-loop-i

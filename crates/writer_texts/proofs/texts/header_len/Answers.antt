@@ -1,6 +1,5 @@
 -- `writer_texts::header_len` meets its contract: nothing, or the length of one put.
 use Rattle.writer_texts.proofs.TextLaws.{header-long}
-use borrow.Author.Rules.{rules}
 use native.Mathlib.Omega.{arith}
 use Rattle.writer_texts.proofs.texts.header_len.Goals as goal
 

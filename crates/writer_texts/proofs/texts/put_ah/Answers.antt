@@ -1,7 +1,6 @@
 -- `writer_texts::put_ah` meets its contract: nothing, or one put.
 use Rattle.output.proofs.Laws.{start, finish}
 use Rattle.writer_texts.proofs.TextLaws.{header-some}
-use borrow.Author.Rules.{rules}
 use Rattle.writer_texts.proofs.texts.put_ah.Goals as goal
 
 pub put_after-requires : goal.put_after-requires

@@ -1,5 +1,4 @@
 -- `writer_texts::put_clean` meets its contract: the bytes of the span are what is put.
-use borrow.Author.Rules.{rules}
 use Rattle.writer_texts.proofs.texts.put_clean.Goals as goal
 
 pub put_clean_bytes-requires : goal.put_clean_bytes-requires

@@ -1,8 +1,5 @@
 -- `writer_texts::put_clean_bytes` meets its contract: a turn takes one byte off what is left to write.
-use Prim.Native.Nat.{◌-◌, ◌≤◌}
-use lib.ListN.{length, drop}
-use Rattle.lin_spec.specs.Writer.{clean}
-use Rattle.output.proofs.Laws.{Left, start, finish}
+use Rattle.output.proofs.Laws.{start, finish}
 use Rattle.writer_texts.proofs.TextLaws.{clean-inside, clean-turn, clean_end}
 use native.Mathlib.Omega.{arith}
 use Rattle.writer_texts.proofs.texts.put_clean_bytes.Goals as goal

@@ -2,9 +2,7 @@
 use Prim.Native.Nat.{◌-◌, ◌≤◌}
 use lib.ListN.{length, drop}
 use Rattle.lin_spec.specs.Writer.{clean}
-use Rattle.output.proofs.Laws.{Left, start, finish}
-use Rattle.writer_texts.proofs.TextLaws.{clean-inside, clean-turn, clean_end}
-use native.Mathlib.Omega.{arith}
+use Rattle.output.proofs.Laws.{Left}
 use Rattle.writer_texts.proofs.texts.put_clean_bytes.Given as goal
 
 abbrev pub invariant-loop-j : goal.invariant-loop-j

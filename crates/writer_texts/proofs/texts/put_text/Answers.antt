@@ -1,7 +1,6 @@
 -- `writer_texts::put_text` meets its contract: nothing, or one put.
 use Rattle.output.proofs.Laws.{start, finish}
 use Rattle.writer_texts.proofs.TextLaws.{clean-nil}
-use borrow.Author.Rules.{rules}
 use Rattle.writer_texts.proofs.texts.put_text.Goals as goal
 
 pub put_clean-requires : goal.put_clean-requires

@@ -1,5 +1,4 @@
 -- `writer_texts::text_len` meets its contract: by the case of the text.
-use borrow.Author.Rules.{rules}
 use Rattle.writer_texts.proofs.texts.text_len.Goals as goal
 
 pub returns-in-Present : goal.returns-in-Present

@@ -1,7 +1,6 @@
 -- `BoardCursor::next` meets its contract: each answer by the tests that led there.
 use Rattle.file_sections.proofs.SectionLaws.{line-short, line-ended, line-passed, part-ended, part-passed}
 use native.Mathlib.Omega.{arith}
-use borrow.Author.Rules.{rules}
 use Rattle.file_sections.proofs.sections.BoardCursor.next.Goals as goal
 
 pub returns-then-text-self : goal.returns-then-text-self
