@@ -6,6 +6,7 @@ use lin::{
     board_line, count_boards, file_board, file_heading, format_cardplay_by_trick, open_boards,
     read_board, same_board,
 };
+use std::io;
 use text::part;
 
 // The words of rows and the places for cards that a board of the file may need.
@@ -22,10 +23,10 @@ fn rows_of(rows: &[u32], calls: usize) -> &[u32] {
 }
 
 // A board's line: its number, dealer, vulnerability, hand lengths, counts and claim.
-fn say_board(number: usize, heading: Heading) {
+fn say_board(rt: &impl Print, number: usize, heading: Heading) -> io::Result<()> {
     let mut line = [0u8; LINE];
     let written = board_line(number as u64, heading, &mut line);
-    say_written(&line, written);
+    say_written(rt, &line, written)
 }
 
 // The part of a text that two words of a row name.
@@ -34,55 +35,57 @@ fn row_part(text: &[u8], start: u32, len: u32) -> &[u8] {
 }
 
 // The call of the first row, with `!` if it is alerted, and its annotation in parentheses.
-fn say_call(text: &[u8], rows: &[u32]) {
+fn say_call(rt: &impl Print, text: &[u8], rows: &[u32]) -> io::Result<()> {
     if rows.len() < 6 {
-        return;
+        return Ok(());
     }
-    say_bytes(row_part(text, rows[0], rows[1]));
+    say_bytes(rt, row_part(text, rows[0], rows[1]))?;
     if rows[2] == 1 {
-        say_bytes(b"!");
+        say_bytes(rt, b"!")?;
     }
     if rows[3] == 1 {
-        say_bytes(b" (");
-        say_bytes(row_part(text, rows[4], rows[5]));
-        say_bytes(b")");
+        say_bytes(rt, b" (")?;
+        say_bytes(rt, row_part(text, rows[4], rows[5]))?;
+        say_bytes(rt, b")")?;
     }
-    say_bytes(b"\n");
+    say_bytes(rt, b"\n")
 }
 
 // The calls of a board.
-fn say_calls(text: &[u8], rows: &[u32]) {
+fn say_calls(rt: &impl Print, text: &[u8], rows: &[u32]) -> io::Result<()> {
     let mut i = 0;
     while 6 <= rows.len() - i {
-        say_call(text, &rows[i..]);
+        say_call(rt, text, &rows[i..])?;
         i += 6;
     }
+    Ok(())
 }
 
 // The play of a board by tricks.
-fn say_play(cards: &[u8]) {
+fn say_play(rt: &impl Print, cards: &[u8]) -> io::Result<()> {
     let mut line = [0u8; LINE];
     let written = format_cardplay_by_trick(cards, &mut line);
-    say_written(&line, written);
-    say_bytes(b"\n");
+    say_written(rt, &line, written)?;
+    say_bytes(rt, b"\n")
 }
 
 // The used bytes after an append, and what is said of it.
-fn used_after(written: Written, used: usize) -> usize {
+fn used_after(rt: &impl Print, written: Written, used: usize) -> io::Result<usize> {
     match written {
         Written::Length(n) => {
-            say_number(b"used", n);
-            n
+            say_number(rt, b"used", n)?;
+            Ok(n)
         }
         Written::Refused(r) => {
-            say_refusal(r);
-            used
+            say_refusal(rt, r)?;
+            Ok(used)
         }
     }
 }
 
 // Shows a board that was read, and appends it to the output. Gives the used bytes.
 fn copy_board(
+    rt: &impl Print,
     text: &[u8],
     number: usize,
     heading: Heading,
@@ -90,17 +93,22 @@ fn copy_board(
     play: &[u8],
     out: &mut [u8],
     used: usize,
-) -> usize {
-    say_board(number, heading);
-    say_calls(text, calls);
-    say_play(play);
+) -> io::Result<usize> {
+    say_board(rt, number, heading)?;
+    say_calls(rt, text, calls)?;
+    say_play(rt, play)?;
     let board = heading.board;
     let written = append(text, board, calls, play, out, used);
-    used_after(written, used)
+    used_after(rt, written, used)
 }
 
 // Copies the boards of a file from a cursor on, each read by a step. Gives the used bytes.
-fn copy_from(text: &[u8], cursor: BoardCursor, out: &mut [u8]) -> usize {
+fn copy_from(
+    rt: &impl Print,
+    text: &[u8],
+    cursor: BoardCursor,
+    out: &mut [u8],
+) -> io::Result<usize> {
     let mut rows = [0u32; WORDS];
     let mut cards = [0u8; PLACES];
     let mut used = 0;
@@ -119,74 +127,68 @@ fn copy_from(text: &[u8], cursor: BoardCursor, out: &mut [u8]) -> usize {
                 };
                 let calls = rows_of(&rows, read.calls);
                 let play = part(&cards, 0, read.cards);
-                used = copy_board(text, number, heading, calls, play, out, used);
+                used = copy_board(rt, text, number, heading, calls, play, out, used)?;
                 c = after;
             }
             NextBoard::Ended(_) => {
-                return used;
+                return Ok(used);
             }
             NextBoard::Refused(r, _) => {
-                say_refusal(r);
-                return used;
+                say_refusal(rt, r)?;
+                return Ok(used);
             }
         }
     }
 }
 
 // How many boards a file has, or why it was refused.
-fn say_count(text: &[u8]) -> usize {
+fn say_count(rt: &impl Print, text: &[u8]) -> io::Result<usize> {
     match count_boards(text) {
         Counted::Count(count) => {
-            say_number(b"boards", count);
-            count
+            say_number(rt, b"boards", count)?;
+            Ok(count)
         }
         Counted::Refused(r) => {
-            say_refusal(r);
-            0
+            say_refusal(rt, r)?;
+            Ok(0)
         }
     }
 }
 
 // Copies every board of a file into an output, from its first byte on. Gives the used bytes.
-pub fn copy_boards(text: &[u8], out: &mut [u8]) -> usize {
-    say_count(text);
+pub fn copy_boards(rt: &impl Print, text: &[u8], out: &mut [u8]) -> io::Result<usize> {
+    say_count(rt, text)?;
     match open_boards(text) {
-        OpenedBoards::At(c) => copy_from(text, c, out),
+        OpenedBoards::At(c) => copy_from(rt, text, c, out),
         OpenedBoards::Refused(r) => {
-            say_refusal(r);
-            0
+            say_refusal(rt, r)?;
+            Ok(0)
         }
     }
 }
 
 // What was found of two boards.
-fn say_equality(equality: Equality) {
+fn say_equality(rt: &impl Print, equality: Equality) -> io::Result<()> {
     match equality {
-        Equality::Equal => {
-            say_bytes(b"the same\n");
-        }
-        Equality::Different => {
-            say_bytes(b"different\n");
-        }
-        Equality::Refused(r) => {
-            say_refusal(r);
-        }
+        Equality::Equal => say_bytes(rt, b"the same\n"),
+        Equality::Different => say_bytes(rt, b"different\n"),
+        Equality::Refused(r) => say_refusal(rt, r),
     }
 }
 
 // Whether a board was refused, which is then shown.
-fn say_refused(verdict: Verdict) -> bool {
+fn say_refused(rt: &impl Print, verdict: Verdict) -> io::Result<bool> {
     match verdict {
-        Verdict::Accepted => false,
+        Verdict::Accepted => Ok(false),
         Verdict::Refused(r) => {
-            say_refusal(r);
-            true
+            say_refusal(rt, r)?;
+            Ok(true)
         }
     }
 }
 
 // Compares the board of a number in a file with the board of that number in its copy.
-fn compare_board(text: &[u8], copy: &[u8], number: usize) {
+fn compare_board(rt: &impl Print, text: &[u8], copy: &[u8], number: usize) -> io::Result<()> {
     let mut rows = [0u32; WORDS];
     let mut cards = [0u8; PLACES];
     let heading = file_board(text, number, &mut rows, &mut cards);
@@ -195,8 +197,8 @@ fn compare_board(text: &[u8], copy: &[u8], number: usize) {
     let heading2 = file_board(copy, number, &mut rows2, &mut cards2);
     let verdict = heading.verdict;
     let verdict2 = heading2.verdict;
-    if say_refused(verdict) | say_refused(verdict2) {
-        return;
+    if say_refused(rt, verdict)? | say_refused(rt, verdict2)? {
+        return Ok(());
     }
     let board = heading.board;
     let board2 = heading2.board;
@@ -210,22 +212,23 @@ fn compare_board(text: &[u8], copy: &[u8], number: usize) {
         rows_of(&rows2, heading2.calls),
         part(&cards2, 0, heading2.cards),
     );
-    say_equality(equality);
+    say_equality(rt, equality)
 }
 
 // Shows and compares the boards of a copy by their numbers.
-fn compare_all(text: &[u8], copy: &[u8], count: usize) {
+fn compare_all(rt: &impl Print, text: &[u8], copy: &[u8], count: usize) -> io::Result<()> {
     let mut number = 0;
     while number < count {
-        say_board(number, file_heading(copy, number));
-        compare_board(text, copy, number);
+        say_board(rt, number, file_heading(copy, number))?;
+        compare_board(rt, text, copy, number)?;
         number += 1;
     }
+    Ok(())
 }
 
 // Shows the copy of a file's boards, how many boards it has, and each beside that of the file.
-pub fn read_back(text: &[u8], copy: &[u8]) {
-    say_bytes(copy);
-    let count = say_count(copy);
-    compare_all(text, copy, count);
+pub fn read_back(rt: &impl Print, text: &[u8], copy: &[u8]) -> io::Result<()> {
+    say_bytes(rt, copy)?;
+    let count = say_count(rt, copy)?;
+    compare_all(rt, text, copy, count)
 }

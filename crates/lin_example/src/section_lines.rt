@@ -1,43 +1,40 @@
 // The sections of a file, parts or lines, each with its number if it is a board, and its places in the text. (01: File)
 use crate::printing::{say_bytes, say_decimal, say_number, say_refusal};
 use lin::{BoardCursor, BoardStep, OpenedBoards, Section, open_boards};
+use std::io;
 
 // A section: its number, or that it is no board, and where it begins and stops.
-fn say_section(number: usize, section: Section) {
+fn say_section(rt: &impl Print, number: usize, section: Section) -> io::Result<()> {
     if section.board {
-        say_bytes(b"board ");
-        say_decimal(number);
+        say_bytes(rt, b"board ")?;
+        say_decimal(rt, number)?;
     } else {
-        say_bytes(b"no board");
+        say_bytes(rt, b"no board")?;
     }
-    say_bytes(b" from ");
-    say_decimal(section.start);
-    say_number(b" to", section.stop);
+    say_bytes(rt, b" from ")?;
+    say_decimal(rt, section.start)?;
+    say_number(rt, b" to", section.stop)
 }
 
 // The sections from a cursor on.
-fn say_sections(text: &[u8], cursor: BoardCursor) {
+fn say_sections(rt: &impl Print, text: &[u8], cursor: BoardCursor) -> io::Result<()> {
     let mut c = cursor;
     loop {
         match c.next(text) {
             BoardStep::Found(number, section, next) => {
-                say_section(number, section);
+                say_section(rt, number, section)?;
                 c = next;
             }
             BoardStep::Ended(_) => {
-                return;
+                return Ok(());
             }
         }
     }
 }
 
-pub fn show_sections(text: &[u8]) {
+pub fn show_sections(rt: &impl Print, text: &[u8]) -> io::Result<()> {
     match open_boards(text) {
-        OpenedBoards::At(cursor) => {
-            say_sections(text, cursor);
-        }
-        OpenedBoards::Refused(r) => {
-            say_refusal(r);
-        }
+        OpenedBoards::At(cursor) => say_sections(rt, text, cursor),
+        OpenedBoards::Refused(r) => say_refusal(rt, r),
     }
 }

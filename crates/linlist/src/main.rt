@@ -1,6 +1,8 @@
 #![tactic(auto)]
 
 // Lists the boards of the LIN file on standard input. (01: Program linlist)
-fn main() {
-    linlist_input::list_input(libc::STDIN_FILENO);
+use std::io;
+
+fn main(rt: HostRuntime) -> io::Result<()> {
+    linlist_input::list_input(&mut rt.stdin(), &mut rt.stdout())
 }

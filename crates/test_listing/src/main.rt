@@ -4,6 +4,8 @@
 use lin_spec::Written;
 use linlist_input::list_input;
 use listing::list_file;
+use std::rt::Files;
+use std::{fs, io};
 use test_vectors::{Field, Score, field_is, load, say, vector_at};
 use text::part;
 
@@ -14,24 +16,22 @@ const SPACE: usize = 1_048_576;
 const ROOM: usize = 16_384;
 
 // Prints a run's name and the listing of its file.
-fn list_run(name: &[u8], file: &[u8]) {
-    io::write_all(libc::STDOUT_FILENO, name);
-    io::write_all(libc::STDOUT_FILENO, b"\n");
-    let fd = os::open_read(file);
-    list_input(fd);
-    libc::close(fd);
+fn list_run(rt: &(impl Files + Print), name: &str, file: &str) -> io::Result<()> {
+    rt.println(name)?;
+    let mut input = fs::open(rt, file)?;
+    list_input(&mut input, &mut io::writer(rt))
 }
 
 // The stored runs.
-fn runs() {
-    list_run(b"many", b"many.lin");
-    list_run(b"lines", b"lines.lin");
-    list_run(b"empty", b"empty.lin");
-    list_run(b"ill", b"ill.lin");
-    list_run(b"full", b"full.lin");
-    list_run(b"over", b"over.lin");
-    list_run(b"over_ill", b"over_ill.lin");
-    list_run(b"marked", b"marked.lin");
+fn runs(rt: &(impl Files + Print)) -> io::Result<()> {
+    list_run(rt, "many", "many.lin")?;
+    list_run(rt, "lines", "lines.lin")?;
+    list_run(rt, "empty", "empty.lin")?;
+    list_run(rt, "ill", "ill.lin")?;
+    list_run(rt, "full", "full.lin")?;
+    list_run(rt, "over", "over.lin")?;
+    list_run(rt, "over_ill", "over_ill.lin")?;
+    list_run(rt, "marked", "marked.lin")
 }
 
 // Whether the input at the first field has the listing in the second.
@@ -64,13 +64,13 @@ fn replay_listings(file: &[u8]) -> Score {
 }
 
 // Loads the file and compares it.
-fn compare(space: &mut [u8; SPACE]) {
-    let n = load(b"listing.bin", space);
-    say(b"listings", replay_listings(part(space, 0, n)));
+fn compare(rt: &(impl Files + Print), space: &mut [u8; SPACE]) -> io::Result<()> {
+    let n = load(rt, "listing.bin", space)?;
+    say(rt, b"listings", replay_listings(part(space, 0, n)))
 }
 
-fn main() {
-    runs();
+fn main(rt: HostRuntime) -> io::Result<()> {
+    runs(&rt)?;
     let mut space = [0u8; SPACE];
-    compare(&mut space);
+    compare(&rt, &mut space)
 }

@@ -1,7 +1,6 @@
 // Steps that compare: words with the data of a step or with other words, a text that the answer names, and bytes of the output.
 use crate::memory::{TEXT, TEXT2, WORDS, get, place, plus};
 use crate::stores::{BYTES, item};
-use check::same;
 use test_vectors::all_are;
 use text::part;
 
@@ -85,7 +84,7 @@ fn spanned(text: &[u8], start: usize, len: usize, data: &[u8]) -> bool {
     if text.len() - start < len {
         return false;
     }
-    same(part(text, start, len), data)
+    part(text, start, len) == data
 }
 
 // The same of the span that two words are, of the lent text.
@@ -96,7 +95,7 @@ pub fn shows(m: &[u32; WORDS], at: usize, data: &[u8], bytes: &[u8; BYTES]) -> b
 
 // Whether the bytes where the word at a place says are these.
 pub fn wrote(m: &[u32; WORDS], at: usize, data: &[u8], bytes: &[u8; BYTES]) -> bool {
-    same(part(bytes, place(m, at), data.len()), data)
+    part(bytes, place(m, at), data.len()) == data
 }
 
 // Whether the bytes that a start and a length in the memory say are all this one.
@@ -108,5 +107,5 @@ pub fn stayed(m: &[u32; WORDS], at: usize, data: &[u8], bytes: &[u8; BYTES]) -> 
 // Whether the output's bytes that a start and a length in the memory say are the second text.
 pub fn is_text2(m: &[u32; WORDS], at: usize, bytes: &[u8; BYTES], out: &[u8; BYTES]) -> bool {
     let text = part(bytes, place(m, TEXT2), place(m, TEXT2 + 1));
-    same(part(out, place(m, at), place(m, plus(at, 1))), text)
+    part(out, place(m, at), place(m, plus(at, 1))) == text
 }

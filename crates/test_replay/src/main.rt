@@ -9,6 +9,8 @@ mod calls;
 mod steps;
 
 use crate::steps::run_steps;
+use std::io;
+use std::rt::Files;
 use test_memory::{BYTES, WORDS};
 use test_vectors::load;
 use text::part;
@@ -18,35 +20,36 @@ const FILE: usize = 1_310_720;
 
 // Loads a file, and does its steps.
 fn load_and_run(
-    name: &[u8],
+    rt: &(impl Files + Print),
+    name: &str,
     file: &mut [u8; FILE],
     m: &mut [u32; WORDS],
     bytes: &mut [u8; BYTES],
     out: &mut [u8; BYTES],
-) {
-    let n = load(name, file);
-    run_steps(part(file, 0, n), m, bytes, out);
+) -> io::Result<()> {
+    let n = load(rt, name, file)?;
+    run_steps(rt, part(file, 0, n), m, bytes, out)
 }
 
 // The same with a memory of its own.
-fn replay_steps(name: &[u8]) {
+fn replay_steps(rt: &(impl Files + Print), name: &str) -> io::Result<()> {
     let mut file = [0u8; FILE];
     let mut m = [0u32; WORDS];
     let mut bytes = [0u8; BYTES];
     let mut out = [0u8; BYTES];
-    load_and_run(name, &mut file, &mut m, &mut bytes, &mut out);
+    load_and_run(rt, name, &mut file, &mut m, &mut bytes, &mut out)
 }
 
-fn main() {
-    replay_steps(b"tokens.bin");
-    replay_steps(b"utf8.bin");
-    replay_steps(b"boards.bin");
-    replay_steps(b"files.bin");
-    replay_steps(b"writer.bin");
-    replay_steps(b"equality.bin");
-    replay_steps(b"appends.bin");
-    replay_steps(b"annotation.bin");
-    replay_steps(b"pbn.bin");
-    replay_steps(b"accents.bin");
-    replay_steps(b"by_hand.bin");
+fn main(rt: HostRuntime) -> io::Result<()> {
+    replay_steps(&rt, "tokens.bin")?;
+    replay_steps(&rt, "utf8.bin")?;
+    replay_steps(&rt, "boards.bin")?;
+    replay_steps(&rt, "files.bin")?;
+    replay_steps(&rt, "writer.bin")?;
+    replay_steps(&rt, "equality.bin")?;
+    replay_steps(&rt, "appends.bin")?;
+    replay_steps(&rt, "annotation.bin")?;
+    replay_steps(&rt, "pbn.bin")?;
+    replay_steps(&rt, "accents.bin")?;
+    replay_steps(&rt, "by_hand.bin")
 }

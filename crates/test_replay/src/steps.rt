@@ -1,7 +1,7 @@
 // The steps of a file, one after another. A step is a byte for what it does, a place of the memory in two bytes, the number of its data's bytes in one, or
 // 255 and then the number in two, and the data; numbers of more than a byte are little-endian. (oracle/README.md has what each step does.)
 use crate::calls::called;
-use std::num::{wrapping_add_u32, wrapping_sub_u32};
+use std::io;
 use test_memory::{
     BACK, BYTES, DEPTH, GROUPS, NEXT, OK, START, WORDS, agree, all_moved, copy, count_all, fill,
     get, half, is_text2, item, place, plus, put, set, shows, stayed, store_bytes, word, words_are,
@@ -25,7 +25,7 @@ fn go(m: &mut [u32; WORDS], at: usize) {
 
 // Goes back.
 fn back(m: &mut [u32; WORDS]) {
-    let depth = wrapping_sub_u32(get(m, DEPTH), 1);
+    let depth = get(m, DEPTH).wrapping_sub(1);
     let next = get(m, plus(BACK, depth as usize));
     set(m, DEPTH, depth);
     set(m, NEXT, next);
@@ -45,7 +45,7 @@ fn case(m: &mut [u32; WORDS], group: usize) {
     let failed = plus(at, 1);
     let n = get(m, at);
     if (get(m, OK) == 1) & (get(m, failed) == 0) {
-        set(m, at, wrapping_add_u32(n, 1));
+        set(m, at, n.wrapping_add(1));
     } else {
         set(m, failed, 1);
     }
@@ -53,13 +53,14 @@ fn case(m: &mut [u32; WORDS], group: usize) {
 }
 
 // Prints the line of a group, and begins it anew.
-fn say_group(m: &mut [u32; WORDS], group: usize, name: &[u8]) {
+fn say_group(rt: &impl Print, m: &mut [u32; WORDS], group: usize, name: &[u8]) -> io::Result<()> {
     let at = plus(GROUPS, plus(group, group));
     let cases = get(m, at) as u64;
     let ok = get(m, plus(at, 1)) == 0;
-    test_vectors::say(name, Score { cases, ok });
+    test_vectors::say(rt, name, Score { cases, ok })?;
     set(m, at, 0);
     set(m, plus(at, 1), 0);
+    Ok(())
 }
 
 // Stores the sum or the difference of a word and another.
@@ -67,9 +68,9 @@ fn sum(m: &mut [u32; WORDS], at: usize, other: usize, less: bool) {
     let a = get(m, at);
     let b = get(m, other);
     let c = if less {
-        wrapping_sub_u32(a, b)
+        a.wrapping_sub(b)
     } else {
-        wrapping_add_u32(a, b)
+        a.wrapping_add(b)
     };
     set(m, at, c);
 }
@@ -99,15 +100,16 @@ fn store_step(op: u8, at: usize, data: &[u8], m: &mut [u32; WORDS], bytes: &mut 
 }
 
 // The steps that go elsewhere, count and print.
-fn turn(op: u8, at: usize, data: &[u8], m: &mut [u32; WORDS]) {
+fn turn(rt: &impl Print, op: u8, at: usize, data: &[u8], m: &mut [u32; WORDS]) -> io::Result<()> {
     match op {
         16 => copy(m, at, START, 1, 1),
         17 => go(m, at),
         18 => back(m),
         19 => case(m, at),
         21 => jump_if(m, at, half(data, 0), item(data, 2, 1)),
-        _ => say_group(m, at, data),
+        _ => say_group(rt, m, at, data)?,
     }
+    Ok(())
 }
 
 // The steps that compare.
@@ -135,16 +137,17 @@ fn expect(m: &mut [u32; WORDS], agrees: bool) {
 
 // Does one step. Those from 64 on are of the output.
 fn do_step(
+    rt: &impl Print,
     op: u8,
     at: usize,
     data: &[u8],
     m: &mut [u32; WORDS],
     bytes: &mut [u8; BYTES],
     out: &mut [u8; BYTES],
-) {
+) -> io::Result<()> {
     match op {
         0..=15 => store_step(op, at, data, m, bytes),
-        16..=31 => turn(op, at, data, m),
+        16..=31 => turn(rt, op, at, data, m)?,
         32..=47 => {
             let agrees = compare_step(op, at, data, m, bytes);
             expect(m, agrees);
@@ -160,16 +163,18 @@ fn do_step(
             expect(m, agrees);
         }
     }
+    Ok(())
 }
 
 // Does the step at a place of the file. The memory then says where the next one is.
 fn one(
+    rt: &impl Print,
     file: &[u8],
     at: usize,
     m: &mut [u32; WORDS],
     bytes: &mut [u8; BYTES],
     out: &mut [u8; BYTES],
-) {
+) -> io::Result<()> {
     let op = (item(file, at, 1) % 256) as u8;
     let to = half(file, plus(at, 1));
     let short = item(file, plus(at, 3), 1) as usize;
@@ -178,16 +183,17 @@ fn one(
     let start = if long { plus(at, 6) } else { plus(at, 4) };
     set(m, START, word(start));
     set(m, NEXT, word(plus(start, len)));
-    do_step(op, to, part(file, start, len), m, bytes, out);
+    do_step(rt, op, to, part(file, start, len), m, bytes, out)
 }
 
 // Does the steps of a file.
 pub fn run_steps(
+    rt: &impl Print,
     file: &[u8],
     m: &mut [u32; WORDS],
     bytes: &mut [u8; BYTES],
     out: &mut [u8; BYTES],
-) {
+) -> io::Result<()> {
     let mut left = STEPS;
     set(m, OK, 1);
     set(m, NEXT, 0);
@@ -195,9 +201,10 @@ pub fn run_steps(
     while 0 < left {
         let at = place(m, NEXT);
         if file.len() <= at {
-            return;
+            return Ok(());
         }
-        one(file, at, m, bytes, out);
+        one(rt, file, at, m, bytes, out)?;
         left -= 1;
     }
+    Ok(())
 }

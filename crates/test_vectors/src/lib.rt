@@ -4,8 +4,10 @@
 // A file of listings is a run of fields, each a little-endian length of four bytes and that many bytes.
 ghost use Rattle.std.specs.Prelude.{◌^◌, ◌<◌, ◌≤◌};
 
-use check::same;
-use libc::STDOUT_FILENO;
+use input::read_full;
+use std::rt::Files;
+use std::{fs, io};
+use text::part;
 
 // The place after a field that a file does not have. No field begins there and no file ends there, so that a replay that
 // comes to it finds the file cut short.
@@ -75,7 +77,7 @@ pub fn vector_at(file: &[u8], at: usize) -> Field {
 
 // Whether the field holds these bytes.
 pub fn field_is(file: &[u8], f: Field, bytes: &[u8]) -> bool {
-    same(text::part(file, f.start, f.len), bytes)
+    part(file, f.start, f.len) == bytes
 }
 
 // Whether every byte from a place on is this one.
@@ -98,15 +100,10 @@ pub fn words(rows: &[u32], n: usize) -> &[u32] {
     &rows[..n]
 }
 
-// Reads a file whole, or as much as fits, and answers its length, 0 where it can't be read.
-pub fn load(name: &[u8], buf: &mut [u8]) -> usize {
-    let fd = os::open_read(name);
-    if fd < 0 {
-        return 0;
-    }
-    let n = io::read_full(fd, buf);
-    libc::close(fd);
-    n
+// Reads a file whole, or as much as fits, and answers its length.
+pub fn load<R: Files>(rt: &R, name: &str, buf: &mut [u8]) -> io::Result<usize> {
+    let mut file = fs::open(rt, name)?;
+    read_full(&mut file, buf)
 }
 
 // The score before the first case.
@@ -118,7 +115,7 @@ pub fn fresh() -> Score {
 pub fn after_case(score: Score, agrees: bool) -> Score {
     if score.ok & agrees {
         return Score {
-            cases: std::num::wrapping_add_u64(score.cases, 1),
+            cases: score.cases.wrapping_add(1),
             ok: true,
         };
     }
@@ -129,15 +126,15 @@ pub fn after_case(score: Score, agrees: bool) -> Score {
 }
 
 // Prints a group's name, the number of its cases, and `ok`; or where it differs, which is at 0 where it has no cases.
-pub fn say(group: &[u8], score: Score) {
-    io::write_all(STDOUT_FILENO, group);
-    io::write_all(STDOUT_FILENO, b" ");
+pub fn say(rt: &impl Print, group: &[u8], score: Score) -> io::Result<()> {
+    rt.write_all(group)?;
+    rt.write_all(b" ")?;
     if score.ok & (0 < score.cases) {
-        io::print_decimal(STDOUT_FILENO, score.cases);
-        io::write_all(STDOUT_FILENO, b" ok\n");
+        rt.print(score.cases)?;
+        rt.write_all(b" ok\n")
     } else {
-        io::write_all(STDOUT_FILENO, b"differs at ");
-        io::print_decimal(STDOUT_FILENO, score.cases);
-        io::write_all(STDOUT_FILENO, b"\n");
+        rt.write_all(b"differs at ")?;
+        rt.print(score.cases)?;
+        rt.write_all(b"\n")
     }
 }
