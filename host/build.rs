@@ -35,7 +35,7 @@ fn built() -> PathBuf {
         &fs::read_to_string(&list).expect("crates.txt"),
         "lin_host_c",
     );
-    let mut parts = vec![list];
+    let mut parts = vec![list, root.join("tools/archive")];
     for name in &crates {
         // not its out/, which each check changes
         let folders =

@@ -1,4 +1,4 @@
-//! The exports of the crate `lin_host`, reached through `lin_host_rust`, compared
+//! The exports of the crate `lin_host_c`, reached through `lin_host_rust`, compared
 //! with the upstream Rust and with documents 01 and 02 in plain Rust. Trimming removes
 //! byte order marks (document 02, N2), and upstream's leaves them: upstream is asked
 //! only about texts without one. It has no finder: names are compared by the model

@@ -6,7 +6,7 @@ ghost use Rattle.lin_host_numbers.specs.Boards.{heading_numbers, Reading, readin
 use board::{parse_lin, parse_lin_heading};
 use lin_host_numbers::{LinHeading, heading_numbers};
 
-// The exports.
+// What lin_host_c exports.
 pub fn lin_parse_heading(text: &[u8]) -> LinHeading
     ensures { result ≡ heading_numbers (read_heading text.now) }
 {

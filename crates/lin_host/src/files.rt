@@ -157,7 +157,7 @@ fn next_step(next: NextBoard) -> BoardStep
     }
 }
 
-// The exports.
+// What lin_host_c exports.
 
 pub fn lin_count_boards(text: &[u8]) -> LinAnswer
     ensures { result ≡ numbers_of (count_boards text.now) }

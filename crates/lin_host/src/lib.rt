@@ -1,6 +1,6 @@
 #![tactic(auto)]
 
-// The entries as C functions on numbers and byte slices, for the Rust host. (01: "Entries on numbers and byte slices are exported ..")
+// The entries on numbers and byte slices, which lin_host_c exports as C functions. (01: "Entries on numbers and byte slices are exported ..")
 mod annotations;
 mod auctions;
 mod boards;

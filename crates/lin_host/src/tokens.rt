@@ -73,7 +73,7 @@ fn stepped(s: Step) -> LinStep
     }
 }
 
-// The exports.
+// What lin_host_c exports.
 
 pub fn lin_open(text: &[u8]) -> LinAnswer
     ensures { result ≡ numbers_of (open_text text.now) }

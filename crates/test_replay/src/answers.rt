@@ -1,4 +1,4 @@
-// The answers of the exports, laid into the memory: eight numbers, and a board where there is one. (01: Eight refusals, "With it"; Records; 02: N1)
+// The answers of these functions, laid into the memory: eight numbers, and a board where there is one. (01: Eight refusals, "With it"; Records; 02: N1)
 use lin_host::{
     LinAnswer, LinAuction, LinBoard, LinBoards, LinHeading, LinPart, LinRead, LinSection, LinStep,
 };

@@ -1,4 +1,4 @@
-// The exports, called with what the memory says is lent, and their answers laid into it. (01: Tokens; Board; File; Writer; From PBN; 02: N1, N3)
+// The functions of `lin_host`, called with what the memory says is lent, and their answers laid into it. (01: Tokens; Board; File; Writer; From PBN; 02: N1, N3)
 use crate::answers::{
     lay_answer, lay_auction, lay_boards, lay_heading, lay_part, lay_read, lay_section, lay_step,
     lay_with,

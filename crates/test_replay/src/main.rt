@@ -1,7 +1,7 @@
 #![tactic(auto)]
 
 // Replays the stored vectors: the oracle's answers, Python's about names with accents, and the cases by hand from documents 01 and 02. The steps of a file
-// lend texts, rows, boards and work space, call the exports of `lin_host`, and compare the answers and all that was lent; each group of cases prints a line.
+// lend texts, rows, boards and work space, call the functions of `lin_host`, and compare the answers and all that was lent; each group of cases prints a line.
 // (01: "Entries on numbers and byte slices are exported .."; Eight refusals, "All lent memory stays"; 02: N3)
 mod answers;
 mod boards;

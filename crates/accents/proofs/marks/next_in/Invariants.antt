@@ -1,7 +1,6 @@
 -- `accents::marks::next_in` meets its contract. The loop's invariant: no mark of the class is passed. The measure is what is left of the length.
 use Prim.Native.Nat.{◌-◌}
 use lib.ListN.{length}
-use lib.ListN.{length}
 use Rattle.accents.proofs.MarkLaws.{Passed}
 use Rattle.accents.proofs.marks.next_in.Given as goal
 

@@ -1,7 +1,6 @@
 -- `board_fields::on_present` meets its contract: by the test.
 use Rattle.board_fields.proofs.FieldLaws.{off, changed}
 use mathlib.Core.Path.{refl}
-use Rattle.board_fields.proofs.FieldLaws.{off, changed}
 use Rattle.board_fields.proofs.fields.on_present.Goals as goal
 
 pub returns-then-not-on : goal.returns-then-not-on

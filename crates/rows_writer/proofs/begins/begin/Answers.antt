@@ -13,11 +13,6 @@ use Rattle.rows_writer.proofs.begins.begin.Lts
 use Rattle.rows_writer.proofs.begins.begin.Reads
 use Rattle.rows_writer.proofs.begins.begin.Tie
 use Rattle.rows_writer.proofs.begins.begin.Goals as goal
-use mathlib.Core.List.{List}
-use Rattle.lin_spec.specs.ThirdDemand.{Typed}
-use Rattle.rows.specs.declared.CallRow.{CallRow}
-use Rattle.rows.specs.Rows.{lent_rows}
-use Rattle.rows.proofs.RowType.{rows_typed}
 
 -- what the types of the parameters say is so at the start of every call, whatever the rows: four names, 208 counts, a claim of one byte
 lent_typed : (c : Lts.Start Tie.the-claims Reads.Pre Reads.Post) (rs : List CallRow) → Typed (lent_rows c.args.text.now c.args.board rs c.args.cards.now)
