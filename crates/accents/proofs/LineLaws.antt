@@ -7,7 +7,9 @@ use mathlib.Core.Bool.{Bool, true, false, ◌&&◌, false≢true}
 use mathlib.Core.List.{List, [], ◌∷◌}
 use lib.Dec.{eqb, ltb}
 use lib.ListN.{length, get_or}
-use borrow.Author.Tests.{eq-eqb, ne_eqb, ltb-true, lt-ltb, le-ltb, lt-leb}
+use Rattle.std.specs.List.Sorted.{IsPartitionPoint, IsPartitionedBy, IsNonDecreasingBy}
+use Rattle.std.proofs.lemmas.List.Sorted.{IsNonDecreasingBy-from_default, IsPartitionedBy-ltb}
+use borrow.Author.Tests.{eq-eqb, ne_eqb, ltb-true, ltb-false, lt-ltb, le-ltb, lt-leb}
 use Rattle.lin_spec.specs.Base.{pick, All, all, eq_all, eq_list}
 use Rattle.lin_spec.proofs.Base.{and_left, and_right, picked, split, eq_list_lem, all-at}
 use Rattle.accents.specs.Table.{Mapping, mapping_table}
@@ -23,6 +25,11 @@ unfolding table_words
 word-is [] i h = absurd (not-suc-le-zero h)
 word-is (m ∷ t) zero h = refl
 word-is (m ∷ t) (suc i) h = word-is t i (le_of_suc-le-suc h)
+
+words-length : (t : List Mapping) → length (table_words t) ≡ length t
+unfolding table_words
+words-length [] = refl
+words-length (m ∷ t) = omega (arith, words-length t)
 
 -- its parts, where each fits 16 bits
 char_part : (c a b : ℕ) → a < 65536 → b < 65536 → (c * 4294967296 + a * 65536 + b) / 4294967296 ≡ c
@@ -153,9 +160,6 @@ outside_ranges c h = lookup-none mapping_table c (λ j k f. false≢true (sym h 
 
 -- Steps of the code, over the numbers w of the table
 
-pub place-within : (c : ℕ) → lines_below mapping_table c ≤ 501
-place-within c = omega (arith, place_most mapping_table c, lines)
-
 module _ (w : List ℕ) (e : w ≡ table_words mapping_table) (c i x : ℕ) (d : x ≡ get_or w i 0 / 4294967296) (h : i < 501) where
   within : i < length mapping_table
   within = omega (arith, lines)
@@ -172,10 +176,10 @@ module _ (w : List ℕ) (e : w ≡ table_words mapping_table) (c i x : ℕ) (d :
   char_is : x ≡ char_of (mapping_at mapping_table i)
   char_is = d ∙ ap (λ (v : ℕ). v / 4294967296) there ∙ char_part (char_of (mapping_at mapping_table i)) (first_given (mapping_at mapping_table i)) (second_given (mapping_at mapping_table i)) fits.0 fits.1
 
-  pub go_up : x < c → i + 1 ≤ lines_below mapping_table c
+  go_up : x < c → i + 1 ≤ lines_below mapping_table c
   go_up l = omega (arith, place_after mapping_table c i table_rises within (omega (arith, char_is)))
 
-  pub go_down : c ≤ x → lines_below mapping_table c ≤ i
+  go_down : c ≤ x → lines_below mapping_table c ≤ i
   go_down l = place-before mapping_table c i within (omega (arith, char_is))
 
   -- the line at the place is for another character: none is for c
@@ -225,3 +229,32 @@ below_lines c h =
     let a : c < 0x340 = omega arith in
     let b : c < 0x1E00 = omega arith in
     outside_lines c (simp (lt-leb 0xC0 c h, lt-leb 0x340 c a, lt-leb 0x1E00 c b))
+
+-- The numbers rise, so a search by halves finds the first line that is not for a character below c
+
+module _ (w : List ℕ) (e : w ≡ table_words mapping_table) where
+  all-words : length w ≡ 501
+  all-words = ap length e ∙ words-length mapping_table ∙ lines
+
+  words_rise : IsNonDecreasingBy (λ v. v / 4294967296) w
+  words_rise = IsNonDecreasingBy-from_default (λ v. v / 4294967296) w 0 (λ i j h l. split i j (λ k. more i j k l) (λ k. let d : i ≡ j = omega arith in rw d (omega arith)))
+    where
+      more : (i j : ℕ) → i < j → j < length w → get_or w i 0 / 4294967296 ≤ get_or w j 0 / 4294967296
+      more i j k l =
+          let a = char_is w e 0 i _ refl (omega (arith, all-words)) in
+          let b = char_is w e 0 j _ refl (omega (arith, all-words)) in
+          omega (arith, rises_two mapping_table i j table_rises k (omega (arith, all-words, lines)))
+
+  pub halves : (c : ℕ) → IsPartitionedBy (λ v. ltb (v / 4294967296) c) w
+  halves c = IsPartitionedBy-ltb (λ v. v / 4294967296) w c words_rise
+
+  pub halved : (c i : ℕ) → i ≤ length w → IsPartitionPoint (λ v. ltb (v / 4294967296) c ≡ true) (λ v. ltb (v / 4294967296) c ≡ false) w i → i ≡ lines_below mapping_table c
+  halved c i h p =
+      let n = lines_below mapping_table c in
+      let m = place_most mapping_table c in
+      split i n
+      (λ l. let d = go_down w e c i _ refl (omega (arith, m, lines)) (ltb-false (get_or w i 0 / 4294967296) c (p.1 i 0 (omega arith) (omega (arith, all-words, m, lines)))) in absurd (omega arith))
+      (λ k.
+      split n i
+      (λ l. let u = go_up w e c n _ refl (omega (arith, all-words)) (ltb-true (get_or w n 0 / 4294967296) c (p.0 n 0 (omega arith) l)) in absurd (omega arith))
+      (λ l. omega arith))

@@ -61,9 +61,6 @@ pub record Along (k : ℕ) (x y : List ℕ) (i j : ℕ) : Type 0 where
   pub second : j < length y → in_class k (get_or y j 0) ≡ true
   pub left : eq_list (of_class k (drop i x)) (of_class k (drop j y)) ≡ eq_list (of_class k x) (of_class k y)
 
-pub along_start : (k : ℕ) (x y : List ℕ) (i j : ℕ) → NextIn k x 0 i → NextIn k y 0 j → Along k x y i j
-along_start k x y i j f g = record { first = f.there; second = g.there; left = rw (f.same, g.same) }
-
 module _ (k : ℕ) (x y : List ℕ) (i j : ℕ) (a : Along k x y i j) where
   -- the first has more, and the second is at its end
   pub along_short : i < length x → length y ≤ j → false ≡ eq_list (of_class k x) (of_class k y)
@@ -94,32 +91,9 @@ module _ (k : ℕ) (x y : List ℕ) (i j : ℕ) (a : Along k x y i j) where
       left = rw (f.same, g.same) (simp (eq-eqb (get_or x i 0) (get_or y j 0) e) at both);
     }
 
--- Two texts of one length, character by character
-
--- from i on they are as much the same as whole
-abbrev pub Words : (x y : List ℕ) (i : ℕ) → Type 0
-Words x y i = eq_list (drop i x) (drop i y) ≡ eq_list x y
-
-module _ (x y : List ℕ) (i : ℕ) (w : Words x y i) (e : length x ≡ length y) where
-  module _ (l : i < length x) where
-    here : eq_list (get_or x i 0 ∷ drop (suc i) x) (get_or y i 0 ∷ drop (suc i) y) ≡ eq_list x y
-    here = rw (drop-cons x i 0 l, drop-cons y i 0 (let m : i < length y = omega arith in m)) at w
-
-    pub words_differ : (get_or x i 0 ≡ get_or y i 0 → ⊥) → false ≡ eq_list x y
-    unfolding eq_all
-    words_differ d = simp (ne_eqb (get_or x i 0) (get_or y i 0) d) at here
-
-    pub words-next : get_or x i 0 ≡ get_or y i 0 → Words x y (i + 1)
-    unfolding eq_all
-    words-next d = rw add-one (simp (eq-eqb (get_or x i 0) (get_or y i 0) d) at here)
-
-  pub words-end : length x ≤ i → true ≡ eq_list x y
-  unfolding eq_all
-  words-end h = rw (drop_of_length-le x h, drop_of_length-le y (let m : length y ≤ i = omega arith in m)) at w
-
 -- texts that are the same have the same order
-pub words_ordered : (x y : List ℕ) (t : Bool) → t ≡ eq_list x y → t ≡ true → true ≡ eq_list (order x) (order y)
-words_ordered x y t e h = sym (rw (eq_list_lem x y (sym e ∙ h)) (list_eq (order y)))
+pub same_ordered : (x y : List ℕ) → x ≡ y → true ≡ eq_list (order x) (order y)
+same_ordered x y e = sym (rw e (list_eq (order y)))
 
 -- All classes
 

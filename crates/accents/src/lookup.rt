@@ -53,17 +53,7 @@ fn line_of(mappings: &[u64; 501], c: u32) -> usize
     requires { mappings.now ≡ table_words mapping_table }
     ensures { result ≡ lines_below mapping_table c }
 {
-    let mut low: usize = 0;
-    let mut high: usize = 501;
-    while low < high {
-        let mid = low + (high - low) / 2;
-        if char_of(mappings[mid]) < c {
-            low = mid + 1;
-        } else {
-            high = mid;
-        }
-    }
-    low
+    mappings.partition_point(|&w| char_of(w) < c)
 }
 
 // Whether `c` stands where lines are: from the first to the last of each of three runs. Most characters do not.

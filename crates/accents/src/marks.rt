@@ -13,15 +13,13 @@ fn next_in(classes: &[u8; 112], s: &[u32], from: usize, k: u8) -> usize
     requires { classes.now ≡ the_classes }
     ensures { NextIn k s.now from result }
 {
-    let mut i = from;
-    while i < s.len() {
+    for i in from..s.len() {
         let n = class_of(classes, s[i]);
         if (n == 0) | (n == k) {
             return i;
         }
-        i += 1;
     }
-    i
+    from.max(s.len())
 }
 
 // Whether the marks of class `k` and what stands between the runs are the same.
@@ -52,28 +50,10 @@ fn same_classes(x: &[u32], y: &[u32]) -> bool
     ensures { result ≡ eq_list (order x.now) (order y.now) }
 {
     let copy = classes();
-    let ranks = RANKS;
-    let mut n: usize = 0;
-    while n < 9 {
-        if !same_class(&copy, x, y, ranks[n]) {
+    for k in RANKS {
+        if !same_class(&copy, x, y, k) {
             return false;
         }
-        n += 1;
-    }
-    true
-}
-
-// Whether two texts of one length have the same characters.
-fn same_chars(x: &[u32], y: &[u32]) -> bool
-    requires { length x.now ≡ length y.now }
-    ensures { result ≡ eq_list x.now y.now }
-{
-    let mut i: usize = 0;
-    while i < x.len() {
-        if x[i] != y[i] {
-            return false;
-        }
-        i += 1;
     }
     true
 }
@@ -85,7 +65,7 @@ pub fn same_order(x: &[u32], y: &[u32]) -> bool
     if x.len() != y.len() {
         return false;
     }
-    if same_chars(x, y) {
+    if x == y {
         return true;
     }
     same_classes(x, y)

@@ -68,9 +68,6 @@ module _ (o : List ℕ) (at : ℕ) (f : Full) (h : FullFits o at f) where
               let z : rest2 f ≡ f.third ∷ [] = rw k in
               subst (λ (l : List ℕ). Left d' n' l o at (full f)) z after-second
 
-          pub third_room : Room d' n' (f.third ∷ [])
-          third_room = roomy (f.third ∷ []) [] before_third
-
           pub three_put : {d'' : List ℕ} {n'' : ℕ} → Put d' n' (f.third ∷ []) d'' n'' → Put o at (full f) d'' n''
           three_put r = finish (step {s = f.third ∷ []} {t = []} before_third r)
 

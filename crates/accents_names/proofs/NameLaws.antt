@@ -1,13 +1,15 @@
 -- Laws of the code that compares a name with the one that is looked for, whose mapped characters stand at the front of the work space. (02: N3)
 -- Assumes nothing.
-use Prim.Native.Nat.{ℕ, ◌+◌, ◌-◌, ◌<◌, ◌≤◌}
-use native.Mathlib.Numerals.{add-one}
+use Prim.Native.Nat.{ℕ, zero, suc, ◌+◌, ◌-◌, ◌≤◌}
 use native.Mathlib.Omega.{arith}
-use mathlib.Core.Path.{◌≡◌, ap, sym, ◌∙◌}
-use mathlib.Core.Bool.{Bool, true, false, false≢true}
-use mathlib.Core.List.{List, ◌++◌, append_assoc}
-use lib.ListN.{length, take, drop, get_or, length-take, drop_of_length-le}
-use lib.Seq.{drop-cons, take-append_seam, drop-append_seam}
+use mathlib.Core.Path.{◌≡◌, refl, ap, sym, ◌∙◌}
+use mathlib.Core.Bool.{Bool, true, false, and-false}
+use mathlib.Core.List.{List, [], ◌∷◌, ◌++◌, append_assoc}
+use lib.ListN.{length, take, drop, get_or, length-take}
+use lib.Seq.{take-append_seam, drop-append_seam}
+use lib.Dec.{ltb}
+use Rattle.std.specs.Bool.{MatchBool}
+use Rattle.std.specs.Str.{IsAscii, IsNotAscii}
 use borrow.Author.Tests.{lt-ltb, le-ltb}
 use Rattle.lin_spec.specs.Base.{all, eq_list}
 use Rattle.lin_spec.specs.Output.{overlay}
@@ -24,23 +26,21 @@ use Rattle.accents_names.specs.declared.names.Sought.{Sought}
 
 -- The bytes of a name
 
--- from i on they are of ASCII as much as all are
-abbrev pub Asciis : (s : List ℕ) (i : ℕ) → Type 0
-Asciis s i = only_ascii (drop i s) ≡ only_ascii s
+all-ascii : (s : List ℕ) → IsAscii s → true ≡ only_ascii s
+unfolding only_ascii all
+all-ascii [] h = refl
+all-ascii (b ∷ s) h = simp (lt-ltb b 0x80 (h 0)) (all-ascii s (λ i. h (suc i)))
 
-module _ (s : List ℕ) (i : ℕ) (a : Asciis s i) where
-  module _ (l : i < length s) where
-    pub ascii-stop : 0x80 ≤ get_or s i 0 → false ≡ only_ascii s
-    unfolding only_ascii all
-    ascii-stop h = simp (le-ltb (get_or s i 0) 0x80 h) at (rw (drop-cons s i 0 l) at a)
+not-ascii : (s : List ℕ) (i : ℕ) → 0x80 ≤ get_or s i 0 → false ≡ only_ascii s
+unfolding only_ascii all
+not-ascii [] i h = absurd (omega arith)
+not-ascii (b ∷ s) zero h = simp (le-ltb b 0x80 h)
+not-ascii (b ∷ s) (suc i) h = rw (← not-ascii s i h) (sym (and-false (ltb b 0x80)))
 
-    pub ascii-next : get_or s i 0 < 0x80 → Asciis s (i + 1)
-    unfolding only_ascii all
-    ascii-next h = rw add-one (simp (lt-ltb (get_or s i 0) 0x80 h) at (rw (drop-cons s i 0 l) at a))
-
-  pub ascii-end : length s ≤ i → true ≡ only_ascii s
-  unfolding only_ascii all
-  ascii-end h = rw (drop_of_length-le s h) at a
+-- std's test is the definition's
+pub ascii-is : (s : List ℕ) (t : Bool) → MatchBool t (IsAscii s) (IsNotAscii s) → t ≡ only_ascii s
+ascii-is s true h = all-ascii s h
+ascii-is s false h = not-ascii s h.0 h.1
 
 -- A text put into work space
 
@@ -70,10 +70,6 @@ module _ (o : List ℕ) (n : ℕ) (y d : List ℕ) (m : ℕ) (r : Room o n y) (p
       ap (λ (k : ℕ). take k (drop n d)) k ∙ ap (take (length y)) e ∙ take-append_seam y (drop (n + length y) o)
 
 -- The name that is looked for
-
--- one of ASCII needs nothing in the work space
-pub laid-ascii : (name : List ℕ) (s : Sought) (o : List ℕ) → Known name s → s.ascii ≡ true → Laid name s o
-laid-ascii name s o k h = record { known = k; front = λ f. absurd (false≢true (sym f ∙ h)) }
 
 pub laid_put : (name : List ℕ) (s : Sought) (o d : List ℕ) (m : ℕ) → Known name s → Room o 0 (mapped (chars name)) → Put o 0 (mapped (chars name)) d m → Laid name s d
 unfolding places

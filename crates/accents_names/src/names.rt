@@ -2,7 +2,7 @@
 ghost use Rattle.std.specs.Prelude.{◌≡◌, ◌<◌, length};
 ghost use Rattle.accents.specs.Table.{mapping_table};
 ghost use Rattle.accents.specs.Lines.{table_words};
-ghost use Rattle.accents.specs.Names.{same_name, only_ascii};
+ghost use Rattle.accents.specs.Names.{same_name};
 ghost use Rattle.accents_names.specs.Work.{Fillable, Known, Laid, Comparable};
 
 use crate::work::{put_mapped, same_parts};
@@ -16,27 +16,13 @@ pub struct Sought {
     pub ascii: bool,
 }
 
-// Whether each byte is of ASCII.
-fn only_ascii(s: &[u8]) -> bool
-    ensures { result ≡ only_ascii s.now }
-{
-    let mut i: usize = 0;
-    while i < s.len() {
-        if 0x80 <= s[i] {
-            return false;
-        }
-        i += 1;
-    }
-    true
-}
-
 // What is to be known of a name, by a copy of the table.
 pub fn sought_of(mappings: &[u64; 501], name: &[u8]) -> Sought
     requires { (mappings.now ≡ table_words mapping_table) × (length name.now < 4294967296) }
     ensures { Known name.now result }
 {
     let places = mapped_len(mappings, name);
-    let ascii = only_ascii(name);
+    let ascii = name.is_ascii();
     Sought { places, ascii }
 }
 

@@ -9,22 +9,22 @@ ghost use Rattle.accents.specs.Chars.{chars};
 ghost use Rattle.accents_names.specs.Work.{FullFits, Fillable};
 
 use accents::{Full, char_at, full_of, same_order};
-use output::put_word;
+use output::put;
 
 // Puts one to three characters.
 fn put_full(work: &mut [u32], at: usize, f: Full) -> usize
     requires { FullFits work.old at f }
     ensures { Put work.old at (full f) work.new result }
 {
-    let n = put_word(work, at, f.first);
+    let n = put(work, at, f.first);
     if f.count == 1 {
         return n;
     }
-    let m = put_word(work, n, f.second);
+    let m = put(work, n, f.second);
     if f.count == 2 {
         return m;
     }
-    put_word(work, m, f.third)
+    put(work, m, f.third)
 }
 
 // Puts the characters that `s` is mapped to from `at` on, by a copy of the table.

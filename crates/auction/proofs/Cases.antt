@@ -1,4 +1,5 @@
 -- Auctions as texts of bids, and what is answered, by computation. (02: N1) Assumes nothing.
+use Rattle.std.specs.Prelude.{Err, Ok}
 use Prim.Native.Nat.{ℕ}
 use Prim.Native.String.{String}
 use mathlib.Core.Path.{◌≡◌, refl}
@@ -8,7 +9,6 @@ use lib.Dec.{eqb}
 use Rattle.lin_spec.specs.Base.{pick, any, all, keep, eq_all, ascii}
 use Rattle.lin_spec.specs.White.{lower}
 use Rattle.lin_spec.specs.Refusals.{Answer, unless}
-use Rattle.lin_spec.specs.Refusals.Answer.{refused, accepted}
 use Rattle.lin_spec.specs.declared.Seat.{Seat}
 use Rattle.lin_spec.specs.declared.Seat.TheVariants.{South, West, North, East}
 use Rattle.lin_spec.specs.declared.Refusal.TheVariants.{BidUnknown}
@@ -38,12 +38,12 @@ pub record Case : Type 0 where
 
 infixl 70 ◌⇒◌
 pub ◌⇒◌ : String → Auction → Case
-s ⇒ a = record { text = s; is = accepted a }
+s ⇒ a = record { text = s; is = Ok a }
 
 -- refused by 9 with an index
 infixl 70 ◌⇏◌
 pub ◌⇏◌ : String → ℕ → Case
-s ⇏ i = record { text = s; is = refused (BidUnknown i) }
+s ⇏ i = record { text = s; is = Err (BidUnknown i) }
 
 -- a contract and its declarer
 pub in_contract : ℕ → Strain → Doubling → Seat → Auction
@@ -89,12 +89,12 @@ unfolding cases ◌⇒◌ ◌⇏◌ in_contract judged unless calls_of words gro
 answers_right = refl
 
 -- "Starting from the dealer": North deals, and East was the first of the last bidder's side to name clubs
-pub north_deals : judged North (words (ascii "1C 2C p 3C p p p")) ≡ accepted (in_contract 3 Clubs Undoubled East)
+pub north_deals : judged North (words (ascii "1C 2C p 3C p p p")) ≡ Ok (in_contract 3 Clubs Undoubled East)
 unfolding in_contract judged unless calls_of words grow any all keep eq_all lower names rank last_bid latest passes opponents opened ended follows lawful last_bid_at names_for has_named first_named declaring caller declarer contract outcome auction_after auction strain_by bid_by level_and_strain read_lower read_bid unknown_from
 north_deals = refl
 
 -- no call is an open auction
-pub no_call : (d : Seat) → judged d [] ≡ accepted Open
+pub no_call : (d : Seat) → judged d [] ≡ Ok Open
 unfolding judged unless calls_of auction auction_after outcome ended opened last_bid passes unknown_from
 no_call d = refl
 

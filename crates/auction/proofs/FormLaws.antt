@@ -1,4 +1,5 @@
 -- A bid is read exactly where its bytes, in small letters, are one of the 45 forms. (02: N1, "Read each bid, ignoring ASCII case, ..") Assumes nothing.
+use Rattle.std.specs.Prelude.{Option, Some, None}
 use Prim.Native.Nat.{ℕ, ◌≤◌, ◌<◌}
 use native.Mathlib.Omega.{arith}
 use mathlib.Core.Path.{◌≡◌, refl, sym, ◌∙◌}
@@ -14,22 +15,18 @@ use Rattle.bridge_auction.specs.declared.calls.Strain.{Strain}
 use Rattle.bridge_auction.specs.declared.calls.AuctionCall.{AuctionCall}
 use Rattle.auction.specs.Bids.{strain_by, bid_by, level_and_strain, read_lower, read_bid, known}
 use Rattle.auction.specs.CheckMeaning.{strain_words, bid_words, forms}
-use Rattle.auction.specs.declared.bids.StrainRead.{StrainRead}
-use Rattle.auction.specs.declared.bids.StrainRead.TheVariants.{Named, Unnamed}
-use Rattle.auction.specs.declared.bids.BidRead.{BidRead}
-use Rattle.auction.specs.declared.bids.BidRead.TheVariants.{Known, Unknown}
 
 -- What is read, as a test
 
-known-pick : (t : Bool) (c : AuctionCall) (r : BidRead) → known (pick t (Known c) r) ≡ (t || known r)
+known-pick : (t : Bool) (c : AuctionCall) (r : Option AuctionCall) → known (pick t (Some c) r) ≡ (t || known r)
 known-pick true c r = refl
 known-pick false c r = refl
 
-abbrev is_named : StrainRead → Bool
-is_named (Named t) = true
-is_named Unnamed = false
+abbrev is_named : Option Strain → Bool
+is_named (Some t) = true
+is_named None = false
 
-named-pick : (b : Bool) (t : Strain) (r : StrainRead) → is_named (pick b (Named t) r) ≡ (b || is_named r)
+named-pick : (b : Bool) (t : Strain) (r : Option Strain) → is_named (pick b (Some t) r) ≡ (b || is_named r)
 named-pick true t r = refl
 named-pick false t r = refl
 
@@ -37,14 +34,14 @@ strain_words_lem : (u : List ℕ) → is_named (strain_by u) ≡ any (eq_list u)
 unfolding strain_by strain_words any
 strain_words_lem u = simp (named-pick, or_assoc)
 
-known_some : (t : Bool) (c : AuctionCall) → known (pick t (Known c) Unknown) ≡ t
+known_some : (t : Bool) (c : AuctionCall) → known (pick t (Some c) None) ≡ t
 known_some true c = refl
 known_some false c = refl
 
-known-bid : (b : ℕ) (n : StrainRead) → known (bid_by b n) ≡ ((leb 49 b && leb b 55) && is_named n)
+known-bid : (b : ℕ) (n : Option Strain) → known (bid_by b n) ≡ ((leb 49 b && leb b 55) && is_named n)
 unfolding bid_by
-known-bid b Unnamed = sym (and-false (leb 49 b && leb b 55))
-known-bid b (Named t) = known_some (leb 49 b && leb b 55) _ ∙ sym (and-true (leb 49 b && leb b 55))
+known-bid b None = sym (and-false (leb 49 b && leb b 55))
+known-bid b (Some t) = known_some (leb 49 b && leb b 55) _ ∙ sym (and-true (leb 49 b && leb b 55))
   where
     and-true : (t : Bool) → (t && true) ≡ t
     and-true true = refl

@@ -1,10 +1,8 @@
 -- The auction of a board, checked. (02: N1; 01: Eight refusals)
-use Rattle.std.specs.Prelude.{ℕ, Bool, ◌||◌, List, [], ◌∷◌, map}
-use Rattle.std.proofs.Math.Option.{Option}
+use Rattle.std.specs.Prelude.{ℕ, Bool, ◌||◌, List, [], ◌∷◌, map, Option}
 use Rattle.lin_spec.specs.Base.{any}
 use Rattle.lin_spec.specs.Records.{bytes_at}
 use Rattle.lin_spec.specs.Refusals.{Answer, refuse_if, unless, too_long, past_end, span_not_utf8}
-use Rattle.lin_spec.specs.Refusals.Answer.{refused, accepted}
 use Rattle.lin_spec.specs.Board.{map_option}
 use Rattle.lin_spec.specs.Lent.{call_in, call_spans, bad_flag}
 use Rattle.lin_spec.specs.declared.Call.{Call}
@@ -14,8 +12,6 @@ use Rattle.lin_spec.specs.declared.Refusal.TheVariants.{OutOfRange, BidUnknown}
 use Rattle.bridge_auction.specs.Auction.{auction}
 use Rattle.bridge_auction.specs.declared.calls.Auction.{Auction}
 use Rattle.auction.specs.Bids.{unknown_from, calls_of}
-use Rattle.auction.specs.declared.check.CheckedAuction.{CheckedAuction}
-use Rattle.auction.specs.declared.check.CheckedAuction.TheVariants.{Checked, Refused}
 
 -- the bids of calls, as bytes
 abbrev pub bids_of : (text : List ℕ) → List Call → List (List ℕ)
@@ -24,11 +20,6 @@ bids_of s cs = map (λ (c : Call). bytes_at s c.bid) cs
 -- "9, a bid is none of these forms, with the least such index"
 abbrev pub bid_unknown : (bids : List (List ℕ)) → Option Refusal
 bid_unknown bs = map_option BidUnknown (unknown_from 0 bs)
-
--- the answer as one of the four results, or a refusal
-abbrev pub checked_of : CheckedAuction → Answer Auction
-checked_of (Checked a) = accepted a
-checked_of (Refused r) = refused r
 
 -- 1, 8, 5, 6 and 9, "checked after 5 and 6", each over all calls: their flags, the texts of their bids and annotations. `other` says whether
 -- another number of the call, the dealer's code of the export, is outside its range; the entry has none. Only then are the laws of the auction looked at.

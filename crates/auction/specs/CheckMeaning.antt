@@ -1,5 +1,6 @@
 -- What the definitions of the check are shown to mean. (02: N1)
-use Rattle.std.specs.Prelude.{ℕ, ◌+◌, ◌≤◌, ◌≡◌, Bool, true, false, List, [], ◌∷◌, ◌++◌, map, length}
+use Rattle.bridge_auction.specs.declared.calls.AuctionCall.{AuctionCall}
+use Rattle.std.specs.Prelude.{ℕ, ◌+◌, ◌≤◌, ◌≡◌, Bool, true, false, List, [], ◌∷◌, ◌++◌, map, length, Option, Some, None}
 use Rattle.lin_spec.specs.Base.{All, any, concat, ascii}
 use Rattle.lin_spec.specs.Records.{limit}
 use Rattle.lin_spec.specs.Refusals.{passes_end, ill_span}
@@ -7,8 +8,6 @@ use Rattle.lin_spec.specs.Lent.{call_in, call_spans, bad_flag}
 use Rattle.lin_spec.specs.declared.Call.{Call}
 use Rattle.bridge_auction.specs.AuctionMeaning.{Real}
 use Rattle.auction.specs.Bids.{read_bid, known}
-use Rattle.auction.specs.declared.bids.BidRead.{BidRead}
-use Rattle.auction.specs.declared.bids.BidRead.TheVariants.{Known, Unknown}
 
 -- "C, D, H, S, N or NT", and all forms, in small letters: "p, d, r, or a level 1 to 7 with" a strain
 unfoldable pub strain_words : List (List ℕ)
@@ -21,9 +20,9 @@ unfoldable pub forms : List (List ℕ)
 forms = ascii "p" ∷ ascii "d" ∷ ascii "r" ∷ bid_words (ascii "1234567")
 
 -- "a level 1 to 7", of what was read
-abbrev pub RealRead : BidRead → Type 0
-RealRead (Known c) = Real c
-RealRead Unknown = Unit
+abbrev pub RealRead : Option AuctionCall → Type 0
+RealRead (Some c) = Real c
+RealRead None = Unit
 
 -- "a bid is none of these forms, with the least such index": counted from i, those before j are of the forms, and j's is not
 pub record FirstUnknown (i : ℕ) (ss : List (List ℕ)) (j : ℕ) : Type 0 where

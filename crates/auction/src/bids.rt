@@ -5,78 +5,60 @@ ghost use Rattle.auction.specs.Bids.{strain_by, bid_by, read_lower, read_bid};
 use bridge_auction::{AuctionCall, Strain};
 use white::lower_byte;
 
-// The strain that letters name, if they name one.
-#[derive(Clone, Copy)]
-pub enum StrainRead {
-    Named(Strain),
-    Unnamed,
-}
-
-// The call that a bid's bytes are, if they are one.
-#[derive(Clone, Copy)]
-pub enum BidRead {
-    Known(AuctionCall),
-    Unknown,
-}
-
 // A call of one letter, which is small.
-fn read_letter(b: u8) -> BidRead
+fn read_letter(b: u8) -> Option<AuctionCall>
     ensures { result ≡ read_lower (b ∷ []) }
 {
     if b == b'p' {
-        return BidRead::Known(AuctionCall::Pass);
+        return Some(AuctionCall::Pass);
     }
     if b == b'd' {
-        return BidRead::Known(AuctionCall::Double);
+        return Some(AuctionCall::Double);
     }
     if b == b'r' {
-        return BidRead::Known(AuctionCall::Redouble);
+        return Some(AuctionCall::Redouble);
     }
-    BidRead::Unknown
+    None
 }
 
 // The strain of one letter, which is small.
-fn strain_by(b: u8) -> StrainRead
+fn strain_by(b: u8) -> Option<Strain>
     ensures { result ≡ strain_by (b ∷ []) }
 {
     if b == b'c' {
-        return StrainRead::Named(Strain::Clubs);
+        return Some(Strain::Clubs);
     }
     if b == b'd' {
-        return StrainRead::Named(Strain::Diamonds);
+        return Some(Strain::Diamonds);
     }
     if b == b'h' {
-        return StrainRead::Named(Strain::Hearts);
+        return Some(Strain::Hearts);
     }
     if b == b's' {
-        return StrainRead::Named(Strain::Spades);
+        return Some(Strain::Spades);
     }
     if b == b'n' {
-        return StrainRead::Named(Strain::NoTrump);
+        return Some(Strain::NoTrump);
     }
-    StrainRead::Unnamed
+    None
 }
 
 // The bid of a level's digit and a strain.
-fn bid_by(b: u8, n: StrainRead) -> BidRead
+fn bid_by(b: u8, n: Option<Strain>) -> Option<AuctionCall>
     ensures { result ≡ bid_by b n }
 {
-    match n {
-        StrainRead::Named(t) => {
-            if b < b'1' {
-                return BidRead::Unknown;
-            }
-            if b'7' < b {
-                return BidRead::Unknown;
-            }
-            BidRead::Known(AuctionCall::Bid(b - b'0', t))
-        }
-        StrainRead::Unnamed => BidRead::Unknown,
+    let strain = n?;
+    if b < b'1' {
+        return None;
     }
+    if b'7' < b {
+        return None;
+    }
+    Some(AuctionCall::Bid(b - b'0', strain))
 }
 
 // The call that a bid's bytes are.
-pub fn read_bid(s: &[u8]) -> BidRead
+pub fn read_bid(s: &[u8]) -> Option<AuctionCall>
     ensures { result ≡ read_bid s.now }
 {
     if s.len() == 1 {
@@ -87,13 +69,13 @@ pub fn read_bid(s: &[u8]) -> BidRead
         return bid_by(lower_byte(s[0]), n);
     }
     if s.len() != 3 {
-        return BidRead::Unknown;
+        return None;
     }
     if lower_byte(s[1]) != b'n' {
-        return BidRead::Unknown;
+        return None;
     }
     if lower_byte(s[2]) != b't' {
-        return BidRead::Unknown;
+        return None;
     }
-    bid_by(lower_byte(s[0]), StrainRead::Named(Strain::NoTrump))
+    bid_by(lower_byte(s[0]), Some(Strain::NoTrump))
 }

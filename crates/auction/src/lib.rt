@@ -4,5 +4,5 @@
 mod bids;
 mod check;
 
-pub use bids::{BidRead, read_bid};
-pub use check::{CheckedAuction, check_auction, check_calls};
+pub use bids::read_bid;
+pub use check::{check_auction, check_calls};

@@ -1,37 +1,29 @@
 -- Laws of the board reader: the calls and cards one at a time are the board's, the heading's numbers are their lengths, and what the entries give. (01: Board)
 -- Assumes nothing.
+use Rattle.std.specs.Prelude.{Option, None, Some, Err, Ok, Result}
 use Prim.Native.Nat.{ℕ, ◌+◌, ◌-◌, ◌*◌, ◌/◌, ◌≤◌, ◌<◌, ◌^◌}
 use native.Mathlib.Omega.{arith}
 use mathlib.Core.Path.{◌≡◌, refl, ap, sym, subst, ◌∙◌}
 use mathlib.Core.Bool.{Bool, true, false, ◌&&◌}
 use mathlib.Core.List.{List, [], ◌∷◌, ◌++◌, map, append_assoc, append-nil}
-use mathlib.Core.Option.{Option, none, some}
 use lib.ListN.{length, drop, length-append, length-drop, length-map}
 use lib.Dec.{leb}
 use borrow.Author.Tests.{lt-ltb, le-ltb, leb-true}
 use Rattle.lin_spec.specs.Base.{pick, ascii}
-use Rattle.lin_spec.specs.Records.{span, option_of, bytes_at}
+use Rattle.lin_spec.specs.Records.{span, bytes_at}
 use Rattle.lin_spec.specs.White.{lower, trim, same_word, is_command}
 use Rattle.lin_spec.specs.Tokens.{Pieces, cut, pipe, TokenOf}
 use Rattle.lin_spec.specs.Tokens.Pieces.{end, piece}
 use Rattle.lin_spec.specs.Tokens.TokenOf.{token}
 use Rattle.lin_spec.specs.Cards.{read_card}
 use Rattle.lin_spec.specs.Board.{CallOf, BoardOf, call_of, annotated, played, undealt, over, on_dealt, on_calls, on_play, board_from}
-use Rattle.lin_spec.specs.Reading.{span_text, placed, stream, parse_spans, maybe_of, claimed_of, heading_of, headed, read_heading, few_rows, stored, read_board}
-use Rattle.lin_spec.specs.Fresh.{refused_heading}
+use Rattle.lin_spec.specs.Reading.{span_text, placed, stream, parse_spans, heading_of, headed, read_heading, few_rows, stored, read_board}
 use Rattle.lin_spec.specs.Refusals.{Answer, unless, too_long, not_utf8}
-use Rattle.lin_spec.specs.Refusals.Answer.{refused, accepted}
 use Rattle.lin_spec.specs.Document.{open_text}
 use Rattle.lin_spec.specs.declared.RowKind.TheVariants.{Calls, Cards}
 use Rattle.lin_spec.specs.declared.Refusal.{Refusal}
 use Rattle.lin_spec.specs.declared.Refusal.TheVariants.{TooFewRows}
 use Rattle.lin_spec.specs.declared.Span.{Span}
-use Rattle.lin_spec.specs.declared.MaybeSpan.{MaybeSpan}
-use Rattle.lin_spec.specs.declared.MaybeSpan.TheVariants.{Absent, Present}
-use Rattle.lin_spec.specs.declared.MaybeClaim.{MaybeClaim}
-use Rattle.lin_spec.specs.declared.MaybeClaim.TheVariants.{Absent as NoClaim, Claimed}
-use Rattle.lin_spec.specs.declared.Verdict.{Verdict}
-use Rattle.lin_spec.specs.declared.Verdict.TheVariants.{Accepted, Refused}
 use Rattle.lin_spec.specs.declared.Heading.{Heading}
 use Rattle.lin_spec.proofs.Base.{picked, split, and_left, and_right, eq_length}
 use Rattle.lin_spec.proofs.White.{trim_most}
@@ -44,9 +36,6 @@ use Rattle.output.specs.Put.{Room}
 use Rattle.output.proofs.Laws.{Left, start}
 use Rattle.document.specs.Steps.{opened_of}
 use Rattle.document.specs.declared.tokens.Cursor.{Cursor}
-use Rattle.document.specs.declared.tokens.Opened.{Opened}
-use Rattle.document.specs.declared.tokens.Opened.TheVariants.{At, Refused as Shut}
-use Rattle.lin_spec.specs.Lent.{claim_of}
 use Rattle.board_fields.specs.Fields.{more}
 use Rattle.board_loop.specs.Head.{fresh_head, on_count, on_card, Leaves}
 use Rattle.board_loop.specs.Dealing.{held, dealt_from}
@@ -57,13 +46,12 @@ use Rattle.board.specs.Reader.{with_deal, Places, Ample, CountedRows}
 use Rattle.board_loop.specs.Storing.{Fits, Stored}
 use Rattle.board_loop.specs.declared.heading.ReadHead.{ReadHead}
 use Rattle.lin_spec.specs.declared.Seat.{Seat}
-use Rattle.board_loop.specs.declared.play.NextCard.{NextCard}
 use Rattle.board_loop.proofs.DealingLaws.{dealt-last}
 use Rattle.board_loop.proofs.CallLaws.{annotated-length}
 
 -- The calls one at a time are the board's
 
-annotated-last : (v : Span) (cs : List (CallOf Span)) (c : CallOf Span) (a : Option Span) → annotated v (cs ++ (with c a ∷ [])) ≡ cs ++ (with c (some v) ∷ [])
+annotated-last : (v : Span) (cs : List (CallOf Span)) (c : CallOf Span) (a : Option Span) → annotated v (cs ++ (with c a ∷ [])) ≡ cs ++ (with c (Some v) ∷ [])
 unfolding annotated
 annotated-last v [] c a = refl
 annotated-last v (x ∷ []) c a = refl
@@ -73,23 +61,23 @@ calls-after : (s : List ℕ) (ts : List (TokenOf Span)) (cs : List (CallOf Span)
 unfolding over calls_after
 calls-after s [] cs c a = refl
 calls-after s (token w v ∷ ts) cs c a = go (is_command w (ascii "mb")) (is_command w (ascii "an"))
-    (calls-after s ts (cs ++ (with c a ∷ [])) (call_of (span_text s) v) none) (calls-after s ts cs c)
+    (calls-after s ts (cs ++ (with c a ∷ [])) (call_of (span_text s) v) None) (calls-after s ts cs c)
   where
-    go : (m n : Bool) → over (on_calls (span_text s)) (cs ++ (with c a ∷ []) ++ (call_of (span_text s) v ∷ [])) ts ≡ cs ++ (with c a ∷ []) ++ calls_after s (call_of (span_text s) v) none ts
+    go : (m n : Bool) → over (on_calls (span_text s)) (cs ++ (with c a ∷ []) ++ (call_of (span_text s) v ∷ [])) ts ≡ cs ++ (with c a ∷ []) ++ calls_after s (call_of (span_text s) v) None ts
         → ((o : Option Span) → over (on_calls (span_text s)) (cs ++ (with c o ∷ [])) ts ≡ cs ++ calls_after s c o ts)
         → over (on_calls (span_text s)) (pick m (cs ++ (with c a ∷ []) ++ (call_of (span_text s) v ∷ [])) (pick n (annotated v (cs ++ (with c a ∷ []))) (cs ++ (with c a ∷ [])))) ts
-        ≡ cs ++ pick m (with c a ∷ calls_after s (call_of (span_text s) v) none ts) (calls_after s c (pick n (some v) a) ts)
+        ≡ cs ++ pick m (with c a ∷ calls_after s (call_of (span_text s) v) None ts) (calls_after s c (pick n (Some v) a) ts)
     go true n f g = f ∙ append_assoc cs (with c a ∷ []) _
-    go false true f g = ap (λ (l : List (CallOf Span)). over (on_calls (span_text s)) l ts) (annotated-last v cs c a) ∙ g (some v)
+    go false true f g = ap (λ (l : List (CallOf Span)). over (on_calls (span_text s)) l ts) (annotated-last v cs c a) ∙ g (Some v)
     go false false f g = g a
 
 pub calls_are : (s : List ℕ) (ts : List (TokenOf Span)) → over (on_calls (span_text s)) [] ts ≡ calls_from s ts
 unfolding over calls_from
 calls_are s [] = refl
-calls_are s (token w v ∷ ts) = go (is_command w (ascii "mb")) (is_command w (ascii "an")) (calls-after s ts [] (call_of (span_text s) v) none) (calls_are s ts)
+calls_are s (token w v ∷ ts) = go (is_command w (ascii "mb")) (is_command w (ascii "an")) (calls-after s ts [] (call_of (span_text s) v) None) (calls_are s ts)
   where
-    go : (m n : Bool) → over (on_calls (span_text s)) (call_of (span_text s) v ∷ []) ts ≡ calls_after s (call_of (span_text s) v) none ts → over (on_calls (span_text s)) [] ts ≡ calls_from s ts
-        → over (on_calls (span_text s)) (pick m (call_of (span_text s) v ∷ []) (pick n (annotated v []) [])) ts ≡ pick m (calls_after s (call_of (span_text s) v) none ts) (calls_from s ts)
+    go : (m n : Bool) → over (on_calls (span_text s)) (call_of (span_text s) v ∷ []) ts ≡ calls_after s (call_of (span_text s) v) None ts → over (on_calls (span_text s)) [] ts ≡ calls_from s ts
+        → over (on_calls (span_text s)) (pick m (call_of (span_text s) v ∷ []) (pick n (annotated v []) [])) ts ≡ pick m (calls_after s (call_of (span_text s) v) None ts) (calls_from s ts)
     go true n f g = f
     go false true f g = unfold annotated in g
     go false false f g = g
@@ -101,9 +89,9 @@ unfolding over cards_from
 cards-after s [] cs = sym (append-nil cs)
 cards-after s (token w v ∷ ts) cs = go (is_command w (ascii "pc")) (read_card (trim (bytes_at s v))) (cards-after s ts)
   where
-    go : (m : Bool) (o : Option ℕ) → ((x : List ℕ) → over (on_play (span_text s)) x ts ≡ x ++ cards_from s ts) → over (on_play (span_text s)) (pick m (played o cs) cs) ts ≡ cs ++ before (pick m o none) (cards_from s ts)
-    go true none f = f cs
-    go true (some c) f = f (cs ++ (c ∷ [])) ∙ append_assoc cs (c ∷ []) _
+    go : (m : Bool) (o : Option ℕ) → ((x : List ℕ) → over (on_play (span_text s)) x ts ≡ x ++ cards_from s ts) → over (on_play (span_text s)) (pick m (played o cs) cs) ts ≡ cs ++ before (pick m o None) (cards_from s ts)
+    go true None f = f cs
+    go true (Some c) f = f (cs ++ (c ∷ [])) ∙ append_assoc cs (c ∷ []) _
     go false o f = f cs
 
 -- A heading's counts are the lengths of the board's lists
@@ -126,8 +114,8 @@ cards-count s ts = over_change length (on_play (span_text s)) (on_card s) step t
     step c v cs = go (is_command c (ascii "pc")) (read_card (trim (bytes_at s v)))
       where
         go : (m : Bool) (o : Option ℕ) → length (pick m (played o cs) cs) ≡ pick m (more o (length cs)) (length cs)
-        go true none = refl
-        go true (some c) = length-append cs (c ∷ [])
+        go true None = refl
+        go true (Some c) = length-append cs (c ∷ [])
         go false o = refl
 
 -- A token that counts has a command of two bytes at least, so it takes four bytes
@@ -167,8 +155,8 @@ unfolding board_from
 play-four s at = rw (cards-count s (stream s at)) (stream-four (on_card s) (λ c v n. picked (λ (x : ℕ). x ≤ n + 1) (is_command c (ascii "pc")) (λ _. most (read_card (trim (bytes_at s v))) n) (λ _. omega arith)) (λ c v n h. simp (short-command c (ascii "pc") refl h)) s at)
   where
     most : (o : Option ℕ) (n : ℕ) → more o n ≤ n + 1
-    most none n = omega arith
-    most (some c) n = omega arith
+    most None n = omega arith
+    most (Some c) n = omega arith
 
 pub places : (n : ℕ) (rows cards : List ℕ) → (leb (n / 4) (length rows / 6) && leb (n / 4) (length cards)) ≡ true → Places n rows cards
 places n rows cards e =
@@ -187,17 +175,16 @@ ample s at n rows cards l p =
 
 -- The heading that was read is the board's
 
-maybe_is : (m : MaybeSpan) {o : Option Span} → option_of m ≡ o → m ≡ maybe_of o
-maybe_is Absent e = ap maybe_of e
-maybe_is (Present x) e = ap maybe_of e
+maybe_is : (m : Option Span) {o : Option Span} → m ≡ o → m ≡ o
+maybe_is None e = e
+maybe_is (Some x) e = e
 
-claim-is : (m : MaybeClaim) {o : Option ℕ} → claim_of m ≡ o → m ≡ claimed_of o
-claim-is NoClaim e = ap claimed_of e
-claim-is (Claimed n) e = ap claimed_of e
+claim-is : (m : Option ℕ) {o : Option ℕ} → m ≡ o → m ≡ o
+claim-is None e = e
+claim-is (Some n) e = e
 
-pub with-deal : (s : List ℕ) (h : ReadHead) (x : Seat) (d : List ℕ) → held x d ≡ dealt_from s (option_of h.md)
+pub with-deal : (s : List ℕ) (h : ReadHead) (x : Seat) (d : List ℕ) → held x d ≡ dealt_from s h.md
     → record {
-      verdict = Accepted;
       board =
           record {
             names = h.names;
@@ -215,7 +202,6 @@ pub with-deal : (s : List ℕ) (h : ReadHead) (x : Seat) (d : List ℕ) → held
 with-deal s h x d e =
     λ i.
     record {
-      verdict = Accepted;
       board =
           record {
             names = h.names;
@@ -245,10 +231,9 @@ module _ (s : List ℕ) (at : ℕ) (h : ReadHead) (l : Leaves s (stream s at) h 
   unfolding board_from over
   read-heading =
       let ts = stream s at in
-      let q : dealt_from s (option_of h.md) ≡ over (on_dealt (span_text s)) undealt ts = ap (dealt_from s) l.md ∙ dealt-last s ts in
+      let q : dealt_from s h.md ≡ over (on_dealt (span_text s)) undealt ts = ap (dealt_from s) l.md ∙ dealt-last s ts in
       λ i.
       record {
-        verdict = Accepted;
         board =
             record {
               names = l.names i;
@@ -271,7 +256,7 @@ read_names s at h l = l.names
 -- Rows of six words
 
 -- what a card that was called for and taken apart says
-pub given-card : (s : List ℕ) (at : ℕ) (r v : NextCard) → Card-as-Gives s at r → r ≡ v → Card-as-Gives s at v
+pub given-card : (s : List ℕ) (at : ℕ) (r v : Option (ℕ × Cursor)) → Card-as-Gives s at r → r ≡ v → Card-as-Gives s at v
 given-card s at r v h e = subst (Card-as-Gives s at) e h
 
 -- what is left to store: a card and the others, or nothing
@@ -290,12 +275,12 @@ all-cards s at d r = rw (← cards-after s (stream s at) []) (start r)
 -- What the checks of rows and cards give
 module _ (s : List ℕ) (at : ℕ) (rows cards : List ℕ) where
   module _ (h : ReadHead) (l : Leaves s (stream s at) h fresh_head []) where
-    pub few-calls : length rows / 6 < h.calls → CountedRows s at rows cards (Refused (TooFewRows Calls h.calls))
+    pub few-calls : length rows / 6 < h.calls → CountedRows s at rows cards (Err (TooFewRows Calls h.calls))
     unfolding unless
     few-calls k = let e = read-calls s at h l in rw e (simp (lt-ltb (length rows / 6) (length (board_at s at).calls) (rw e at k)))
 
     module _ (k : h.calls ≤ length rows / 6) where
-      pub few-cards : length cards < h.cards → CountedRows s at rows cards (Refused (TooFewRows Cards h.cards))
+      pub few-cards : length cards < h.cards → CountedRows s at rows cards (Err (TooFewRows Cards h.cards))
       unfolding unless
       few-cards m =
           let e = read-calls s at h l in
@@ -306,10 +291,10 @@ module _ (s : List ℕ) (at : ℕ) (rows cards : List ℕ) where
       enough m = record { calls = let e = read-calls s at h l in rw e at k; play = let d = read-cards s at h l in rw d at m }
 
   -- what the verdict says
-  pub counted : (v w : Verdict) → CountedRows s at rows cards v → v ≡ w → CountedRows s at rows cards w
+  pub counted : (v w : Result Unit Refusal) → CountedRows s at rows cards v → v ≡ w → CountedRows s at rows cards w
   counted v w g e = subst (CountedRows s at rows cards) e g
 
-  pub rows-refused : (r : Refusal) → CountedRows s at rows cards (Refused r) → (x : Heading) → x ≡ refused_heading r
+  pub rows-refused : (r : Refusal) → CountedRows s at rows cards (Err r) → (x : Answer Heading) → x ≡ Err r
       → record { heading = x; rows = rows; cards = cards } ≡ stored (unless (few_rows (board_at s at) rows cards) (board_at s at)) rows cards
   rows-refused r g x e = rw (g, e) refl
 
@@ -318,22 +303,22 @@ module _ (s : List ℕ) (at : ℕ) (rows cards : List ℕ) where
     fits w = record { within = w.0; short = w.1; calls = let a = words-length (board_at s at).calls in let c = m.calls in omega arith; play = m.play }
 
     pub board-stored : (h : ReadHead) (rows' cards' : List ℕ) → Stored s at rows cards h rows' cards' → (r : Heading) → r ≡ with_deal s h
-        → record { heading = r; rows = rows'; cards = cards' } ≡ stored (unless (few_rows (board_at s at) rows cards) (board_at s at)) rows cards
+        → record { heading = Ok r; rows = rows'; cards = cards' } ≡ stored (unless (few_rows (board_at s at) rows cards) (board_at s at)) rows cards
     unfolding unless
     board-stored h rows' cards' p r e =
         rw (p.calls, p.play, e, read-heading s at h p.leaves)
         (simp (le-ltb (length rows / 6) (length (board_at s at).calls) m.calls, le-ltb (length cards) (length (board_at s at).play) m.play))
 
 -- The entries, by the answer of `open`
-module _ (s : List ℕ) (o : Opened) (e : opened_of o ≡ open_text s) where
-  module _ (c : Cursor) (f : o ≡ At c) where
-    taken : open_text s ≡ accepted c.at
+module _ (s : List ℕ) (o : Result Cursor Refusal) (e : opened_of o ≡ open_text s) where
+  module _ (c : Cursor) (f : o ≡ Ok c) where
+    taken : open_text s ≡ Ok c.at
     taken = sym e ∙ ap opened_of f
 
     pub short : length s < 2 ^ 32
     short = let h = (opened s taken).short in omega arith
 
-    pub heading-read : heading_of (board_at s 0) ≡ read_heading s
+    pub heading-read : Ok (heading_of (board_at s 0)) ≡ read_heading s
     unfolding read_heading open_text parse_spans unless
     heading-read = sym (ap headed (unless-passed (too_long s ∷ not_utf8 s ∷ []) [] 0 c.at (board_at s 0) taken))
 
@@ -341,8 +326,8 @@ module _ (s : List ℕ) (o : Opened) (e : opened_of o ≡ open_text s) where
     unfolding read_board open_text parse_spans
     board-read rows cards = sym (ap (λ (a : Answer (BoardOf Span)). stored a rows cards) (unless-passed (too_long s ∷ not_utf8 s ∷ []) (few_rows (board_at s 0) rows cards) 0 c.at (board_at s 0) taken))
 
-  module _ (r : Refusal) (f : o ≡ Shut r) (h : Heading) (g : h ≡ refused_heading r) where
-    left : open_text s ≡ refused r
+  module _ (r : Refusal) (f : o ≡ Err r) (h : Answer Heading) (g : h ≡ Err r) where
+    left : open_text s ≡ Err r
     left = sym e ∙ ap opened_of f
 
     pub heading-refused : h ≡ read_heading s

@@ -1,12 +1,9 @@
 -- The heading that is answered, and what refusal 3 asks. (01: Board; Eight refusals, 3)
-use Rattle.std.specs.Prelude.{ℕ, ◌≤◌, ◌/◌, ◌≡◌, List, length}
-use Rattle.lin_spec.specs.Records.{option_of}
+use Rattle.lin_spec.specs.declared.Refusal.{Refusal}
+use Rattle.std.specs.Prelude.{ℕ, ◌≤◌, ◌/◌, ◌≡◌, List, length, Err, Result, Ok}
 use Rattle.lin_spec.specs.Refusals.{unless}
-use Rattle.lin_spec.specs.Refusals.Answer.{refused}
 use Rattle.lin_spec.specs.Reading.{few_rows}
 use Rattle.lin_spec.specs.declared.Heading.{Heading}
-use Rattle.lin_spec.specs.declared.Verdict.{Verdict}
-use Rattle.lin_spec.specs.declared.Verdict.TheVariants.{Accepted, Refused}
 use Rattle.board_loop.specs.Head.{board_at}
 use Rattle.board_loop.specs.Dealing.{dealt_from}
 use Rattle.board_loop.specs.declared.heading.ReadHead.{ReadHead}
@@ -15,12 +12,11 @@ use Rattle.board_loop.specs.declared.heading.ReadHead.{ReadHead}
 abbrev pub with_deal : (s : List ℕ) → ReadHead → Heading
 with_deal s h =
     record {
-      verdict = Accepted;
       board =
           record {
             names = h.names;
-            dealer = (dealt_from s (option_of h.md)).dealer;
-            deal = record { counts = (dealt_from s (option_of h.md)).deal };
+            dealer = (dealt_from s h.md).dealer;
+            deal = record { counts = (dealt_from s h.md).deal };
             vulnerability = h.vulnerability;
             title = h.title;
             room_board = h.room;
@@ -42,6 +38,6 @@ pub record Ample (s : List ℕ) (at : ℕ) (rows cards : List ℕ) : Type 0 wher
   pub play : length (board_at s at).play ≤ length cards
 
 -- refusal 3 does not meet the call, or is what it answers
-abbrev pub CountedRows : (s : List ℕ) (at : ℕ) (rows cards : List ℕ) → Verdict → Type 0
-CountedRows s at rows cards Accepted = Ample s at rows cards
-CountedRows s at rows cards (Refused r) = unless (few_rows (board_at s at) rows cards) (board_at s at) ≡ refused r
+abbrev pub CountedRows : (s : List ℕ) (at : ℕ) (rows cards : List ℕ) → Result Unit Refusal → Type 0
+CountedRows s at rows cards (Ok tt) = Ample s at rows cards
+CountedRows s at rows cards (Err r) = unless (few_rows (board_at s at) rows cards) (board_at s at) ≡ Err r

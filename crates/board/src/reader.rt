@@ -6,10 +6,10 @@ ghost use Rattle.lin_spec.specs.Reading.{heading_of, few_rows, Reading, stored, 
 ghost use Rattle.board_loop.specs.Head.{board_at};
 ghost use Rattle.board.specs.Reader.{with_deal, Places, CountedRows};
 
-use board_loop::{NextCard, ReadHead, dealt_by, next_card, read_head, read_into};
-use document::{Cursor, Opened, open};
-use lin_spec::{Board, Deal, Heading, Refusal, RowKind, Span, Verdict};
-use output::put_byte;
+use board_loop::{ReadHead, dealt_by, next_card, read_head, read_into};
+use document::{Cursor, open};
+use lin_spec::{Board, Deal, Heading, Refusal, RowKind, Span};
+use output::put;
 
 // Stores every card from a place on.
 pub fn put_cards(cards: &mut [u8], text: &[u8], at: usize) -> usize
@@ -20,11 +20,11 @@ pub fn put_cards(cards: &mut [u8], text: &[u8], at: usize) -> usize
     let mut cursor = Cursor { at };
     loop {
         match next_card(text, cursor) {
-            NextCard::Found(c, next) => {
-                n = put_byte(cards, n, c);
+            Some((c, next)) => {
+                n = put(cards, n, c);
                 cursor = next;
             }
-            NextCard::Ended => {
+            None => {
                 return n;
             }
         }
@@ -56,7 +56,6 @@ fn with_deal(text: &[u8], h: ReadHead) -> Heading
         claim,
     };
     Heading {
-        verdict: Verdict::Accepted,
         board,
         calls: h.calls,
         cards: h.cards,
@@ -90,50 +89,49 @@ fn roomy(text: &[u8], at: usize, rows: &[u32], cards: &[u8]) -> bool
 }
 
 // Refusal 3, if it meets the call. Most are lent places enough for any board of the text: then nothing is counted.
-fn few_rows(text: &[u8], at: usize, rows: &[u32], cards: &[u8]) -> Verdict
+fn few_rows(text: &[u8], at: usize, rows: &[u32], cards: &[u8]) -> Result<(), Refusal>
     requires { (at ≤ length text.now) × (length text.now < 2 ^ 32) }
     ensures { CountedRows text.now at rows.now cards.now result }
 {
     if roomy(text, at, rows, cards) {
-        return Verdict::Accepted;
+        return Ok(());
     }
     let h = read_head(text, at);
     if rows.len() / 6 < h.calls {
-        return Verdict::Refused(Refusal::TooFewRows(RowKind::Calls, h.calls as u64));
+        return Err(Refusal::TooFewRows(RowKind::Calls, h.calls as u64));
     }
     if cards.len() < h.cards {
-        return Verdict::Refused(Refusal::TooFewRows(RowKind::Cards, h.cards as u64));
+        return Err(Refusal::TooFewRows(RowKind::Cards, h.cards as u64));
     }
-    Verdict::Accepted
+    Ok(())
 }
 
 // The same board with its rows and cards, where there are enough places.
-pub fn board_at(text: &[u8], at: usize, rows: &mut [u32], cards: &mut [u8]) -> Heading
+pub fn board_at(
+    text: &[u8],
+    at: usize,
+    rows: &mut [u32],
+    cards: &mut [u8],
+) -> Result<Heading, Refusal>
     requires { (at ≤ length text.now) × (length text.now < 2 ^ 32) }
     ensures { ◌≡◌ {A = Reading} (record { heading = result; rows = rows.new; cards = cards.new }) (stored (unless (few_rows (board_at text.now at) rows.old cards.old) (board_at text.now at)) rows.old cards.old) }
 {
-    match few_rows(text, at, rows, cards) {
-        Verdict::Accepted => with_deal(text, read_into(text, at, rows, cards)),
-        Verdict::Refused(r) => Heading::refused(r),
-    }
+    few_rows(text, at, rows, cards)?;
+    Ok(with_deal(text, read_into(text, at, rows, cards)))
 }
 
 // The heading of a text that is one board.
-pub fn parse_lin_heading(text: &[u8]) -> Heading
+pub fn parse_lin_heading(text: &[u8]) -> Result<Heading, Refusal>
     ensures { result ≡ read_heading text.now }
 {
-    match open(text) {
-        Opened::At(_) => heading_at(text, 0),
-        Opened::Refused(r) => Heading::refused(r),
-    }
+    open(text)?;
+    Ok(heading_at(text, 0))
 }
 
 // The board that a text is: its calls go into the rows, six words each, and its play into the cards.
-pub fn parse_lin(text: &[u8], rows: &mut [u32], cards: &mut [u8]) -> Heading
+pub fn parse_lin(text: &[u8], rows: &mut [u32], cards: &mut [u8]) -> Result<Heading, Refusal>
     ensures { ◌≡◌ {A = Reading} (record { heading = result; rows = rows.new; cards = cards.new }) (read_board text.now rows.old cards.old) }
 {
-    match open(text) {
-        Opened::At(_) => board_at(text, 0, rows, cards),
-        Opened::Refused(r) => Heading::refused(r),
-    }
+    open(text)?;
+    board_at(text, 0, rows, cards)
 }

@@ -1,16 +1,15 @@
 -- What equality is: a board that is accepted equals itself, and repeated cards make it lopsided. (01: equality)
 -- Assumes nothing.
+use Rattle.std.specs.Prelude.{Option, None, Some, Ok}
 use Prim.Native.Nat.{ℕ}
 use mathlib.Core.Path.{◌≡◌, refl, sym, ◌∙◌}
 use mathlib.Core.Bool.{Bool, true, false, ◌||◌, not}
 use mathlib.Core.List.{List, [], ◌∷◌, ◌++◌}
-use mathlib.Core.Option.{Option, none, some}
 use lib.Dec.{eqb}
 use borrow.Author.Tests.{eq-eqb}
 use Rattle.lin_spec.specs.Base.{ascii, any, eq_all, eq_list, starts}
 use Rattle.lin_spec.specs.Records.{part}
 use Rattle.lin_spec.specs.Refusals.{span_not_utf8}
-use Rattle.lin_spec.specs.Refusals.Answer.{accepted}
 use Rattle.lin_spec.specs.Utf8.{encode}
 use Rattle.lin_spec.specs.White.{white_space, front, white_at, skip_white, trim_start, blank, trim_end, trim, lower, same_word, is_command}
 use Rattle.lin_spec.specs.Tokens.{cut, paired, tokens}
@@ -32,8 +31,8 @@ all_self f h [] = refl
 all_self f h (a ∷ x) = simp (h a, all_self f h x)
 
 option_self : {A : Type 0} (f : A → A → Bool) → ((a : A) → f a a ≡ true) → (x : Option A) → eq_option f x x ≡ true
-option_self f h none = refl
-option_self f h (some a) = h a
+option_self f h None = refl
+option_self f h (Some a) = h a
 
 flag_self : (t : Bool) → eq_flag t t ≡ true
 flag_self true = refl
@@ -75,7 +74,7 @@ equal_self b =
     )
 
 -- so a call that is lent one board twice, and accepted, says so
-pub same_self : (other : Bool) (x : Lent) (t : Bool) → same_boards other x x ≡ accepted t → t ≡ true
+pub same_self : (other : Bool) (x : Lent) (t : Bool) → same_boards other x x ≡ Ok t → t ≡ true
 unfolding same_boards most_checks
 same_self other x t h = sym (unless-same (most_checks other x x ++ (span_not_utf8 x.text (lent_spans x) ∷ [])) (equal (meaning x) (meaning x)) t h) ∙ equal_self (meaning x)
 

@@ -4,7 +4,6 @@ ghost use Rattle.lin_spec.specs.Letters.{hand_at};
 ghost use Rattle.lin_spec.specs.Writer.{held_in, same_cards};
 ghost use Rattle.lin_spec.specs.Equality.{same_deal};
 
-use crate::texts::same_words;
 use cards::seat_sum;
 use lin_spec::{Deal, Seat};
 
@@ -13,14 +12,11 @@ fn held_in(counts: &[u32; 208], other: &[u32; 208], seat: Seat) -> bool
     ensures { result ≡ held_in (hand_at counts.now seat) (hand_at other.now seat) }
 {
     let first = seat.number() * Deal::CARDS;
-    let mut c = 0;
-    while c < Deal::CARDS {
-        if (counts[first + c] != 0) & (other[first + c] == 0) {
-            return false;
-        }
-        c += 1;
-    }
-    true
+    let last = first + Deal::CARDS;
+    counts[first..last]
+        .iter()
+        .zip(other[first..last].iter())
+        .all(|(&n, &m)| (n == 0) | (m != 0))
 }
 
 // Whether a seat's hands are as long, and the other holds each card of this one.
@@ -53,7 +49,7 @@ fn same_hands(counts: &[u32; 208], other: &[u32; 208]) -> bool
 pub(crate) fn same_deal(counts: &[u32; 208], other: &[u32; 208]) -> bool
     ensures { result ≡ same_deal counts.now other.now }
 {
-    if same_words(counts, other) {
+    if *counts == *other {
         return true;
     }
     same_hands(counts, other)

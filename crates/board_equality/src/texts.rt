@@ -1,14 +1,14 @@
 // Texts and calls compared by bytes, each span out of its own text. (01: equality)
 ghost use Rattle.std.specs.Prelude.{◌≡◌, not, ◌&&◌, map, ◌≤◌, length, eqb, leb};
 ghost use Rattle.lin_spec.specs.Base.{eq_all, eq_list};
-ghost use Rattle.lin_spec.specs.Records.{limit, end_of, bytes_at, option_of};
+ghost use Rattle.lin_spec.specs.Records.{limit, end_of, bytes_at};
 ghost use Rattle.lin_spec.specs.Board.{map_option};
 ghost use Rattle.lin_spec.specs.Equality.{eq_option, eq_flag, eq_call};
 ghost use Rattle.text.specs.Apart.{common, Apart};
 ghost use Rattle.board_equality.specs.Parts.{call_in_bytes, calls_in_bytes};
 
-use board_lent::{call_at, one_by_one, spans_pass};
-use lin_spec::{Call, LIMIT, MaybeSpan, Span};
+use board_lent::{call_of, one_by_one, spans_pass};
+use lin_spec::{Call, LIMIT, Span};
 use text::{index_apart, next_apart, same_at, same_bytes, shown};
 
 // Two texts have at least so many bytes in common from the first on. It is 0 where the texts of the rows are looked at one by one, and else all they have.
@@ -63,30 +63,27 @@ pub(crate) fn same_names(
     requires { first ≤ common text.now text2.now }
     ensures { result ≡ eq_all eq_list (map (bytes_at text.now) names) (map (bytes_at text2.now) names2) }
 {
-    let mut seat = 0;
-    while seat < 4 {
-        if !same_span(first, text, names[seat], text2, names2[seat]) {
-            return false;
-        }
-        seat += 1;
-    }
-    true
+    names
+        .iter()
+        .zip(names2.iter())
+        .all(|(&x, &y)| same_span(first, text, x, text2, y))
 }
 
 // Whether two texts are the same, or both are absent.
-pub(crate) fn same_text(first: usize, text: &[u8], x: MaybeSpan, text2: &[u8], y: MaybeSpan) -> bool
+pub(crate) fn same_text(
+    first: usize,
+    text: &[u8],
+    x: Option<Span>,
+    text2: &[u8],
+    y: Option<Span>,
+) -> bool
     requires { first ≤ common text.now text2.now }
-    ensures { result ≡ eq_option eq_list (map_option (bytes_at text.now) (option_of x)) (map_option (bytes_at text2.now) (option_of y)) }
+    ensures { result ≡ eq_option eq_list (map_option (bytes_at text.now) x) (map_option (bytes_at text2.now) y) }
 {
-    match x {
-        MaybeSpan::Absent => match y {
-            MaybeSpan::Absent => true,
-            MaybeSpan::Present(_) => false,
-        },
-        MaybeSpan::Present(a) => match y {
-            MaybeSpan::Absent => false,
-            MaybeSpan::Present(b) => same_span(first, text, a, text2, b),
-        },
+    match (x, y) {
+        (None, None) => true,
+        (Some(a), Some(b)) => same_span(first, text, a, text2, b),
+        _ => false,
     }
 }
 
@@ -94,10 +91,7 @@ pub(crate) fn same_text(first: usize, text: &[u8], x: MaybeSpan, text2: &[u8], y
 fn same_flag(a: u32, b: u32) -> bool
     ensures { result ≡ eq_flag (not (eqb a 0)) (not (eqb b 0)) }
 {
-    if a == 0 {
-        return b == 0;
-    }
-    b != 0
+    (a != 0) == (b != 0)
 }
 
 // Whether two calls have the same annotation, or none.
@@ -128,38 +122,19 @@ fn same_call(next: &[u32], text: &[u8], c: Call, text2: &[u8], d: Call) -> bool
     same_annotation(next, text, c, text2, d)
 }
 
-// Whether two lists have the same words.
-pub(crate) fn same_words(a: &[u32], b: &[u32]) -> bool
-    ensures { result ≡ eq_list a.now b.now }
-{
-    if a.len() != b.len() {
-        return false;
-    }
-    let mut same = true;
-    let mut i = 0;
-    while i < a.len() {
-        same = same & (a[i] == b[i]);
-        i += 1;
-    }
-    same
-}
-
 // Whether there are as many calls, and each is the same.
 fn each_same(next: &[u32], text: &[u8], rows: &[u32], text2: &[u8], rows2: &[u32]) -> bool
     requires { Apart text.now text2.now next.now }
     ensures { result ≡ eq_all eq_call (calls_in_bytes text.now rows.now) (calls_in_bytes text2.now rows2.now) }
 {
-    if rows.len() / 6 != rows2.len() / 6 {
+    let (rows, rows2) = (rows.as_chunks::<6>().0, rows2.as_chunks::<6>().0);
+    if rows.len() != rows2.len() {
         return false;
     }
-    let mut i = 0;
-    while 6 <= rows.len() - i {
-        if !same_call(next, text, call_at(rows, i), text2, call_at(rows2, i)) {
-            return false;
-        }
-        i += 6;
-    }
-    true
+    rows.iter().zip(rows2.iter()).all(|(&row, &row2)| {
+        let (c, d) = (call_of(row), call_of(row2));
+        same_call(next, text, c, text2, d)
+    })
 }
 
 // Whether the calls are the same, with a word for each block of the texts: no two texts at one place are compared for longer than a block.
@@ -197,7 +172,7 @@ pub(crate) fn same_calls(
     ensures { result ≡ eq_all eq_call (calls_in_bytes text.now rows.now) (calls_in_bytes text2.now rows2.now) }
 {
     let alike = (first == text.len()) & (first == text2.len());
-    if alike & same_words(rows, rows2) {
+    if alike && rows == rows2 {
         return true;
     }
     calls_apart(text, rows, text2, rows2)

@@ -25,11 +25,6 @@ use Rattle.lin_spec.proofs.Reading.{part_most}
 use Rattle.lin_spec.proofs.Cursor.{find-within, find-after, cut_at, cut-end}
 use Rattle.board_fields.specs.Fields.{is_dealer, names_from}
 
--- a field that the command does not change, and one that it does
-pub off : {A : Type 0} (t : Bool) (a b : A) → not t ≡ true → b ≡ pick t a b
-off true a b h = absurd (false≢true h)
-off false a b h = refl
-
 pub changed : {A : Type 0} (t : Bool) (a b : A) {x : A} → not t ≡ false → x ≡ a → x ≡ pick t a b
 changed true a b h e = e
 changed false a b h e = absurd (false≢true (sym h))
@@ -66,7 +61,6 @@ module _ (s : List ℕ) (a b : Bool) (ea : a ≡ same_word s (ascii "n")) (eb : 
       unfolding read_sv
       sv_none l = simp (← ea, ← eb, h, ← ec, ← ed, k, ← ee, ← ef, ← eg, l)
 
--- a byte that was looked for stands within the text, or is its end
 -- pn: names to the left of a seat are set, those to the right are still to be set from the pieces of the rest
 
 pub record Named (value : List ℕ) (start : ℕ) (old names : List Span) (place seat : ℕ) : Type 0 where

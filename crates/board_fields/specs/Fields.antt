@@ -1,6 +1,5 @@
 -- The fields of a board's heading as the code keeps them while it reads. (01: Board)
-use Rattle.std.specs.Prelude.{ℕ, ◌+◌, Bool, false, ◌||◌, List, [], ◌∷◌, length, eqb}
-use Rattle.std.proofs.Math.Option.{Option, none, some}
+use Rattle.std.specs.Prelude.{ℕ, ◌+◌, Bool, false, ◌||◌, List, [], ◌∷◌, length, eqb, Option, None, Some}
 use Rattle.lin_spec.specs.Base.{pick}
 use Rattle.lin_spec.specs.Records.{span, bytes_at}
 use Rattle.lin_spec.specs.White.{trim}
@@ -15,7 +14,7 @@ is_dealer (b ∷ s) = eqb b 0x31 || (eqb b 0x32 || (eqb b 0x33 || eqb b 0x34))
 
 -- the value of the last md that is accepted, where v is the value of the next
 abbrev pub last_md : (s : List ℕ) (v : Span) → Option Span → Option Span
-last_md s v old = pick (is_dealer (trim (bytes_at s v))) (some v) old
+last_md s v old = pick (is_dealer (trim (bytes_at s v))) (Some v) old
 
 -- the pieces of a value that starts at `start` replace names, the first of them at `place`
 unfoldable pub names_from : (start place : ℕ) → Pieces → List Span → List Span
@@ -25,5 +24,5 @@ names_from start k (piece x r) (n ∷ ns) = span (start + k) (length x) ∷ name
 
 -- one more, where there is a card
 abbrev pub more : Option ℕ → ℕ → ℕ
-more none n = n
-more (some c) n = n + 1
+more None n = n
+more (Some c) n = n + 1

@@ -1,44 +1,41 @@
 // What each command gives to a board's heading. `on` says that the token has the command. (01: Board)
 ghost use Rattle.std.specs.Prelude.{◌≡◌, ◌+◌, ◌<◌, ◌≤◌, ◌^◌, length, eqb};
-ghost use Rattle.std.proofs.Math.Option.{none, some};
 ghost use Rattle.lin_spec.specs.Base.{pick};
-ghost use Rattle.lin_spec.specs.Records.{option_of, end_of, bytes_at};
+ghost use Rattle.lin_spec.specs.Records.{end_of, bytes_at};
 ghost use Rattle.lin_spec.specs.White.{trim as trimmed};
 ghost use Rattle.lin_spec.specs.Tokens.{cut};
 ghost use Rattle.lin_spec.specs.Board.{named, read_sv, number_in};
 ghost use Rattle.lin_spec.specs.Reading.{span_text};
 ghost use Rattle.lin_spec.specs.Cards.{read_card};
-ghost use Rattle.lin_spec.specs.Lent.{claim_of};
-ghost use Rattle.cards.specs.Letters.{maybe_card};
 ghost use Rattle.board_fields.specs.Fields.{is_dealer, last_md, names_from, more};
 
-use cards::{MaybeCard, read_card};
+use cards::read_card;
 use digits::read_number;
-use lin_spec::{MaybeClaim, MaybeNumber, MaybeSpan, Span, Vulnerability};
+use lin_spec::{Span, Vulnerability};
 use text::{find_byte, shown};
 use white::{same_word, trim};
 
 // mn, qx: the value; empty makes it absent.
-pub fn on_value(on: bool, v: Span, old: MaybeSpan) -> MaybeSpan
-    ensures { option_of result ≡ pick on (pick (eqb v.len 0) none (some v)) (option_of old) }
+pub fn on_value(on: bool, v: Span, old: Option<Span>) -> Option<Span>
+    ensures { result ≡ pick on (pick (eqb v.len 0) None (Some v)) old }
 {
     if !on {
         return old;
     }
     if v.len == 0 {
-        return MaybeSpan::Absent;
+        return None;
     }
-    MaybeSpan::Present(v)
+    Some(v)
 }
 
 // ah and an: the value, even empty.
-pub fn on_present(on: bool, v: Span, old: MaybeSpan) -> MaybeSpan
-    ensures { option_of result ≡ pick on (some v) (option_of old) }
+pub fn on_present(on: bool, v: Span, old: Option<Span>) -> Option<Span>
+    ensures { result ≡ pick on (Some v) old }
 {
     if !on {
         return old;
     }
-    MaybeSpan::Present(v)
+    Some(v)
 }
 
 // pn: the pieces between commas, from South on.
@@ -59,18 +56,16 @@ fn split_names(value: &[u8], start: u32, old: [Span; 4]) -> [Span; 4]
 {
     let mut names = old;
     let mut place = 0;
-    let mut seat = 0;
-    while seat < 4 {
+    for name in names.iter_mut() {
         let e = find_byte(value, b',', place);
-        names[seat] = Span {
+        *name = Span {
             start: start + place as u32,
             len: (e - place) as u32,
         };
         if value.len() <= e {
-            return names;
+            break;
         }
         place = e + 1;
-        seat += 1;
     }
     names
 }
@@ -112,28 +107,28 @@ fn is_dealer(s: &[u8]) -> bool
 }
 
 // The value of the last md that was accepted.
-pub fn on_md(text: &[u8], on: bool, v: Span, old: MaybeSpan) -> MaybeSpan
-    ensures { option_of result ≡ pick on (last_md text.now v (option_of old)) (option_of old) }
+pub fn on_md(text: &[u8], on: bool, v: Span, old: Option<Span>) -> Option<Span>
+    ensures { result ≡ pick on (last_md text.now v old) old }
 {
     if !on {
         return old;
     }
     if is_dealer(trim(shown(text, v))) {
-        return MaybeSpan::Present(v);
+        return Some(v);
     }
     old
 }
 
 // mc: an optional plus sign, then digits, at most 255; else the claim becomes absent.
-pub fn on_claim(text: &[u8], on: bool, v: Span, old: MaybeClaim) -> MaybeClaim
-    ensures { claim_of result ≡ pick on (number_in 255 (trimmed (bytes_at text.now v))) (claim_of old) }
+pub fn on_claim(text: &[u8], on: bool, v: Span, old: Option<u8>) -> Option<u8>
+    ensures { result ≡ pick on (number_in 255 (trimmed (bytes_at text.now v))) old }
 {
     if !on {
         return old;
     }
     match read_number(trim(shown(text, v)), 255) {
-        MaybeNumber::Number(n) => MaybeClaim::Claimed(n as u8),
-        MaybeNumber::Absent => MaybeClaim::Absent,
+        Some(n) => Some(n as u8),
+        None => None,
     }
 }
 
@@ -145,12 +140,9 @@ pub fn on_card(text: &[u8], v: Span, n: usize) -> usize
     one_more(read_card(trim(shown(text, v))), n)
 }
 
-fn one_more(card: MaybeCard, n: usize) -> usize
+fn one_more(card: Option<u8>, n: usize) -> usize
     requires { n < 2 ^ 32 }
-    ensures { result ≡ more (maybe_card card) n }
+    ensures { result ≡ more card n }
 {
-    match card {
-        MaybeCard::Card(_) => n + 1,
-        MaybeCard::Nothing => n,
-    }
+    n + usize::from(card.is_some())
 }

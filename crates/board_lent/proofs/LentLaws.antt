@@ -1,60 +1,53 @@
--- Laws of a lent board: one call off the front of the rows, the spans that it names, the checks. (01: Records; Eight refusals)
+-- Laws of a lent board: the calls of its rows, the spans that it names, the checks. (01: Records; Eight refusals)
 -- Assumes nothing.
-use Prim.Native.Nat.{ℕ, ◌+◌, ◌-◌, ◌/◌, ◌≤◌, ◌<◌}
+use Rattle.std.specs.Prelude.{Option, None, Some, Err, Ok, Result}
+use Prim.Native.Nat.{ℕ, suc, ◌+◌, ◌/◌, ◌≤◌, ◌<◌}
 use native.Mathlib.Numerals.{add-one}
 use native.Mathlib.Omega.{arith}
 use mathlib.Core.Path.{◌≡◌, refl, ap, sym, ◌∙◌}
 use mathlib.Core.Bool.{Bool, true, false, ◌&&◌, ◌||◌, not, or_assoc, or-false}
 use mathlib.Core.List.{List, [], ◌∷◌, ◌++◌, map}
-use mathlib.Core.Option.{Option, none, some}
-use lib.ListN.{length, get_or, take, drop, drop_of_length-le, length-drop}
-use lib.Seq.{drop-cons, length-take-le}
+use lib.ListN.{length, get_or, drop, drop_of_length-le}
+use lib.Seq.{drop-cons}
+use Rattle.std.specs.List.{list_any}
+use Rattle.std.specs.Simd.{first_chunks}
 use lib.Dec.{eqb}
 use borrow.Author.Tests.{eq-eqb, ne_eqb, lt-ltb, le-ltb, ltb-false}
 use Rattle.lin_spec.specs.Base.{pick, any}
-use Rattle.lin_spec.specs.Records.{limit, option_of}
+use Rattle.lin_spec.specs.Records.{limit}
 use Rattle.lin_spec.specs.Refusals.{unless, passes_end, ill_span}
-use Rattle.lin_spec.specs.Refusals.Answer.{refused, accepted}
 use Rattle.lin_spec.specs.Utf8.{longest}
 use Rattle.lin_spec.specs.Lent.{rows_of, call_row, call_rows, call_in, Lent, lent, lent_board, span_in, call_spans, lent_spans, bad_flag, bad_cards, bad_number, lent_checks}
 use Rattle.lin_spec.specs.declared.Span.{Span}
-use Rattle.lin_spec.specs.declared.MaybeSpan.{MaybeSpan}
-use Rattle.lin_spec.specs.declared.MaybeSpan.TheVariants.{Absent, Present}
 use Rattle.lin_spec.specs.declared.Call.{Call}
 use Rattle.lin_spec.specs.declared.Board.{Board}
-use Rattle.lin_spec.specs.declared.Verdict.{Verdict}
-use Rattle.lin_spec.specs.declared.Verdict.TheVariants.{Accepted, Refused}
 use Rattle.lin_spec.specs.declared.Refusal.{Refusal}
 use Rattle.lin_spec.specs.declared.Refusal.TheVariants.{TextTooLong, OutOfRange, SpanPastEnd, SpanNotUtf8}
 use Rattle.lin_spec.proofs.Base.{or_none, any_append}
 use Rattle.lin_spec.proofs.Checks.{unmet, unless-refused, unless-passed}
 use Rattle.text.proofs.IndexLaws.{indexed_first}
-use Rattle.text.proofs.ListLaws.{next_word}
-use Rattle.board_lent.specs.Calls.{row_at, call_at, spans_of_call}
+use Rattle.board_lent.specs.Calls.{of_row, spans_of_call}
 use Rattle.board_lent.specs.declared.heads.Head.{Head}
 use Rattle.board_lent.specs.declared.checks.Bounds.{Bounds}
 use Rattle.board_lent.specs.Heads.{board_of, head_spans}
-use Rattle.board_lent.specs.Checks.{verdict_of, checked, amiss, Started, RowsBounded, Bounded}
+use Rattle.board_lent.specs.Checks.{checked, amiss, Started, RowsBounded, Bounded}
 
-pub no_rows : {A : Type 0} (cs : List A) → length cs ≡ 0 → cs ≡ []
-no_rows [] h = refl
-no_rows (c ∷ cs) h = absurd (let z : ⊥ = omega arith in z)
+-- Whether a test holds of an element
+
+-- the library's word for it
+pub any_is : {A : Type 0} (f : A → Bool) (xs : List A) → list_any f xs ≡ any f xs
+unfolding any
+any_is f [] = refl
+any_is f (x ∷ xs) = ap (λ (t : Bool). f x || t) (any_is f xs)
+
+any-map : {A B : Type 0} (f : A → B) (p : B → Bool) (xs : List A) → any p (map f xs) ≡ any (λ x. p (f x)) xs
+unfolding any
+any-map f p [] = refl
+any-map f p (x ∷ xs) = ap (λ (t : Bool). p (f x) || t) (any-map f p xs)
 
 -- The rows, of any kind
 
 module _ {A : Type 0} (f : ℕ → ℕ → ℕ → ℕ → ℕ → ℕ → A) where
-  -- one row off the front
-  pub rows-front : (ws : List ℕ) (i : ℕ) → 6 ≤ length ws - i → rows_of f (drop i ws) ≡ row_at f ws i ∷ rows_of f (drop (i + 6) ws)
-  unfolding rows_of
-  rows-front ws i h =
-      let a = next_word ws i (i + 1) refl (omega arith) in
-      let b = next_word ws (i + 1) (i + 2) (omega arith) (omega arith) in
-      let c = next_word ws (i + 2) (i + 3) (omega arith) (omega arith) in
-      let d = next_word ws (i + 3) (i + 4) (omega arith) (omega arith) in
-      let e = next_word ws (i + 4) (i + 5) (omega arith) (omega arith) in
-      let g = next_word ws (i + 5) (i + 6) (omega arith) (omega arith) in
-      rw (a, b, c, d, e, g)
-
   -- how many there are
   pub rows-many : (ws : List ℕ) → length (rows_of f ws) ≡ length ws / 6
   unfolding rows_of
@@ -66,51 +59,29 @@ module _ {A : Type 0} (f : ℕ → ℕ → ℕ → ℕ → ℕ → ℕ → A) wh
   rows-many (a ∷ b ∷ c ∷ d ∷ e ∷ []) = refl
   rows-many (a ∷ b ∷ c ∷ d ∷ e ∷ g ∷ ws) = let z = rows-many ws in omega arith
 
-  -- a rest is no row
-  pub rows-rest : (ws : List ℕ) (i : ℕ) → length ws - i < 6 → rows_of f (drop i ws) ≡ []
-  rows-rest ws i h = no_rows (rows_of f (drop i ws)) (omega (arith, rows-many (drop i ws), length-drop i ws))
+  -- the rows are the chunks of six words
+  pub rows-chunks : (ws : List ℕ) → rows_of f ws ≡ map (of_row f) (first_chunks 6 (length ws / 6) ws)
+  unfolding rows_of
+  rows-chunks [] = refl
+  rows-chunks (a ∷ []) = refl
+  rows-chunks (a ∷ b ∷ []) = refl
+  rows-chunks (a ∷ b ∷ c ∷ []) = refl
+  rows-chunks (a ∷ b ∷ c ∷ d ∷ []) = refl
+  rows-chunks (a ∷ b ∷ c ∷ d ∷ e ∷ []) = refl
+  rows-chunks (a ∷ b ∷ c ∷ d ∷ e ∷ g ∷ ws) = let n : length (a ∷ b ∷ c ∷ d ∷ e ∷ g ∷ ws) / 6 ≡ suc (length ws / 6) = omega arith in
+      rw n (ap (λ (rs : List A). f a b c d e g ∷ rs) (rows-chunks ws))
+
+  -- a test of each row is one of each chunk
+  pub any-chunks : (p : A → Bool) (ws : List ℕ) (rs : List (List ℕ)) → rs ≡ first_chunks 6 (length ws / 6) ws
+      → any (λ r. p (of_row f r)) rs ≡ any p (rows_of f ws)
+  any-chunks p ws rs e = sym (ap (any p) (rows-chunks ws ∙ ap (map (of_row f)) (sym e)) ∙ any-map (of_row f) p rs)
 
 -- Calls
-
-pub rows_cons : (ws : List ℕ) (i : ℕ) → 6 ≤ length ws - i → call_rows (drop i ws) ≡ call_at ws i ∷ call_rows (drop (i + 6) ws)
-rows_cons ws i h = rows-front call_row ws i h
 
 pub rows-count : (ws : List ℕ) → length (call_rows ws) ≡ length ws / 6
 rows-count ws = rows-many call_row ws
 
-pub rows_end : (ws : List ℕ) (i : ℕ) → length ws - i < 6 → call_rows (drop i ws) ≡ []
-rows_end ws i h = rows-rest call_row ws i h
-
--- Whether a row passes a test: none of those before word i does
-
-module _ {A : Type 0} (g : ℕ → ℕ → ℕ → ℕ → ℕ → ℕ → A) (f : A → Bool) (ws : List ℕ) (i : ℕ) (v : any f (rows_of g (drop i ws)) ≡ any f (rows_of g ws)) where
-  pub none_row : length ws - i < 6 → false ≡ any f (rows_of g ws)
-  unfolding any
-  none_row h = (let z = rw (rows-rest g ws i h) at v in z)
-
-  module _ (h : 6 ≤ length ws - i) (c : A) (q : c ≡ row_at g ws i) (t : Bool) (e : t ≡ f c) where
-    row_cons : any f (rows_of g (drop i ws)) ≡ (t || any f (rows_of g (drop (i + 6) ws)))
-    unfolding any
-    row_cons = rw (rows-front g ws i h, ← q, e) refl
-
-    pub found-row : t ≡ true → true ≡ any f (rows_of g ws)
-    found-row k = sym (sym v ∙ row_cons ∙ simp k)
-
-    pub next_row : t ≡ false → any f (rows_of g (drop (i + 6) ws)) ≡ any f (rows_of g ws)
-    next_row k = (let z : any f (rows_of g (drop (i + 6) ws)) ≡ (t || any f (rows_of g (drop (i + 6) ws))) = simp k in z) ∙ sym row_cons ∙ v
-
--- Whether a row passes it, every row being looked at: t says whether one before word i does
-
-module _ {A : Type 0} (g : ℕ → ℕ → ℕ → ℕ → ℕ → ℕ → A) (f : A → Bool) (ws : List ℕ) (i : ℕ) (t : Bool) (v : (t || any f (rows_of g (drop i ws))) ≡ any f (rows_of g ws)) where
-  pub all-rows : length ws - i < 6 → t ≡ any f (rows_of g ws)
-  unfolding any
-  all-rows h = sym (or-false t) ∙ (let z = rw (rows-rest g ws i h) at v in z)
-
-  pub or_row : 6 ≤ length ws - i → (c : A) → c ≡ row_at g ws i → (u : Bool) → u ≡ f c → ((t || u) || any f (rows_of g (drop (i + 6) ws))) ≡ any f (rows_of g ws)
-  unfolding any
-  or_row h c q u e = or_assoc t u (any f (rows_of g (drop (i + 6) ws))) ∙ (let z : (t || any f (rows_of g (drop i ws))) ≡ (t || (u || any f (rows_of g (drop (i + 6) ws)))) = rw (rows-front g ws i h, ← q, e) refl in sym z) ∙ v
-
--- The same of the elements of any list
+-- Whether an element passes a test, every one being looked at: t says whether one before the i-th does
 
 module _ {A : Type 0} (f : A → Bool) (d : A) (xs : List A) (i : ℕ) (t : Bool) (v : (t || any f (drop i xs)) ≡ any f xs) where
   pub all-each : length xs ≤ i → t ≡ any f xs
@@ -123,29 +94,16 @@ module _ {A : Type 0} (f : A → Bool) (d : A) (xs : List A) (i : ℕ) (t : Bool
 
 -- A text that may be absent
 
-module _ (f : Span → Bool) (x : MaybeSpan) where
-  pub absent_none : x ≡ Absent → false ≡ any f (span_in (option_of x))
+module _ (f : Span → Bool) (x : Option Span) where
+  pub absent_none : x ≡ None → false ≡ any f (span_in x)
   unfolding any
   absent_none e = rw e refl
 
-  pub present-one : (y : Span) → x ≡ Present y → f y ≡ any f (span_in (option_of x))
+  pub present-one : (y : Span) → x ≡ Some y → f y ≡ any f (span_in x)
   unfolding any
   present-one y e = rw e (sym (or-false (f y)))
 
--- A look at a span
-
-module _ (s : List ℕ) (x : Span) (u : Bool) (p : u ≡ passes_end s x) where
-  -- one that passes the end is not asked for 6
-  pub amiss-past : u ≡ true → true ≡ amiss s x
-  amiss-past h = rw (← p, h) refl
-
-  pub amiss-within : u ≡ false → (t : Bool) → t ≡ ill_span s x → t ≡ amiss s x
-  amiss-within h t f = rw (← p, h) f
-
 -- An index of one word or none
-
-pub word_count : (n w : ℕ) → w ≤ 1 → w ≡ length (take w (n ∷ []))
-word_count n w h = sym (length-take-le w (n ∷ []) h)
 
 pub started : (s : List ℕ) (n : ℕ) → n ≡ longest s → length s ≤ limit → Started s (record { first = n; words = 1 })
 started s n e h = record { few = omega arith; index = indexed_first s n e; short = λ _. h }
@@ -171,17 +129,9 @@ module _ (f : Span → Bool) (c : Call) where
   unfolding any
   call_either t u et eu = rw (et, eu) (ap (λ (w : Bool). f c.bid || w) (go (eqb c.annotated 0)))
     where
-      go : (b : Bool) → (not b && f c.annotation) ≡ any f (span_in (pick b none (some c.annotation)))
+      go : (b : Bool) → (not b && f c.annotation) ≡ any f (span_in (pick b None (Some c.annotation)))
       go true = refl
       go false = sym (or-false (f c.annotation))
-
--- how many bytes both have together
-module _ (c : Call) (m : ℕ) where
-  pub bytes-bare : c.annotated ≡ 0 → m ≡ m + pick (eqb c.annotated 0) 0 c.annotation.len
-  bytes-bare e = rw (eq-eqb c.annotated 0 e) (omega arith)
-
-  pub bytes-both : (c.annotated ≡ 0 → ⊥) → m + c.annotation.len ≡ m + pick (eqb c.annotated 0) 0 c.annotation.len
-  bytes-both e = rw (ne_eqb c.annotated 0 e) refl
 
 -- All spans: the names, the texts that may be absent, and those of the calls
 
@@ -197,13 +147,13 @@ unfolding lent_spans lent_board
 spans-any f s h ds calls cs = simp (any_append, calls-any, or_assoc)
 
 pub head_any : (f : Span → Bool) (h : Head) → any f (head_spans h)
-    ≡ (any f h.names || (any f (span_in (option_of h.title)) || (any f (span_in (option_of h.room_board)) || any f (span_in (option_of h.board_header)))))
+    ≡ (any f h.names || (any f (span_in h.title) || (any f (span_in h.room_board) || any f (span_in h.board_header))))
 head_any f h = simp any_append
 
 -- the four tests of it
-pub head_four : (f : Span → Bool) (h : Head) (a b c d : Bool) → a ≡ any f h.names → b ≡ any f (span_in (option_of h.title))
-    → c ≡ any f (span_in (option_of h.room_board)) → d ≡ any f (span_in (option_of h.board_header)) → (a || (b || (c || d))) ≡ any f (head_spans h)
-head_four f h a b c d ea eb ec ed = rw (ea, eb, ec, ed) (sym (head_any f h))
+pub head_four : (f : Span → Bool) (h : Head) (a b c d : Bool) → a ≡ any f h.names → b ≡ any f (span_in h.title)
+    → c ≡ any f (span_in h.room_board) → d ≡ any f (span_in h.board_header) → (((a || b) || c) || d) ≡ any f (head_spans h)
+head_four f h a b c d ea eb ec ed = rw (ea, eb, ec, ed) (simp or_assoc (sym (head_any f h)))
 
 -- a card or a flag outside its range, whatever the board
 pub number_is : (s : List ℕ) (b : Board) (ws cs : List ℕ) → bad_number (lent s b ws cs) ≡ (bad_cards cs || any bad_flag (call_rows ws))
@@ -233,31 +183,31 @@ texts-ill x r f h t e = sym (e ∙ amiss-ill x.text (lent_spans x) (sym f.ends �
 -- The verdict, by the tests that led there
 
 module _ (other : Bool) (x : Lent) where
-  pub check_long : limit < length x.text → refused TextTooLong ≡ checked other x
+  pub check_long : limit < length x.text → Err TextTooLong ≡ checked other x
   unfolding unless lent_checks
   check_long h = simp (lt-ltb limit (length x.text) h)
 
   module _ (h : length x.text ≤ limit) where
-    pub check_other : other ≡ true → refused OutOfRange ≡ checked other x
+    pub check_other : other ≡ true → Err OutOfRange ≡ checked other x
     unfolding unless lent_checks
     check_other o = simp (le-ltb limit (length x.text) h, o)
 
     module _ (o : other ≡ false) (r : Bounds) (f : Bounded x r) where
-      pub check_number : r.number ≡ true → refused OutOfRange ≡ checked other x
+      pub check_number : r.number ≡ true → Err OutOfRange ≡ checked other x
       unfolding unless lent_checks
       check_number k = simp (le-ltb limit (length x.text) h, o, ← f.numbers, k)
 
       module _ (k : r.number ≡ false) where
-        pub check_past : r.past ≡ true → refused SpanPastEnd ≡ checked other x
+        pub check_past : r.past ≡ true → Err SpanPastEnd ≡ checked other x
         unfolding unless lent_checks
         check_past l = simp (le-ltb limit (length x.text) h, o, ← f.numbers, k, ← f.ends, l)
 
         module _ (l : r.past ≡ false) (t : Bool) (e : t ≡ any (amiss x.text) (lent_spans x)) where
-          pub check_ill : t ≡ true → refused SpanNotUtf8 ≡ checked other x
+          pub check_ill : t ≡ true → Err SpanNotUtf8 ≡ checked other x
           unfolding unless lent_checks
           check_ill m = simp (le-ltb limit (length x.text) h, o, ← f.numbers, k, ← f.ends, l, texts-ill x r f l t e, m)
 
-          pub check_good : t ≡ false → accepted tt ≡ checked other x
+          pub check_good : t ≡ false → Ok tt ≡ checked other x
           unfolding unless lent_checks
           check_good m = simp (le-ltb limit (length x.text) h, o, ← f.numbers, k, ← f.ends, l, texts-ill x r f l t e, m)
 
@@ -271,7 +221,7 @@ pub record Passed (other : Bool) (x : Lent) : Type 0 where
   pub within : any (passes_end x.text) (lent_spans x) ≡ false
   pub utf8 : any (ill_span x.text) (lent_spans x) ≡ false
 
-pub passed : {A : Type 0} (other : Bool) (x : Lent) (a b : A) → unless (lent_checks other x) a ≡ accepted b → Passed other x
+pub passed : {A : Type 0} (other : Bool) (x : Lent) (a b : A) → unless (lent_checks other x) a ≡ Ok b → Passed other x
 unfolding lent_checks
 passed other x a b h =
     let p = unmet _ _ _ _ _ h in
@@ -282,12 +232,12 @@ passed other x a b h =
     record { short = ltb-false limit (length x.text) p.0; others = n.0; numbers = n.1; within = r.0; utf8 = u.0 }
 
 -- the call's answer, whatever checks follow and whatever its result would be
-module _ (other : Bool) (x : Lent) (v : Verdict) (e : verdict_of v ≡ checked other x) where
-  pub check_refuses : {B : Type 0} (ds : List (Option Refusal)) (b : B) (r : Refusal) → v ≡ Refused r → unless (lent_checks other x ++ ds) b ≡ refused r
-  check_refuses ds b r f = unless-refused (lent_checks other x) ds tt b r (sym e ∙ ap verdict_of f)
+module _ (other : Bool) (x : Lent) (v : Result Unit Refusal) (e : v ≡ checked other x) where
+  pub check_refuses : {B : Type 0} (ds : List (Option Refusal)) (b : B) (r : Refusal) → v ≡ Err r → unless (lent_checks other x ++ ds) b ≡ Err r
+  check_refuses ds b r f = unless-refused (lent_checks other x) ds tt b r (sym e ∙ f)
 
-  pub check_passes : {B : Type 0} (ds : List (Option Refusal)) (b : B) → v ≡ Accepted → unless (lent_checks other x ++ ds) b ≡ unless ds b
-  check_passes ds b f = unless-passed (lent_checks other x) ds tt tt b (sym e ∙ ap verdict_of f)
+  pub check_passes : {B : Type 0} (ds : List (Option Refusal)) (b : B) → v ≡ (Ok tt) → unless (lent_checks other x ++ ds) b ≡ unless ds b
+  check_passes ds b f = unless-passed (lent_checks other x) ds tt tt b (sym e ∙ f)
 
-  pub check_passed : v ≡ Accepted → Passed other x
-  check_passed f = passed other x tt tt (sym e ∙ ap verdict_of f)
+  pub check_passed : v ≡ (Ok tt) → Passed other x
+  check_passed f = passed other x tt tt (sym e ∙ f)

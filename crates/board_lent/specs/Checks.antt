@@ -3,20 +3,12 @@ use Rattle.std.specs.Prelude.{ℕ, ◌≤◌, ◌<◌, ◌≡◌, Bool, ◌||◌
 use Rattle.lin_spec.specs.Base.{any}
 use Rattle.lin_spec.specs.Records.{limit}
 use Rattle.lin_spec.specs.Refusals.{Answer, unless, passes_end, ill_span}
-use Rattle.lin_spec.specs.Refusals.Answer.{refused, accepted}
 use Rattle.lin_spec.specs.declared.Span.{Span}
 use Rattle.lin_spec.specs.Lent.{call_rows, Lent, lent_spans, bad_flag, bad_number, lent_checks}
-use Rattle.lin_spec.specs.declared.Verdict.{Verdict}
-use Rattle.lin_spec.specs.declared.Verdict.TheVariants.{Accepted, Refused}
 use Rattle.text.specs.Index.{Indexed}
 use Rattle.board_lent.specs.declared.checks.Bounds.{Bounds}
 use Rattle.board_lent.specs.declared.checks.Start.{Start}
 use Rattle.board_lent.specs.Calls.{spans_of_call}
-
--- a verdict as an answer that has no result
-abbrev pub verdict_of : Verdict → Answer Unit
-verdict_of Accepted = accepted tt
-verdict_of (Refused r) = refused r
 
 -- the refusal of the first check that meets the board, if one does
 abbrev pub checked : (other : Bool) → Lent → Answer Unit

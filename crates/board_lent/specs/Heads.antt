@@ -1,6 +1,5 @@
 -- A board in two parts: its deal, and all else. (01: Records)
 use Rattle.std.specs.Prelude.{ℕ, List, ◌++◌}
-use Rattle.lin_spec.specs.Records.{option_of}
 use Rattle.lin_spec.specs.Lent.{span_in}
 use Rattle.lin_spec.specs.declared.Span.{Span}
 use Rattle.lin_spec.specs.declared.Board.{Board}
@@ -33,4 +32,4 @@ board_of h cs =
 
 -- the spans that it names
 abbrev pub head_spans : Head → List Span
-head_spans h = h.names ++ (span_in (option_of h.title) ++ (span_in (option_of h.room_board) ++ span_in (option_of h.board_header)))
+head_spans h = h.names ++ (span_in h.title ++ (span_in h.room_board ++ span_in h.board_header))

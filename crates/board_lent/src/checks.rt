@@ -1,28 +1,27 @@
 // The checks of a lent board: 1, 8, 5 and 6, each over all that is lent before the next. (01: Eight refusals)
-ghost use Rattle.std.specs.Prelude.{◌≡◌, List, ℕ, ◌+◌, ◌≤◌, ◌<◌, length};
+ghost use Rattle.std.specs.Prelude.{◌≡◌, Bool, List, ℕ, ◌+◌, ◌≤◌, ◌<◌, length};
 ghost use Rattle.lin_spec.specs.Base.{any};
-ghost use Rattle.lin_spec.specs.Records.{limit, option_of};
+ghost use Rattle.lin_spec.specs.Records.{limit};
 ghost use Rattle.lin_spec.specs.Refusals.{passes_end};
 ghost use Rattle.lin_spec.specs.Lent.{call_rows, lent, lent_spans, span_in, bad_flag, bad_cards};
+ghost use Rattle.lin_spec.specs.declared.Span.{Span};
 ghost use Rattle.text.specs.Index.{Indexed};
 ghost use Rattle.board_lent.specs.Calls.{spans_of_call, text_bytes};
 ghost use Rattle.board_lent.specs.Heads.{board_of, head_spans};
-ghost use Rattle.board_lent.specs.Checks.{verdict_of, checked, amiss, Started, RowsBounded, Bounded};
+ghost use Rattle.board_lent.specs.Checks.{checked, amiss, Started, RowsBounded, Bounded};
 
-use crate::calls::call_at;
+use crate::calls::call_of;
 use crate::heads::Head;
-use lin_spec::{Call, LIMIT, MaybeSpan, Refusal, Span, Verdict};
+use lin_spec::{Call, LIMIT, Refusal, Span};
 use text::{index_text, past_end, span_ill, well_formed_len};
 
-// Whether a card is none of the 52.
+// Whether a card is none of the 52. Each is looked at, so that many are at once.
 pub fn bad_cards(cards: &[u8]) -> bool
     ensures { result ≡ bad_cards cards.now }
 {
     let mut bad = false;
-    let mut i = 0;
-    while i < cards.len() {
-        bad = bad | (51 < cards[i]);
-        i += 1;
+    for &card in cards {
+        bad |= 51 < card;
     }
     bad
 }
@@ -45,32 +44,6 @@ fn meets(text: &[u8], next: &[u32], x: Span) -> bool
     span_ill(text, next, x)
 }
 
-// Whether 5 or 6 meets a name.
-fn name_meets(text: &[u8], next: &[u32], names: [Span; 4]) -> bool
-    requires { Indexed text.now next.now }
-    ensures { result ≡ any (amiss text.now) names }
-{
-    let mut seat = 0;
-    while seat < 4 {
-        if meets(text, next, names[seat]) {
-            return true;
-        }
-        seat += 1;
-    }
-    false
-}
-
-// Whether 5 or 6 meets a text that is present.
-fn present_meets(text: &[u8], next: &[u32], x: MaybeSpan) -> bool
-    requires { Indexed text.now next.now }
-    ensures { result ≡ any (amiss text.now) (span_in (option_of x)) }
-{
-    match x {
-        MaybeSpan::Absent => false,
-        MaybeSpan::Present(s) => meets(text, next, s),
-    }
-}
-
 // Whether 5 or 6 meets a text of a call. The place of an annotation that is absent is not looked at.
 pub fn call_meets(text: &[u8], next: &[u32], c: Call) -> bool
     requires { Indexed text.now next.now }
@@ -85,20 +58,34 @@ pub fn call_meets(text: &[u8], next: &[u32], c: Call) -> bool
     meets(text, next, c.annotation)
 }
 
+// Whether a text that is present passes a test.
+fn any_present<F: Fn(Span) -> bool>(x: Option<Span>, test: F) -> bool
+    requires { F.IsAlwaysCallable test }
+    ensures { (p : Span → Bool) → ((y : Span) (r : Bool) → F.post test y r → r ≡ p y) → result ≡ any p (span_in x) }
+{
+    match x {
+        None => false,
+        Some(s) => test(s),
+    }
+}
+
+// Whether a text of the heading passes a test.
+fn any_text<F: Fn(Span) -> bool>(head: Head, test: F) -> bool
+    requires { F.IsAlwaysCallable test }
+    ensures { (p : Span → Bool) → ((y : Span) (r : Bool) → F.post test y r → r ≡ p y) → result ≡ any p (head_spans head) }
+{
+    head.names.iter().any(|&x| test(x))
+        | any_present(head.title, &test)
+        | any_present(head.room_board, &test)
+        | any_present(head.board_header, &test)
+}
+
 // Whether 5 or 6 meets a text of the heading.
 pub fn head_meets(text: &[u8], next: &[u32], head: Head) -> bool
     requires { Indexed text.now next.now }
     ensures { result ≡ any (amiss text.now) (head_spans head) }
 {
-    let names = head.names;
-    let title = head.title;
-    let room_board = head.room_board;
-    let board_header = head.board_header;
-    let a = name_meets(text, next, names);
-    let b = present_meets(text, next, title);
-    let c = present_meets(text, next, room_board);
-    let d = present_meets(text, next, board_header);
-    a | (b | (c | d))
+    any_text(head, |x| meets(text, next, x))
 }
 
 // What is wrong with the numbers of what is lent: whether 8 meets a card or a flag, and 5 a span.
@@ -123,52 +110,19 @@ fn row_bounds(text: &[u8], rows: &[u32]) -> Bounds
 {
     let mut number = false;
     let mut past = false;
-    let mut i = 0;
-    while 6 <= rows.len() - i {
-        let c = call_at(rows, i);
-        number = number | bad_flag(c);
-        past = past | call_past(text, c);
-        i += 6;
+    for &row in rows.as_chunks::<6>().0 {
+        let c = call_of(row);
+        number |= bad_flag(c);
+        past |= call_past(text, c);
     }
     Bounds { number, past }
-}
-
-// Whether a name passes the end. All four are looked at.
-fn name_past(text: &[u8], names: [Span; 4]) -> bool
-    ensures { result ≡ any (passes_end text.now) names }
-{
-    let mut past = false;
-    let mut seat = 0;
-    while seat < 4 {
-        past = past | past_end(text, names[seat]);
-        seat += 1;
-    }
-    past
-}
-
-// Whether a text that is present passes the end.
-fn present_past(text: &[u8], x: MaybeSpan) -> bool
-    ensures { result ≡ any (passes_end text.now) (span_in (option_of x)) }
-{
-    match x {
-        MaybeSpan::Absent => false,
-        MaybeSpan::Present(s) => past_end(text, s),
-    }
 }
 
 // Whether a text of the heading passes the end.
 pub fn head_past(text: &[u8], head: Head) -> bool
     ensures { result ≡ any (passes_end text.now) (head_spans head) }
 {
-    let names = head.names;
-    let title = head.title;
-    let room_board = head.room_board;
-    let board_header = head.board_header;
-    let a = name_past(text, names);
-    let b = present_past(text, title);
-    let c = present_past(text, room_board);
-    let d = present_past(text, board_header);
-    a | (b | (c | d))
+    any_text(head, |x| past_end(text, x))
 }
 
 // What is wrong with the numbers of a lent board, whatever its deal.
@@ -186,13 +140,10 @@ fn rows_meet(text: &[u8], next: &[u32], rows: &[u32]) -> bool
     requires { Indexed text.now next.now }
     ensures { result ≡ any (λ c. any (amiss text.now) (spans_of_call c)) (call_rows rows.now) }
 {
-    let mut found = false;
-    let mut i = 0;
-    while 6 <= rows.len() - i {
-        found = found | call_meets(text, next, call_at(rows, i));
-        i += 6;
-    }
-    found
+    rows.as_chunks::<6>()
+        .0
+        .iter()
+        .any(|&row| call_meets(text, next, call_of(row)))
 }
 
 // The bid and the annotation together.
@@ -208,14 +159,12 @@ pub fn call_bytes(c: Call) -> u64
 // Whether the texts of the rows have together more bytes than the text. It says only how to look, which no answer depends on, so it promises nothing.
 pub fn spans_pass(len: usize, rows: &[u32]) -> bool {
     let mut left = len as u64;
-    let mut i = 0;
-    while 6 <= rows.len() - i {
-        let n = call_bytes(call_at(rows, i));
+    for &row in rows.as_chunks::<6>().0 {
+        let n = call_bytes(call_of(row));
         if left < n {
             return true;
         }
         left -= n;
-        i += 6;
     }
     false
 }
@@ -293,24 +242,30 @@ pub fn ill_texts(text: &[u8], head: Head, rows: &[u32]) -> bool
 }
 
 // The first of the checks that meets the call, whatever the deal. `other` says whether another number of the call is outside its range.
-pub fn check_board(other: bool, text: &[u8], head: Head, rows: &[u32], cards: &[u8]) -> Verdict
-    ensures { (counts : List ℕ) → verdict_of result ≡ checked other (lent text.now (board_of head counts) rows.now cards.now) }
+pub fn check_board(
+    other: bool,
+    text: &[u8],
+    head: Head,
+    rows: &[u32],
+    cards: &[u8],
+) -> Result<(), Refusal>
+    ensures { (counts : List ℕ) → result ≡ checked other (lent text.now (board_of head counts) rows.now cards.now) }
 {
     if LIMIT < text.len() {
-        return Verdict::Refused(Refusal::TextTooLong);
+        return Err(Refusal::TextTooLong);
     }
     if other {
-        return Verdict::Refused(Refusal::OutOfRange);
+        return Err(Refusal::OutOfRange);
     }
     let found = bounds_of(text, head, rows, cards);
     if found.number {
-        return Verdict::Refused(Refusal::OutOfRange);
+        return Err(Refusal::OutOfRange);
     }
     if found.past {
-        return Verdict::Refused(Refusal::SpanPastEnd);
+        return Err(Refusal::SpanPastEnd);
     }
     if ill_texts(text, head, rows) {
-        return Verdict::Refused(Refusal::SpanNotUtf8);
+        return Err(Refusal::SpanNotUtf8);
     }
-    Verdict::Accepted
+    Ok(())
 }

@@ -2,17 +2,17 @@
 ghost use Rattle.std.specs.Prelude.{◌≡◌};
 ghost use Rattle.board_lent.specs.Heads.{head_of};
 
-use lin_spec::{Board, MaybeClaim, MaybeSpan, Seat, Span, Vulnerability};
+use lin_spec::{Board, Seat, Span, Vulnerability};
 
 #[derive(Clone, Copy)]
 pub struct Head {
     pub names: [Span; 4],
     pub dealer: Seat,
     pub vulnerability: Vulnerability,
-    pub title: MaybeSpan,
-    pub room_board: MaybeSpan,
-    pub board_header: MaybeSpan,
-    pub claim: MaybeClaim,
+    pub title: Option<Span>,
+    pub room_board: Option<Span>,
+    pub board_header: Option<Span>,
+    pub claim: Option<u8>,
 }
 
 // The board without its deal.

@@ -5,7 +5,7 @@ mod calls;
 mod checks;
 mod heads;
 
-pub use calls::call_at;
+pub use calls::call_of;
 pub use checks::{
     Bounds, bad_cards, bad_flag, bounds_of, call_bytes, call_meets, call_past, check_board,
     head_meets, head_past, ill_texts, one_by_one, spans_pass,

@@ -1,14 +1,13 @@
 -- Laws of calls one at a time: the next mb, the annotation after it, and a bid without its exclamation marks. (01: Board, mb and an)
 -- Assumes nothing.
-use Prim.Native.Nat.{ℕ, suc, ◌+◌, ◌-◌, ◌≤◌, ◌<◌}
+use Rattle.std.specs.Prelude.{Option, None, Some}
+use Prim.Native.Nat.{ℕ, suc, ◌+◌, ◌≤◌}
 use native.Mathlib.Nat.{add-zero}
 use native.Mathlib.Omega.{arith}
-use mathlib.Core.Path.{◌≡◌, refl, ap, sym, subst, ◌∙◌}
+use mathlib.Core.Path.{◌≡◌, refl, ap, sym, ◌∙◌}
 use mathlib.Core.Bool.{Bool, true, false, ◌&&◌, and-true, and-false, and_assoc}
 use mathlib.Core.List.{List, [], ◌∷◌, ◌++◌}
-use mathlib.Core.Option.{Option, none, some}
-use lib.ListN.{length, get_or, take, length-take}
-use lib.Seq.{take_all, take-suc}
+use lib.ListN.{length}
 use lib.Dec.{eqb, ltb, leb-zero, leb-suc-suc}
 use borrow.Author.Tests.{eq-eqb, ne_eqb}
 use Rattle.lin_spec.specs.Base.{pick, ascii, all}
@@ -20,9 +19,8 @@ use Rattle.lin_spec.proofs.Records.{part_length}
 use Rattle.lin_spec.proofs.Reading.{part_most}
 use Rattle.lin_spec.specs.declared.Span.{Span}
 use Rattle.document_commands.specs.Steps.{TokenAt}
-use Rattle.board_loop.specs.declared.calls.Bid.{Bid}
 use Rattle.lin_spec.specs.Lent.{is_present, place_of, row_of}
-use Rattle.board_loop.specs.Calls.{row_words, with, calls_after, calls_from, Bids}
+use Rattle.board_loop.specs.Calls.{row_words, with, calls_after, calls_from}
 use Rattle.document_commands.proofs.StepLaws.{command-is}
 
 -- at the end of the tokens
@@ -46,7 +44,7 @@ module _ (s : List ℕ) (at k : ℕ) (v : Span) (n : ℕ) (t : TokenAt s at k v 
     is_mb : is_command t.command (ascii "mb") ≡ true
     is_mb = mb_is ∙ eq-eqb k 1 h
 
-    pub from_mb : calls_from s (stream s at) ≡ calls_after s (call_of (span_text s) v) none (stream s n)
+    pub from_mb : calls_from s (stream s at) ≡ calls_after s (call_of (span_text s) v) None (stream s n)
     unfolding calls_from
     from_mb = simp (t.front, is_mb)
 
@@ -62,7 +60,7 @@ module _ (s : List ℕ) (at k : ℕ) (v : Span) (n : ℕ) (t : TokenAt s at k v 
     unfolding calls_from
     from-other = simp (t.front, no_mb)
 
-    pub after-other : (c : CallOf Span) (a a' : Option Span) → a' ≡ pick (eqb k 2) (some v) a → calls_after s c a' (stream s n) ≡ calls_after s c a (stream s at)
+    pub after-other : (c : CallOf Span) (a a' : Option Span) → a' ≡ pick (eqb k 2) (Some v) a → calls_after s c a' (stream s n) ≡ calls_after s c a (stream s at)
     unfolding calls_after
     after-other c a a' e = rw e (simp (t.front, no_mb, an_is))
 
@@ -88,25 +86,17 @@ without_snoc c (a ∷ x) b = go (eqb b c) (only_snoc c x b) (without_snoc c x b)
     go false e f = simp (e, f, and-false)
 
 -- going back over the marks from the end
-module _ (s : List ℕ) (n : ℕ) (h : 0 < n) (w : n ≤ length s) where
-  last : take n s ≡ take (n - 1) s ++ (get_or s (n - 1) 0 ∷ [])
-  last = let q : n ≡ suc (n - 1) = omega arith in ap (λ (k : ℕ). take k s) q ∙ take-suc s (n - 1) 0 (omega arith)
+module _ (s x : List ℕ) (b : ℕ) (e : s ≡ x ++ (b ∷ [])) where
+  pub mark_off : b ≡ 0x21 → without_end 0x21 x ≡ without_end 0x21 s
+  mark_off h = sym (ap (without_end 0x21) e ∙ without_snoc 0x21 x b ∙ simp (eq-eqb b 0x21 h))
 
-  pub mark_off : get_or s (n - 1) 0 ≡ 0x21 → without_end 0x21 (take (n - 1) s) ≡ without_end 0x21 (take n s)
-  mark_off e = sym (ap (without_end 0x21) last ∙ without_snoc 0x21 (take (n - 1) s) (get_or s (n - 1) 0) ∙ simp (eq-eqb _ 0x21 e))
+  pub mark-none : (b ≡ 0x21 → ⊥) → s ≡ without_end 0x21 s
+  mark-none h = sym (ap (without_end 0x21) e ∙ without_snoc 0x21 x b ∙ simp (ne_eqb b 0x21 h) (sym e))
 
-  pub mark-none : (get_or s (n - 1) 0 ≡ 0x21 → ⊥) → without_end 0x21 (take n s) ≡ take n s
-  mark-none e = ap (without_end 0x21) last ∙ without_snoc 0x21 (take (n - 1) s) (get_or s (n - 1) 0) ∙ simp (ne_eqb _ 0x21 e) (sym last)
-
-pub take_whole : (s : List ℕ) → without_end 0x21 (take (length s) s) ≡ without_end 0x21 s
-take_whole s = ap (without_end 0x21) (take_all (length s) s (omega arith))
-
-pub take_len : (s : List ℕ) (n : ℕ) → n ≤ length s → n ≡ length (take n s)
-take_len s n h = rw (length-take n s) (omega arith)
-
-pub marks_only : (s : List ℕ) (n : ℕ) → n ≤ 0 → without_end 0x21 (take n s) ≡ without_end 0x21 s → n ≡ length (without_end 0x21 s)
+pub nothing-left : (s : List ℕ) → length s ≡ 0 → s ≡ without_end 0x21 s
 unfolding without_end
-marks_only s n h e = let z : n ≡ 0 = omega arith in z ∙ ap length (sym (ap (λ (k : ℕ). without_end 0x21 (take k s)) z) ∙ e)
+nothing-left [] h = refl
+nothing-left (b ∷ s) h = absurd (let z : ⊥ = omega arith in z)
 
 -- what is left is shorter exactly where the value ends in the mark
 pub ends_shorter : (c : ℕ) (s : List ℕ) → ends_in c s ≡ ltb (length (without_end c s)) (length s)
@@ -138,10 +128,6 @@ call-row s v n t w en et o e =
 pub bid-short : (s : List ℕ) (v : Span) (x : List ℕ) (n : ℕ) → n ≤ length x → x ≡ bytes_at s v → n ≤ v.len
 bid-short s v x n h e = let a = ap length e in let b = part_most s v.start v.len in omega arith
 
--- what an mb that was called for and taken apart says
-pub bidden : (s : List ℕ) (at : ℕ) (r v : Bid) → Bids s at r → r ≡ v → Bids s at v
-bidden s at r v h e = subst (Bids s at) e h
-
 -- an annotation is put on a call, and no call comes or goes
 pub annotated-length : {A : Type 0} (v : A) (cs : List (CallOf A)) → length (annotated v cs) ≡ length cs
 unfolding annotated
@@ -157,5 +143,5 @@ words_cons c cs = go c.annotation
     go : (o : Option Span)
         → c.bid.start ∷ c.bid.len ∷ flag c.alerted ∷ (annotation_words o ++ call_words cs)
         ≡ c.bid.start ∷ c.bid.len ∷ flag c.alerted ∷ is_present o ∷ (place_of o).start ∷ (place_of o).len ∷ call_words cs
-    go none = refl
-    go (some x) = refl
+    go None = refl
+    go (Some x) = refl

@@ -1,11 +1,11 @@
 -- Laws of a heading while it is read: what a token leaves of it. (01: Board)
 -- Assumes nothing.
+use Rattle.std.specs.Prelude.{Option, None, Some}
 use Prim.Native.Nat.{ℕ, ◌+◌, ◌≤◌, ◌<◌}
 use native.Mathlib.Omega.{arith}
 use mathlib.Core.Path.{◌≡◌, refl, ap, sym, ◌∙◌}
 use mathlib.Core.Bool.{Bool}
 use mathlib.Core.List.{List, [], ◌∷◌}
-use mathlib.Core.Option.{Option, none, some}
 use lib.ListN.{length, get_or}
 use lib.Dec.{eqb}
 use borrow.Author.Tests.{eq-eqb, ne_eqb}
@@ -36,7 +36,7 @@ empty_is s v h = go (bytes_at s v) (part_length s v.start v.len h)
     go (b ∷ x) e = sym (ne_eqb v.len 0 (λ k. omega arith))
 
 -- one more, where there is a card
-pub card-more : (o : Option ℕ) (r n x : ℕ) → some r ≡ o → x ≡ n + 1 → x ≡ more o n
+pub card-more : (o : Option ℕ) (r n x : ℕ) → Some r ≡ o → x ≡ n + 1 → x ≡ more o n
 card-more o r n x e f = f ∙ ap (λ (y : Option ℕ). more y n) e
 
 -- A token that changes one number of a heading, or nothing
@@ -85,8 +85,8 @@ module _ (s : List ℕ) (ts us : List (TokenOf Span)) (h h₀ : ReadHead) (c : L
   cards_most = rw p.cards (picked (λ (n : ℕ). n ≤ h.cards + 1) (eqb k 0) (λ _. one (read_card (trim (bytes_at s v)))) (λ _. omega arith))
     where
       one : (o : Option ℕ) → more o h.cards ≤ h.cards + 1
-      one none = omega arith
-      one (some c) = omega arith
+      one None = omega arith
+      one (Some c) = omega arith
 
 -- The loop: the cursor at a place, and what the tokens from there on leave
 

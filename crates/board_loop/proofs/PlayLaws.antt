@@ -1,12 +1,12 @@
 -- Laws of cards one at a time. (01: Board, pc)
 -- Assumes nothing.
+use Rattle.std.specs.Prelude.{Option, None}
 use Prim.Native.Nat.{ℕ}
 use native.Mathlib.Omega.{arith}
-use mathlib.Core.Path.{◌≡◌, refl}
+use mathlib.Core.Path.{◌≡◌}
 use mathlib.Core.List.{List, []}
-use mathlib.Core.Option.{Option, none}
 use lib.Dec.{eqb}
-use borrow.Author.Tests.{eq-eqb, ne_eqb}
+use borrow.Author.Tests.{eq-eqb}
 use Rattle.lin_spec.specs.Base.{pick, ascii}
 use Rattle.lin_spec.specs.Records.{bytes_at}
 use Rattle.lin_spec.specs.White.{trim, is_command}
@@ -22,7 +22,7 @@ unfolding cards_from
 no_card s at e = simp e
 
 -- a token's card, o, goes before those of the rest
-pub card-here : (s : List ℕ) (at k : ℕ) (v : Span) (n : ℕ) → TokenAt s at k v n → (o : Option ℕ) → o ≡ pick (eqb k 0) (read_card (trim (bytes_at s v))) none
+pub card-here : (s : List ℕ) (at k : ℕ) (v : Span) (n : ℕ) → TokenAt s at k v n → (o : Option ℕ) → o ≡ pick (eqb k 0) (read_card (trim (bytes_at s v))) None
     → cards_from s (stream s at) ≡ before o (cards_from s (stream s n))
 unfolding cards_from
 card-here s at k v n t o e =
@@ -30,8 +30,5 @@ card-here s at k v n t o e =
     rw e (simp (t.front, q))
 
 -- whether the token is a pc
-pub card-on : (k : ℕ) → k ≡ 0 → (o x : Option ℕ) → o ≡ x → o ≡ pick (eqb k 0) x none
+pub card-on : (k : ℕ) → k ≡ 0 → (o x : Option ℕ) → o ≡ x → o ≡ pick (eqb k 0) x None
 card-on k h o x e = rw (eq-eqb k 0 h) e
-
-pub card_off : (k : ℕ) → (k ≡ 0 → ⊥) → (x : Option ℕ) → none ≡ pick (eqb k 0) x none
-card_off k h x = rw (ne_eqb k 0 h) refl

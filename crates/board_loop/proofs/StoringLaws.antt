@@ -1,12 +1,12 @@
 -- Laws of a board that is stored while its tokens are read: the calls and cards so far stand in rows and cards. (01: Board)
 -- Assumes nothing.
+use Rattle.std.specs.Prelude.{Option, None, Some}
 use Prim.Native.Nat.{ℕ, ◌+◌, ◌-◌, ◌*◌, ◌≤◌, ◌<◌}
 use native.Mathlib.Nat.{zero-add}
 use native.Mathlib.Omega.{arith}
 use mathlib.Core.Path.{◌≡◌, refl, ap, sym, ◌∙◌}
 use mathlib.Core.Bool.{Bool, true, false}
 use mathlib.Core.List.{List, [], ◌∷◌, ◌++◌, append_assoc, append-nil}
-use mathlib.Core.Option.{Option, none, some}
 use lib.ListN.{length, take, drop, length-append}
 use lib.Seq.{take-append_seam, drop-append-add}
 use lib.Dec.{eqb}
@@ -21,7 +21,6 @@ use Rattle.lin_spec.specs.Output.{overlay}
 use Rattle.lin_spec.specs.Board.{CallOf, call_of, annotated, played, over, on_calls, on_play, board_from}
 use Rattle.lin_spec.specs.Reading.{span_text, stream, flag, annotation_words, call_words}
 use Rattle.lin_spec.specs.declared.Span.{Span}
-use Rattle.lin_spec.specs.declared.Call.{Call}
 use Rattle.output.specs.Put.{Room, Put}
 use Rattle.output.proofs.Laws.{overlay-nil, overlay-overlay, length-overlay}
 use Rattle.document_commands.specs.Steps.{TokenAt}
@@ -52,8 +51,8 @@ calls-grow s (token w v ∷ ts) cs = go (is_command w (ascii "mb")) (is_command 
     go false false f = f cs
 
 played-more : (o : Option ℕ) (cs : List ℕ) → played o cs ≡ cs ++ before o []
-played-more none cs = sym (append-nil cs)
-played-more (some c) cs = refl
+played-more None cs = sym (append-nil cs)
+played-more (Some c) cs = refl
 
 play-grow : (s : List ℕ) (ts : List (TokenOf Span)) (cs : List ℕ) → length cs ≤ length (over (on_play (span_text s)) cs ts)
 unfolding over
@@ -70,34 +69,21 @@ play-grow s (token w v ∷ ts) cs = go (is_command w (ascii "pc")) (play-grow s 
 -- The card of a pc, or none
 
 module _ (cards : List ℕ) (at : ℕ) (s : List ℕ) (v : Span) where
-  pub one-room : (c : ℕ) → some c ≡ read_card (trim (bytes_at s v)) → Room cards at (pc_card s v) → Room cards at (c ∷ [])
+  pub one-room : (c : ℕ) → Some c ≡ read_card (trim (bytes_at s v)) → Room cards at (pc_card s v) → Room cards at (c ∷ [])
   one-room c e r = rw (← e) at r
 
-  pub one_put : (c : ℕ) → some c ≡ read_card (trim (bytes_at s v)) → (cards' : List ℕ) (n : ℕ) → Put cards at (c ∷ []) cards' n → Put cards at (pc_card s v) cards' n
+  pub one_put : (c : ℕ) → Some c ≡ read_card (trim (bytes_at s v)) → (cards' : List ℕ) (n : ℕ) → Put cards at (c ∷ []) cards' n → Put cards at (pc_card s v) cards' n
   one_put c e cards' n p = rw (← e) p
 
-  pub none_put : none ≡ read_card (trim (bytes_at s v)) → Put cards at (pc_card s v) cards at
+  pub none_put : None ≡ read_card (trim (bytes_at s v)) → Put cards at (pc_card s v) cards at
   none_put e = rw (← e) (record { next = omega arith; text = sym (overlay-nil cards at) })
 
 -- A row more, and the last row's annotation
-
-module _ (rows : List ℕ) (i : ℕ) (s : List ℕ) (v : Span) (r : Call) (e : r ≡ row_of (call_of (span_text s) v)) where
-  pub row_room : Room rows (i * 6) (bid_words s v) → Room rows (i * 6) (row_words r)
-  row_room h = rw e h
-
-  pub row_put : (rows' : List ℕ) (n : ℕ) → Put rows (i * 6) (row_words r) rows' n → rows' ≡ overlay rows (i * 6) (bid_words s v)
-  row_put rows' n p = p.text ∙ ap (λ (c : Call). overlay rows (i * 6) (row_words c)) e
 
 module _ (rows : List ℕ) (i : ℕ) (v : Span) where
   pub last-room : 0 < i → i * 6 ≤ length rows → Room rows (i * 6 - 3) (note_words v)
   unfolding note_words
   last-room h l = record { room = omega arith }
-
-  pub last-noted : 0 < i → (rows' : List ℕ) (n : ℕ) → Put rows (i * 6 - 3) (note_words v) rows' n → rows' ≡ noted rows i v
-  last-noted h rows' n p = simp (ne_eqb i 0 (λ e. omega arith)) p.text
-
-  pub none-noted : i ≤ 0 → rows ≡ noted rows i v
-  none-noted h = simp (eq-eqb i 0 (omega arith))
 
 words_snoc : (cs : List (CallOf Span)) (c : CallOf Span) → call_words (cs ++ (c ∷ [])) ≡ call_words cs ++ row_words (row_of c)
 unfolding call_words
@@ -115,8 +101,8 @@ record Upto (v : Span) (cs : List (CallOf Span)) : Type 0 where
   is : call_words (annotated v cs) ≡ front ++ note_words v
 
 note_three : (o : Option Span) → length (annotation_words o ++ []) ≡ 3
-note_three none = refl
-note_three (some x) = refl
+note_three None = refl
+note_three (Some x) = refl
 
 upto : (v : Span) (cs : List (CallOf Span)) (c : CallOf Span) → Upto v (c ∷ cs)
 unfolding call_words annotated note_words
@@ -276,8 +262,8 @@ module _ (s : List ℕ) (at₀ : ℕ) (rows₀ cards₀ : List ℕ) (f : Fits s 
           }
 
       counted : (o : Option ℕ) (x : ℕ) → x ≡ h.cards + length (before o []) → x ≡ more o h.cards
-      counted none x q = omega arith
-      counted (some c) x q = q
+      counted None x q = omega arith
+      counted (Some c) x q = q
 
       pub into_card : (cards' : List ℕ) (x : ℕ) → Put cards h.cards (pc_card s v) cards' x
           → Into s at₀ rows₀ cards₀ rows cards' (record { names = h.names; md = h.md; vulnerability = h.vulnerability; title = h.title; room = h.room; header = h.header; claim = h.claim; calls = h.calls; cards = x }) m

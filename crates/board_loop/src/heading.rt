@@ -8,18 +8,18 @@ ghost use Rattle.board_loop.specs.Head.{Stepped, Leaves, fresh_head};
 use board_fields::{on_card, on_claim, on_md, on_names, on_present, on_sv, on_value};
 use cards::LETTERS;
 use document_commands::{AH, BoardToken, MB, MC, MD, MN, PC, PN, QX, SV, board_token};
-use lin_spec::{MaybeClaim, MaybeSpan, Span, Vulnerability};
+use lin_spec::{Span, Vulnerability};
 
 // A heading while it is read. The value of the last md that was accepted stands for dealer and deal.
 #[derive(Clone, Copy)]
 pub struct ReadHead {
     pub names: [Span; 4],
-    pub md: MaybeSpan,
+    pub md: Option<Span>,
     pub vulnerability: Vulnerability,
-    pub title: MaybeSpan,
-    pub room: MaybeSpan,
-    pub header: MaybeSpan,
-    pub claim: MaybeClaim,
+    pub title: Option<Span>,
+    pub room: Option<Span>,
+    pub header: Option<Span>,
+    pub claim: Option<u8>,
     pub calls: usize,
     pub cards: usize,
 }
@@ -63,12 +63,12 @@ pub(crate) fn fresh_head() -> ReadHead
     let none = Span { start: 0, len: 0 };
     ReadHead {
         names: [none, none, none, none],
-        md: MaybeSpan::Absent,
+        md: None,
         vulnerability: Vulnerability::None,
-        title: MaybeSpan::Absent,
-        room: MaybeSpan::Absent,
-        header: MaybeSpan::Absent,
-        claim: MaybeClaim::Absent,
+        title: None,
+        room: None,
+        header: None,
+        claim: None,
         calls: 0,
         cards: 0,
     }

@@ -7,8 +7,8 @@ mod heading;
 mod play;
 mod storing;
 
-pub use calls::{NextCall, next_call};
+pub use calls::next_call;
 pub use dealing::dealt_by;
 pub use heading::{ReadHead, read_head};
-pub use play::{NextCard, next_card};
+pub use play::next_card;
 pub use storing::read_into;

@@ -10,10 +10,10 @@ ghost use Rattle.board_loop.specs.Storing.{bid_words, note_words, noted, Fits, S
 use crate::calls::call_of;
 use crate::heading::{ReadHead, fresh_head, step};
 use crate::play::card_at;
-use cards::{LETTERS, MaybeCard};
+use cards::LETTERS;
 use document_commands::{AN, BoardToken, MB, PC, board_token};
-use lin_spec::{Call, MaybeSpan, Span};
-use output::{put_byte, put_word};
+use lin_spec::{Call, Span};
+use output::put;
 
 // Stores a call in a row of six words.
 fn store_call(rows: &mut [u32], at: usize, c: Call) -> usize
@@ -22,12 +22,12 @@ fn store_call(rows: &mut [u32], at: usize, c: Call) -> usize
 {
     let bid = c.bid;
     let annotation = c.annotation;
-    let a = put_word(rows, at, bid.start);
-    let b = put_word(rows, a, bid.len);
-    let d = put_word(rows, b, c.alerted);
-    let e = put_word(rows, d, c.annotated);
-    let f = put_word(rows, e, annotation.start);
-    put_word(rows, f, annotation.len)
+    let a = put(rows, at, bid.start);
+    let b = put(rows, a, bid.len);
+    let d = put(rows, b, c.alerted);
+    let e = put(rows, d, c.annotated);
+    let f = put(rows, e, annotation.start);
+    put(rows, f, annotation.len)
 }
 
 // Stores the call of an mb value in the row i, and gives the number of the next row.
@@ -35,7 +35,7 @@ fn store_bid(rows: &mut [u32], i: usize, text: &[u8], v: Span) -> usize
     requires { (end_of v ≤ length text.now) × Room rows.old (i * 6) (bid_words text.now v) }
     ensures { (result ≡ i + 1) × (rows.new ≡ overlay rows.old (i * 6) (bid_words text.now v)) }
 {
-    let call = call_of(text, v, MaybeSpan::Absent);
+    let call = call_of(text, v, None);
     store_call(rows, i * 6, call);
     i + 1
 }
@@ -45,9 +45,9 @@ fn store_note(rows: &mut [u32], at: usize, v: Span) -> usize
     requires { Room rows.old at (note_words v) }
     ensures { Put rows.old at (note_words v) rows.new result }
 {
-    let a = put_word(rows, at, 1);
-    let b = put_word(rows, a, v.start);
-    put_word(rows, b, v.len)
+    let a = put(rows, at, 1);
+    let b = put(rows, a, v.start);
+    put(rows, b, v.len)
 }
 
 // Stores an annotation in the last of i rows, if there is one.
@@ -66,8 +66,8 @@ fn store_card(cards: &mut [u8], at: usize, text: &[u8], v: Span) -> usize
     ensures { Put cards.old at (pc_card text.now v) cards.new result }
 {
     match card_at(text, PC, v) {
-        MaybeCard::Card(c) => put_byte(cards, at, c),
-        MaybeCard::Nothing => at,
+        Some(c) => put(cards, at, c),
+        None => at,
     }
 }
 
@@ -82,7 +82,7 @@ pub fn read_into(text: &[u8], at: usize, rows: &mut [u32], cards: &mut [u8]) -> 
     loop {
         match board_token(&letters, text, c) {
             BoardToken::Card(card, next) => {
-                h.cards = put_byte(cards, h.cards, card);
+                h.cards = put(cards, h.cards, card);
                 c = next;
             }
             BoardToken::Known(k, v, next) => {

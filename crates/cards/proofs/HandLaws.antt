@@ -1,6 +1,7 @@
 -- Hands as the code goes through them: the loop over a text, the loop that sums, three hands. (01: Records;
 -- Board, md)
 -- Assumes nothing.
+use Rattle.std.specs.Prelude.{Option, None, Some}
 use Prim.Native.Nat.{ℕ, zero, suc, ◌+◌, ◌-◌, ◌*◌, ◌≤◌, ◌<◌}
 use native.Mathlib.Nat.{zero-add, suc-add}
 use native.Mathlib.Numerals.{add-one}
@@ -8,7 +9,6 @@ use native.Mathlib.Omega.{arith}
 use mathlib.Core.Path.{◌≡◌, refl, ap, sym, ◌∙◌}
 use mathlib.Core.Bool.{Bool, true, false, ◌&&◌, and-false, false≢true}
 use mathlib.Core.List.{List, [], ◌∷◌, ◌++◌, map}
-use mathlib.Core.Option.{Option, none, some}
 use lib.ListN.{length, get_or, set, take, drop, length-map, length-set, length-take, length-drop, drop_of_length-le, take-append-drop, get_or-append}
 use lib.Seq.{drop-cons, drop-drop, length-take-le, get_or-take, get_or-drop, get_or-append-add, set-append_left}
 use lib.Dec.{eqb, leb, ltb}
@@ -54,7 +54,7 @@ pub record Turn (s h : List ℕ) (suit i n : ℕ) : Type 0 where
   pub number : (suit_of (get_or s i 0) ≡ suit_in n) × (rank_of (get_or s i 0) ≡ rank_in n)
 
 -- what another letter than a suit's adds to a hand
-added : (b : ℕ) (suit : Option ℕ) (h s : List ℕ) → suit_of b ≡ none → hand_from suit h (b ∷ s) ≡ hand_from suit (with_card (card_of suit (rank_of b)) h) s
+added : (b : ℕ) (suit : Option ℕ) (h s : List ℕ) → suit_of b ≡ None → hand_from suit h (b ∷ s) ≡ hand_from suit (with_card (card_of suit (rank_of b)) h) s
 unfolding hand_from
 added b suit h s e = rw e
 
@@ -66,13 +66,13 @@ module _ {s h : List ℕ} {suit i n : ℕ} (v : Turn s h suit i n) where
   pub hand_suit : n < 4 → HandInv s h n (i + 1)
   unfolding hand_from
   hand_suit k =
-      let e : suit_of (get_or s i 0) ≡ some n = v.number.0 ∙ simp (lt-ltb n 4 k) in
-      let f : suit_in n ≡ some n = simp (lt-ltb n 4 k) in
+      let e : suit_of (get_or s i 0) ≡ Some n = v.number.0 ∙ simp (lt-ltb n 4 k) in
+      let f : suit_in n ≡ Some n = simp (lt-ltb n 4 k) in
       record { same = rw f (rw e at here); few = omega (arith, v.inv.few) }
 
   -- after another one
   module _ (k : 4 ≤ n) where
-    no_suit : suit_of (get_or s i 0) ≡ none
+    no_suit : suit_of (get_or s i 0) ≡ None
     no_suit = v.number.0 ∙ simp (le-ltb n 4 k)
 
     left : (c : Option ℕ) → card_of (suit_in suit) (rank_in n) ≡ c → hand_from (suit_in suit) (with_card c h) (drop (i + 1) s) ≡ read_hand s
@@ -82,9 +82,9 @@ module _ {s h : List ℕ} {suit i n : ℕ} (v : Turn s h suit i n) where
 
     -- after one that adds no card
     pub hand_skip : (ltb suit 4 && ltb n 17) ≡ false → HandInv s h suit (i + 1)
-    hand_skip e = record { same = left none (go (ltb suit 4) (ltb n 17) e); few = omega (arith, v.inv.few) }
+    hand_skip e = record { same = left None (go (ltb suit 4) (ltb n 17) e); few = omega (arith, v.inv.few) }
       where
-        go : (t u : Bool) → (t && u) ≡ false → card_of (pick t (some suit) none) (pick (leb 4 n && u) (some (n - 4)) none) ≡ none
+        go : (t u : Bool) → (t && u) ≡ false → card_of (pick t (Some suit) None) (pick (leb 4 n && u) (Some (n - 4)) None) ≡ None
         go false u e = refl
         go true true e = absurd (false≢true (sym e))
         go true false e = simp and-false
@@ -94,7 +94,11 @@ module _ {s h : List ℕ} {suit i n : ℕ} (v : Turn s h suit i n) where
     hand-card e =
         let a = and_left (ltb suit 4) (ltb n 17) e in
         let b = and_right (ltb suit 4) (ltb n 17) e in
-        record { same = left (some (suit * 13 + (n - 4))) (simp (a, b, le-leb 4 n k)); few = omega (arith, set_sum h (suit * 13 + (n - 4)), v.inv.few) }
+        record { same = left (Some (suit * 13 + (n - 4))) (simp (a, b, le-leb 4 n k)); few = omega (arith, set_sum h (suit * 13 + (n - 4)), v.inv.few) }
+
+-- the numbers of a card's suit and rank, by their test
+pub small : (suit n : ℕ) → (ltb suit 4 && ltb n 17) ≡ true → (suit < 4) × (n < 17)
+small suit n e = (ltb-true suit 4 (and_left (ltb suit 4) (ltb n 17) e), ltb-true n 17 (and_right (ltb suit 4) (ltb n 17) e))
 
 -- The same within a deal: at a seat's place stands the hand so far
 
@@ -170,8 +174,7 @@ module _ (s d counts : List ℕ) (seat suit i : ℕ) (v : Held s d counts seat s
         → Held s d (set counts (seat * 52 + (suit * 13 + (n - 4))) (get_or counts (seat * 52 + (suit * 13 + (n - 4))) 0 + 1)) seat suit (i + 1)
     held-card h f =
         let c = suit * 13 + (n - 4) in
-        let a = ltb-true suit 4 (and_left (ltb suit 4) (ltb n 17) f) in
-        let b = ltb-true n 17 (and_right (ltb suit 4) (ltb n 17) f) in
+        let a = small suit n f in
         let z : c < 52 = omega arith in
         record {
           hand = set v.hand c (get_or v.hand c 0 + 1);
@@ -281,21 +284,21 @@ module _ (s : List ℕ) (at : ℕ) (d counts : List ℕ) (seat suit i : ℕ) (v 
 
 -- a comma is no letter
 abbrev given : Option ℕ → Bool
-given none = false
-given (some n) = true
+given None = false
+given (Some n) = true
 
 pub comma_suit : (b n : ℕ) → suit_of b ≡ suit_in n → n < 4 → b ≡ 0x2C → ⊥
 unfolding suit_of index_of lower
 comma_suit b n e h f =
-    let a : suit_in n ≡ some n = simp (lt-ltb n 4 h) in
-    let z : none ≡ some n = (let y : suit_of 0x2C ≡ none = refl in sym y) ∙ ap suit_of (sym f) ∙ e ∙ a in
+    let a : suit_in n ≡ Some n = simp (lt-ltb n 4 h) in
+    let z : None ≡ Some n = (let y : suit_of 0x2C ≡ None = refl in sym y) ∙ ap suit_of (sym f) ∙ e ∙ a in
     false≢true (ap given z)
 
 pub comma_rank : (b n : ℕ) → rank_of b ≡ rank_in n → 4 ≤ n → n < 17 → b ≡ 0x2C → ⊥
 unfolding rank_of index_of lower
 comma_rank b n e h k f =
-    let a : rank_in n ≡ some (n - 4) = simp (le-leb 4 n h, lt-ltb n 17 k) in
-    let z : none ≡ some (n - 4) = (let y : rank_of 0x2C ≡ none = refl in sym y) ∙ ap rank_of (sym f) ∙ e ∙ a in
+    let a : rank_in n ≡ Some (n - 4) = simp (le-leb 4 n h, lt-ltb n 17 k) in
+    let z : None ≡ Some (n - 4) = (let y : rank_of 0x2C ≡ None = refl in sym y) ∙ ap rank_of (sym f) ∙ e ∙ a in
     false≢true (ap given z)
 
 -- The counts of a hand
@@ -324,6 +327,11 @@ sum-end h i n e l = let z : sum (drop i h) ≡ 0 = ap sum (drop_of_length-le h l
 pub counts_most : (d : List ℕ) (a m : ℕ) → length (part d a m) ≤ m
 unfolding part
 counts_most d a m = omega (arith, length-take m (drop a d))
+
+-- of a seat's hand, as a borrow gives it
+pub sum-hand : (d : List ℕ) (k f n : ℕ) → f ≡ k → n ≡ sum (take (f * 52 + 52 - f * 52) (drop (f * 52) d)) → n ≡ sum (part d (k * 52) 52)
+unfolding part
+sum-hand d k f n e s = let l : f * 52 + 52 - f * 52 ≡ 52 = omega arith in s ∙ rw (l, e) refl
 
 -- Three hands
 

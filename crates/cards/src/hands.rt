@@ -24,30 +24,18 @@ pub(crate) fn count_field(
 {
     let first = seat * Deal::CARDS;
     let mut suit: u8 = 4;
-    let mut i = at;
-    while i < s.len() {
+    for i in at..s.len() {
         let n = letter_number(letters, s[i]);
         if n < 4 {
             suit = n;
-            i += 1;
         } else if (suit < 4) & (n < 17) {
             let card = first + (suit * 13 + (n - 4)) as usize;
-            counts[card] = counts[card] + 1;
-            i += 1;
+            counts[card] += 1;
         } else if s[i] == b',' {
             return i + 1;
-        } else {
-            i += 1;
         }
     }
-    i
-}
-
-// A count as a number of 64 bits.
-fn wide_count(n: u32) -> u64
-    ensures { (result ≡ n) × (result < 2 ^ 32) }
-{
-    n as u64
+    s.len()
 }
 
 // How many cards a seat's hand has, by the counts of a deal.
@@ -55,11 +43,10 @@ pub fn seat_sum(counts: &[u32; 208], seat: Seat) -> u64
     ensures { (result ≡ hand_length counts.now seat) × (result < 2 ^ 38) }
 {
     let first = seat.number() * Deal::CARDS;
+    let hand = &counts[first..first + Deal::CARDS];
     let mut n: u64 = 0;
-    let mut c = 0;
-    while c < Deal::CARDS {
-        n += wide_count(counts[first + c]);
-        c += 1;
+    for &count in hand {
+        n += count as u64;
     }
     n
 }
@@ -86,9 +73,7 @@ pub(crate) fn count_rest(counts: &mut [u32; 208])
     requires { hand_of counts.old 3 ≡ no_cards }
     ensures { counts.new ≡ with_hand counts.old 3 (unheld_cards (hand_of counts.old 0) (hand_of counts.old 1) (hand_of counts.old 2)) }
 {
-    let mut c = 0;
-    while c < Deal::CARDS {
+    for c in 0..Deal::CARDS {
         counts[156 + c] = unheld(counts[c], counts[52 + c], counts[104 + c]);
-        c += 1;
     }
 }

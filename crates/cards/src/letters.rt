@@ -1,14 +1,7 @@
 // The letters of suits and ranks, and the text of one card. (01: Records; Board, pc)
 ghost use Rattle.std.specs.Prelude.{◌≡◌, ◌<◌};
 ghost use Rattle.lin_spec.specs.Cards.{suit_of, rank_of, read_card};
-ghost use Rattle.cards.specs.Letters.{table, lookup_of, maybe_card, suit_in, rank_in, CardIs};
-
-// The number of the suit or rank that a letter stands for, if it stands for one.
-#[derive(Clone, Copy)]
-pub enum Lookup {
-    Found(u8),
-    Nothing,
-}
+ghost use Rattle.cards.specs.Letters.{table, suit_in, rank_in, CardIs};
 
 // The numbers of the bytes below 128, one after the other: A for 0, up to R for 17. Whoever reads many letters copies it once and lends the copy.
 pub const LETTERS: [u8; 128] =
@@ -26,53 +19,42 @@ pub(crate) fn letter_number(letters: &[u8; 128], c: u8) -> u8
 }
 
 // The suit that a letter stands for: S, H, D, C are 0 to 3.
-pub fn suit_of(c: u8) -> Lookup
-    ensures { lookup_of result ≡ suit_of c }
+pub fn suit_of(c: u8) -> Option<u8>
+    ensures { result ≡ suit_of c }
 {
     let letters = LETTERS;
     let n = letter_number(&letters, c);
     if n < 4 {
-        return Lookup::Found(n);
+        return Some(n);
     }
-    Lookup::Nothing
+    None
 }
 
 // The rank that a letter stands for: 2 to 9, T, J, Q, K, A are 0 to 12.
-pub fn rank_of(c: u8) -> Lookup
-    ensures { lookup_of result ≡ rank_of c }
+pub fn rank_of(c: u8) -> Option<u8>
+    ensures { result ≡ rank_of c }
 {
     let letters = LETTERS;
     let n = letter_number(&letters, c);
     if n < 4 {
-        return Lookup::Nothing;
+        return None;
     }
     if n < 17 {
-        return Lookup::Found(n - 4);
+        return Some(n - 4);
     }
-    Lookup::Nothing
-}
-
-// A card, 0 to 51, if the text is one.
-#[derive(Clone, Copy)]
-pub enum MaybeCard {
-    Card(u8),
-    Nothing,
+    None
 }
 
 // The card that a text gives: exactly a suit and a rank.
-pub fn read_card(s: &[u8]) -> MaybeCard
-    ensures { maybe_card result ≡ read_card s.now }
+pub fn read_card(s: &[u8]) -> Option<u8>
+    ensures { result ≡ read_card s.now }
 {
     if s.len() != 2 {
-        return MaybeCard::Nothing;
+        return None;
     }
-    let Lookup::Found(u) = suit_of(s[0]) else {
-        return MaybeCard::Nothing;
-    };
-    let Lookup::Found(r) = rank_of(s[1]) else {
-        return MaybeCard::Nothing;
-    };
-    MaybeCard::Card(u * 13 + r)
+    let suit = suit_of(s[0])?;
+    let rank = rank_of(s[1])?;
+    Some(suit * 13 + rank)
 }
 
 // The card of two bytes by the table of letters, a suit and a rank; an answer below 52 is their card, and 52 says nothing.

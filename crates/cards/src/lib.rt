@@ -7,4 +7,4 @@ mod letters;
 
 pub use deals::count_deal;
 pub use hands::{seat_len, seat_sum};
-pub use letters::{LETTERS, Lookup, MaybeCard, card_number, rank_of, read_card, suit_of};
+pub use letters::{LETTERS, card_number, rank_of, read_card, suit_of};

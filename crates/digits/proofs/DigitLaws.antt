@@ -1,22 +1,19 @@
 -- Laws of the number that digits give, for a loop that stops counting at a bound. (01: Board, mc)
 -- Assumes nothing.
+use Rattle.std.specs.Prelude.{Option, None, Some}
 use Prim.Native.Nat.{ℕ, suc, ◌+◌, ◌*◌, ◌-◌, ◌≤◌, ◌<◌, min}
 use native.Mathlib.Numerals.{add-one}
 use native.Mathlib.Omega.{arith}
-use mathlib.Core.Path.{◌≡◌, refl, ap, sym, subst, ◌∙◌}
+use mathlib.Core.Path.{◌≡◌, refl, sym, subst, ◌∙◌}
 use mathlib.Core.Bool.{true, false, ◌&&◌, not, and-false}
 use mathlib.Core.List.{List, [], ◌∷◌}
-use mathlib.Core.Option.{Option, none, some}
-use lib.ListN.{length, get_or, take, drop, drop_of_length-le}
-use lib.Seq.{drop-cons, take_all}
-use borrow.Author.Tests.{eq-eqb, ne_eqb, leb-true, le-leb, lt-leb}
+use lib.ListN.{length, get_or, drop, drop_of_length-le}
+use lib.Seq.{drop-cons}
+use borrow.Author.Tests.{leb-true, le-leb, lt-leb}
 use lib.Dec.{leb}
 use Rattle.lin_spec.specs.Base.{null, all}
-use Rattle.lin_spec.proofs.Base.{and_left, and_right, picked, split}
+use Rattle.lin_spec.proofs.Base.{and_right, picked, split}
 use Rattle.lin_spec.specs.Board.{is_digit, all_digits, value_from, after_plus, number_in}
-use Rattle.digits.specs.Digits.{number_given}
-use Rattle.lin_spec.specs.declared.MaybeNumber.{MaybeNumber}
-use Rattle.lin_spec.specs.declared.MaybeNumber.TheVariants.{Number}
 
 -- a number that is past the bound stays past it
 value_least : (n : ℕ) (s : List ℕ) → n ≤ value_from n s
@@ -43,19 +40,6 @@ capped n top s = split n top (λ h. same h) (λ h. over h)
         let m = value_least top s in
         rw e (let z : min (value_from top s) top ≡ min (value_from n s) top = omega arith in z)
 
--- a plus sign
-pub plus_none : (s : List ℕ) → length s ≡ 0 → s ≡ after_plus s
-plus_none [] h = refl
-plus_none (b ∷ s) h = absurd (let z : ⊥ = omega arith in z)
-
-pub plus_here : (s : List ℕ) → (length s ≡ 0 → ⊥) → get_or s 0 0 ≡ 0x2B → take (length s - 1) (drop 1 s) ≡ after_plus s
-plus_here [] h e = absurd (h refl)
-plus_here (b ∷ s) h e = take_all (suc (length s) - 1) s (omega arith) ∙ simp (eq-eqb b 0x2B e)
-
-pub plus_not : (s : List ℕ) → (get_or s 0 0 ≡ 0x2B → ⊥) → s ≡ after_plus s
-plus_not [] h = refl
-plus_not (b ∷ s) h = simp (ne_eqb b 0x2B h)
-
 -- The loop over the digits t from i on: what is left to test, and what is left to count
 
 pub record Counted (t : List ℕ) (top i n : ℕ) : Type 0 where
@@ -80,21 +64,17 @@ module _ (t : List ℕ) (top i n : ℕ) (c : Counted t top i n) (h : i < length 
   unfolding all
   count-bad d = sym c.digits ∙ (rw (drop-cons t i 0 h, d) refl)
 
--- a digit is 0 or more
-pub digit_least : (b : ℕ) → is_digit b ≡ true → 48 < b + 1
-digit_least b h = omega (arith, leb-true 0x30 b (and_left (leb 0x30 b) (leb b 0x39) h))
-
 -- the answers
 module _ (s t : List ℕ) (bound : ℕ) (e : t ≡ after_plus s) where
-  pub number_empty : length t ≡ 0 → none ≡ number_in bound s
+  pub number_empty : length t ≡ 0 → None ≡ number_in bound s
   unfolding number_in
   number_empty h = go t refl h
     where
-      go : (u : List ℕ) → t ≡ u → length u ≡ 0 → none ≡ number_in bound s
+      go : (u : List ℕ) → t ≡ u → length u ≡ 0 → None ≡ number_in bound s
       go [] k l = simp (← e, k)
       go (b ∷ u) k l = absurd (let z : ⊥ = omega arith in z)
 
-  pub number-bad : (top i n : ℕ) → Counted t top i n → i < length t → is_digit (get_or t i 0) ≡ false → none ≡ number_in bound s
+  pub number-bad : (top i n : ℕ) → Counted t top i n → i < length t → is_digit (get_or t i 0) ≡ false → None ≡ number_in bound s
   unfolding number_in
   number-bad top i n c h d = simp (← e, count-bad t top i n c h d, and-false)
 
@@ -111,7 +91,7 @@ module _ (s t : List ℕ) (bound : ℕ) (e : t ≡ after_plus s) where
       go [] k = absurd (k refl)
       go (b ∷ u) k = refl
 
-  pub number_is : (length t ≡ 0 → ⊥) → (top i n : ℕ) → top ≡ bound + 1 → Counted t top i n → length t ≤ i → n < top → some n ≡ number_in bound s
+  pub number_is : (length t ≡ 0 → ⊥) → (top i n : ℕ) → top ≡ bound + 1 → Counted t top i n → length t ≤ i → n < top → Some n ≡ number_in bound s
   unfolding number_in
   number_is z top i n et c h l =
       let f = full top i n c h in
@@ -119,7 +99,7 @@ module _ (s t : List ℕ) (bound : ℕ) (e : t ≡ after_plus s) where
       let v : value_from 0 t ≡ n = omega arith in
       simp (← e, not_empty z, f.0, v, le-leb n bound (omega arith))
 
-  pub number-over : (length t ≡ 0 → ⊥) → (top i n : ℕ) → top ≡ bound + 1 → Counted t top i n → length t ≤ i → top ≤ n → none ≡ number_in bound s
+  pub number-over : (length t ≡ 0 → ⊥) → (top i n : ℕ) → top ≡ bound + 1 → Counted t top i n → length t ≤ i → top ≤ n → None ≡ number_in bound s
   unfolding number_in
   number-over z top i n et c h l =
       let f = full top i n c h in
@@ -128,8 +108,8 @@ module _ (s t : List ℕ) (bound : ℕ) (e : t ≡ after_plus s) where
 
 -- a number that was read is at most the bound
 abbrev Most : (bound : ℕ) → Option ℕ → Type 0
-Most bound none = Unit
-Most bound (some n) = n ≤ bound
+Most bound None = Unit
+Most bound (Some n) = n ≤ bound
 
 most : (bound : ℕ) (s : List ℕ) → Most bound (number_in bound s)
 unfolding number_in
@@ -138,5 +118,5 @@ most bound s =
     picked (Most bound) (not (null t) && (all_digits t && leb (value_from 0 t) bound))
     (λ e. leb-true (value_from 0 t) bound (and_right (all_digits t) _ (and_right (not (null t)) _ e))) (λ _. tt)
 
-pub number_most : (bound : ℕ) (s : List ℕ) (r : MaybeNumber) (n : ℕ) → number_given r ≡ number_in bound s → r ≡ Number n → n ≤ bound
-number_most bound s r n e f = subst (Most bound) (sym e ∙ ap number_given f) (most bound s)
+pub number_most : (bound : ℕ) (s : List ℕ) (r : Option ℕ) (n : ℕ) → r ≡ number_in bound s → r ≡ Some n → n ≤ bound
+number_most bound s r n e f = subst (Most bound) (sym e ∙ f) (most bound s)

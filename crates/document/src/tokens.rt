@@ -28,17 +28,11 @@ pub struct Token {
     pub value: Part,
 }
 
-#[derive(Clone, Copy)]
-pub enum Opened {
-    At(Cursor),
-    Refused(Refusal),
-}
-
 // A token with the cursor after it; or none, with the cursor where it was.
 #[derive(Clone, Copy)]
-pub enum Step {
-    Found(Token, Cursor),
-    Ended(Cursor),
+pub struct Step {
+    pub token: Option<Token>,
+    pub cursor: Cursor,
 }
 
 // A cursor and its place.
@@ -49,17 +43,17 @@ pub struct Position {
 }
 
 // A cursor at the first byte of a text that is short enough and UTF-8.
-pub fn open(text: &[u8]) -> Opened
+pub fn open(text: &[u8]) -> Result<Cursor, Refusal>
     ensures { opened_of result ≡ open_text text.now }
 {
     if LIMIT < text.len() {
-        return Opened::Refused(Refusal::TextTooLong);
+        return Err(Refusal::TextTooLong);
     }
     let good = well_formed_len(text);
     if good < text.len() {
-        return Opened::Refused(Refusal::NotUtf8(good as u64));
+        return Err(Refusal::NotUtf8(good as u64));
     }
-    Opened::At(Cursor { at: 0 })
+    Ok(Cursor { at: 0 })
 }
 
 // The place of the first pipe at or after from, or the length where there is none.
@@ -74,15 +68,20 @@ impl Cursor {
     pub fn next(self, text: &[u8]) -> Step
         ensures { step_of result ≡ step_at text.now self.at }
     {
+        let cursor = self;
+        let stays = Step {
+            token: None,
+            cursor,
+        };
         let at = self.at;
         let p = next_pipe(text, at);
         if text.len() <= p {
-            return Step::Ended(self);
+            return stays;
         }
         let v = p + 1;
         let q = next_pipe(text, v);
         if text.len() <= q {
-            return Step::Ended(self);
+            return stays;
         }
         let command = Part {
             start: at,
@@ -92,7 +91,10 @@ impl Cursor {
             start: v,
             len: q - v,
         };
-        Step::Found(Token { command, value }, Cursor { at: q + 1 })
+        Step {
+            token: Some(Token { command, value }),
+            cursor: Cursor { at: q + 1 },
+        }
     }
 
     // The cursor, and where it stands.

@@ -1,12 +1,12 @@
 -- Laws of tokens whose command has two bytes, perhaps after an LF, and whose value is short: what their bytes say. (01: Tokens)
 -- Assumes nothing.
+use Rattle.std.specs.Prelude.{Some}
 use Prim.Native.Nat.{ℕ, suc, ◌+◌, ◌-◌, ◌≤◌, ◌<◌}
 use native.Mathlib.Numerals.{add-one}
 use native.Mathlib.Omega.{arith}
 use mathlib.Core.Path.{◌≡◌, refl, ap, sym, subst, ◌∙◌}
 use mathlib.Core.Bool.{Bool, true, false, ◌&&◌, ◌||◌, not, false≢true}
 use mathlib.Core.List.{List, [], ◌∷◌}
-use mathlib.Core.Option.{some}
 use lib.ListN.{length, get_or}
 use lib.Seq.{drop-cons}
 use lib.Dec.{eqb, leb}
@@ -130,7 +130,7 @@ module _ (s : List ℕ) (at a r : ℕ) (k : Skips s at a) (t : CardAt s a r) whe
       let g : a + 5 + 1 ≡ a + 6 = omega arith in
       subst (λ (n : ℕ). TokenAt s at 0 (span (a + 3) 2) n) g (subst (λ (m : ℕ). TokenAt s at 0 (span (a + 3) m) (a + 5 + 1)) e (short-token s at a (a + 5) k t.short 0 t.command))
 
-  pub card-value : some r ≡ read_card (trim (bytes_at s (span (a + 3) 2)))
+  pub card-value : Some r ≡ read_card (trim (bytes_at s (span (a + 3) 2)))
   card-value = sym t.card
 
 -- A token whose value is sought

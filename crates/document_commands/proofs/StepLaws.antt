@@ -1,5 +1,7 @@
 -- Laws of one token with its command's number. (01: Tokens, Board)
 -- Assumes nothing.
+use Rattle.std.specs.Prelude.{Option}
+use Rattle.document.specs.declared.tokens.Cursor.{Cursor}
 use Prim.Native.Nat.{ℕ, ◌+◌, ◌-◌, ◌^◌, ◌≤◌, ◌<◌}
 use native.Mathlib.Omega.{arith}
 use mathlib.Core.Path.{◌≡◌, ap, sym, subst, ◌∙◌}
@@ -19,7 +21,6 @@ use Rattle.lin_spec.proofs.Reading.{streams}
 use Rattle.document.specs.declared.tokens.Part.{Part}
 use Rattle.document_commands.specs.Commands.{words, command_of}
 use Rattle.document_commands.specs.Steps.{TokenAt, Commands, BoardTokens, PartTokens}
-use Rattle.document_commands.specs.declared.steps.Commanded.{Commanded}
 use Rattle.document_commands.specs.declared.steps.BoardToken.{BoardToken}
 use Rattle.document_commands.specs.declared.steps.PartToken.{PartToken}
 use Rattle.document_commands.proofs.CommandLaws.{code_is}
@@ -58,7 +59,7 @@ module _ (s : List ℕ) (at p q : ℕ) (ep : p ≡ find_from pipe s at) (eq : q 
     pipes_token k ek = token-at s at _ _ _ (step_two s at p ep pipes_first q eq h) k ek
 
 -- what a step that was called for and taken apart says
-pub commanded : (s : List ℕ) (at : ℕ) (r v : Commanded) → Commands s at r → r ≡ v → Commands s at v
+pub commanded : (s : List ℕ) (at : ℕ) (r v : Option (ℕ × Part × Cursor)) → Commands s at r → r ≡ v → Commands s at v
 commanded s at r v h e = subst (Commands s at) e h
 
 pub tokened : (s : List ℕ) (at : ℕ) (r v : BoardToken) → BoardTokens s at r → r ≡ v → BoardTokens s at v

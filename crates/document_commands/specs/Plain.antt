@@ -1,6 +1,5 @@
 -- What a few bytes say of the token that they are. (01: Tokens)
-use Rattle.std.specs.Prelude.{ℕ, ◌+◌, ◌-◌, ◌≤◌, ◌<◌, ◌≡◌, length, List}
-use Rattle.std.proofs.Math.Option.{some}
+use Rattle.std.specs.Prelude.{ℕ, ◌+◌, ◌-◌, ◌≤◌, ◌<◌, ◌≡◌, length, List, Some}
 use Rattle.lin_spec.specs.Records.{part}
 use Rattle.lin_spec.specs.White.{trim, lower}
 use Rattle.lin_spec.specs.Tokens.{pipe}
@@ -28,7 +27,7 @@ pub record ShortAt (s : List ℕ) (a q : ℕ) : Type 0 where
 pub record CardAt (s : List ℕ) (a r : ℕ) : Type 0 where
   pub short : ShortAt s a (a + 5)
   pub command : pc_no ≡ command_of (part s a 2)
-  pub card : read_card (trim (part s (a + 3) 2)) ≡ some r
+  pub card : read_card (trim (part s (a + 3) 2)) ≡ Some r
 
 -- a `pg||`
 pub record PageAt (s : List ℕ) (a : ℕ) : Type 0 where

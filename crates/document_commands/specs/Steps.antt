@@ -1,6 +1,7 @@
 -- What one token with its command's number says of the tokens from there on. (01: Tokens, Board)
-use Rattle.std.specs.Prelude.{ℕ, ◌+◌, ◌<◌, ◌≤◌, ◌≡◌, List, [], ◌∷◌, length}
-use Rattle.std.proofs.Math.Option.{some}
+use Rattle.document.specs.declared.tokens.Cursor.{Cursor}
+use Rattle.document.specs.declared.tokens.Part.{Part}
+use Rattle.std.specs.Prelude.{ℕ, ◌+◌, ◌<◌, ◌≤◌, ◌≡◌, List, [], ◌∷◌, length, Some, Option, None}
 use Rattle.lin_spec.specs.Records.{span, end_of, bytes_at}
 use Rattle.lin_spec.specs.Tokens.TokenOf.{token}
 use Rattle.lin_spec.specs.Reading.{stream}
@@ -8,8 +9,6 @@ use Rattle.lin_spec.specs.declared.Span.{Span}
 use Rattle.lin_spec.specs.White.{trim}
 use Rattle.lin_spec.specs.Cards.{read_card}
 use Rattle.document_commands.specs.Commands.{command_of, pc_no, mc_no, Unmarked}
-use Rattle.document_commands.specs.declared.steps.Commanded.{Commanded}
-use Rattle.document_commands.specs.declared.steps.Commanded.TheVariants.{Token, Ended}
 use Rattle.document_commands.specs.declared.steps.BoardToken.{BoardToken}
 use Rattle.document_commands.specs.declared.steps.BoardToken.TheVariants.{Card, Known, Other, Ended as NoToken}
 use Rattle.document_commands.specs.declared.steps.PartToken.{PartToken}
@@ -25,15 +24,15 @@ pub record TokenAt (s : List ℕ) (at k : ℕ) (v : Span) (n : ℕ) : Type 0 whe
   pub later : at < n
   pub within : n ≤ length s
 
-abbrev pub Commands : (s : List ℕ) (at : ℕ) → Commanded → Type 0
-Commands s at (Token k p c) = TokenAt s at k (span p.start p.len) c.at
-Commands s at Ended = stream s at ≡ []
+abbrev pub Commands : (s : List ℕ) (at : ℕ) → Option (ℕ × Part × Cursor) → Type 0
+Commands s at (Some (k, p, c)) = TokenAt s at k (span p.start p.len) c.at
+Commands s at None = stream s at ≡ []
 
 -- the same for a board: a pc whose value is the card c
 pub record CardToken (s : List ℕ) (at c n : ℕ) : Type 0 where
   pub value : Span
   pub token : TokenAt s at pc_no value n
-  pub card : some c ≡ read_card (trim (bytes_at s value))
+  pub card : Some c ≡ read_card (trim (bytes_at s value))
 
 -- and a token whose command no board knows
 pub record OtherToken (s : List ℕ) (at n : ℕ) : Type 0 where

@@ -6,4 +6,4 @@ mod plain;
 mod steps;
 
 pub use commands::{AH, AN, MB, MC, MD, MN, PC, PN, QX, SV};
-pub use steps::{BoardToken, Commanded, PartToken, board_token, next_command, part_token, span_of};
+pub use steps::{BoardToken, PartToken, board_token, next_command, part_token, span_of};

@@ -9,37 +9,30 @@ use crate::plain::{after_line, is_page, is_pair, is_unmarked, plain_card};
 use document::{Cursor, Part, next_pipe};
 use lin_spec::Span;
 
-// A token's command by number and its value, with the cursor after it; or no token.
-#[derive(Clone, Copy)]
-pub enum Commanded {
-    Token(u8, Part, Cursor),
-    Ended,
-}
-
-// The token at the cursor.
-fn far_command(text: &[u8], cursor: Cursor) -> Commanded
+// The token at the cursor: its command by number and its value, with the cursor after it; or none.
+fn far_command(text: &[u8], cursor: Cursor) -> Option<(u8, Part, Cursor)>
     ensures { Commands text.now cursor.at result }
 {
     let at = cursor.at;
     let p = next_pipe(text, at);
     if text.len() <= p {
-        return Commanded::Ended;
+        return None;
     }
     let v = p + 1;
     let q = next_pipe(text, v);
     if text.len() <= q {
-        return Commanded::Ended;
+        return None;
     }
     let k = command_at(text, at, p);
     let part = Part {
         start: v,
         len: q - v,
     };
-    Commanded::Token(k, part, Cursor { at: q + 1 })
+    Some((k, part, Cursor { at: q + 1 }))
 }
 
 // The same, for a command of two bytes at once.
-pub fn next_command(text: &[u8], cursor: Cursor) -> Commanded
+pub fn next_command(text: &[u8], cursor: Cursor) -> Option<(u8, Part, Cursor)>
     ensures { Commands text.now cursor.at result }
 {
     let a = after_line(text, cursor.at);
@@ -49,14 +42,14 @@ pub fn next_command(text: &[u8], cursor: Cursor) -> Commanded
     let v = a + 3;
     let q = next_pipe(text, v);
     if text.len() <= q {
-        return Commanded::Ended;
+        return None;
     }
     let k = pair_of(text[a], text[a + 1]);
     let value = Part {
         start: v,
         len: q - v,
     };
-    Commanded::Token(k, value, Cursor { at: q + 1 })
+    Some((k, value, Cursor { at: q + 1 }))
 }
 
 // A value as a span, in a text whose places are numbers of 32 bits.
@@ -94,13 +87,13 @@ pub fn board_token(letters: &[u8; 128], text: &[u8], at: usize) -> BoardToken
         return BoardToken::Other(a + 4);
     }
     match next_command(text, Cursor { at }) {
-        Commanded::Token(k, value, next) => {
+        Some((k, value, next)) => {
             if MC < k {
                 return BoardToken::Other(next.at);
             }
             BoardToken::Known(k, span_of(value), next.at)
         }
-        Commanded::Ended => BoardToken::Ended,
+        None => BoardToken::Ended,
     }
 }
 
@@ -125,7 +118,7 @@ pub fn part_token(text: &[u8], at: usize) -> PartToken
         return PartToken::Passed(q + 1);
     }
     match next_command(text, Cursor { at }) {
-        Commanded::Token(k, _, next) => PartToken::Command(k, next.at),
-        Commanded::Ended => PartToken::Ended,
+        Some((k, _, next)) => PartToken::Command(k, next.at),
+        None => PartToken::Ended,
     }
 }

@@ -1,14 +1,16 @@
 -- Laws of rows: one row off the front of the words, what is left to write, to count and to check. (01: Tokens)
 -- Assumes nothing.
-use Prim.Native.Nat.{ℕ, ◌+◌, ◌-◌, ◌^◌, ◌≤◌, ◌<◌}
+use Prim.Native.Nat.{ℕ, zero, suc, ◌+◌, ◌-◌, ◌*◌, ◌/◌, ◌^◌, ◌≤◌, ◌<◌}
 use native.Mathlib.Omega.{arith}
 use mathlib.Core.Path.{◌≡◌, refl, ap, sym, ◌∙◌}
 use mathlib.Core.Bool.{Bool, true, false, ◌&&◌, ◌||◌, or-false}
 use mathlib.Core.List.{List, [], ◌∷◌, ◌++◌, append_assoc, append-nil}
-use lib.ListN.{length, drop, length-append, length-drop}
+use lib.ListN.{length, get_or, take, drop, length-append, length-drop}
+use lib.Seq.{drop-drop, take_all, get_or-take, get_or-drop}
+use Rattle.std.specs.Simd.{first_chunks}
 use Rattle.lin_spec.specs.Base.{any}
 use lib.Dec.{leb}
-use borrow.Author.Tests.{ltb-false, leb-true, le-ltb}
+use borrow.Author.Tests.{ltb-false, leb-true}
 use Rattle.lin_spec.specs.Records.{end_of, bytes_at}
 use Rattle.lin_spec.specs.Refusals.{sat, passes_end}
 use Rattle.lin_spec.specs.Tokens.{write}
@@ -42,6 +44,30 @@ few_words (a ∷ b ∷ c ∷ d ∷ us) k = absurd (let z : ⊥ = omega arith in 
 -- a rest is no row
 pub rows_end : (ws : List ℕ) (i : ℕ) → length ws - i < 4 → rows_in (drop i ws) ≡ []
 rows_end ws i h = few_words (drop i ws) (rw (length-drop i ws) h)
+
+-- Rows as chunks of four words
+
+chunk_at : (c k : ℕ) (ws d : List ℕ) → k < c → get_or (first_chunks 4 c ws) k d ≡ take 4 (drop (k * 4) ws)
+chunk_at zero k ws d h = absurd (omega arith)
+chunk_at (suc c) zero ws d h = refl
+chunk_at (suc c) (suc k) ws d h =
+    chunk_at c k (drop 4 ws) d (omega arith) ∙ ap (take 4) (drop-drop (k * 4) 4 ws ∙ ap (λ (n : ℕ). drop n ws) (let z : 4 + k * 4 ≡ suc k * 4 = omega arith in z))
+
+-- the row of the chunk k is that of the four words from k * 4 on, which are there
+pub row_chunk : (ws : List ℕ) (cs : List (List ℕ)) (k : ℕ) (d : List ℕ) → cs ≡ first_chunks 4 (length ws / 4) ws → length cs ≡ length ws / 4 → k < length cs
+    → (4 ≤ length ws - k * 4) × (document_row (document_row_at (get_or cs k d) 0) ≡ document_row (document_row_at ws (k * 4)))
+row_chunk ws cs k d e l h =
+    let a : get_or cs k d ≡ take 4 (drop (k * 4) ws) = ap (λ (x : List (List ℕ)). get_or x k d) e ∙ chunk_at (length ws / 4) k ws d (omega arith) in
+    let b : (j : ℕ) → j < 4 → get_or (get_or cs k d) j 0 ≡ get_or ws (k * 4 + j) 0 = λ j m. ap (λ (x : List ℕ). get_or x j 0) a ∙ get_or-take 4 (drop (k * 4) ws) j 0 m ∙ get_or-drop (k * 4) ws j 0 in
+    let z : k * 4 + 0 ≡ k * 4 = omega arith in
+    (omega arith, rw (b 0 (omega arith), b 1 (omega arith), b 2 (omega arith), b 3 (omega arith), z) refl)
+
+-- the rows from the word j on, as a borrow gives them
+pub row_in_rest : (ws : List ℕ) (j i : ℕ) → document_row (document_row_at (take (length ws - j) (drop j ws)) i) ≡ document_row (document_row_at ws (j + i))
+row_in_rest ws j i =
+    let a : take (length ws - j) (drop j ws) ≡ drop j ws = take_all (length ws - j) (drop j ws) (omega (arith, length-drop j ws)) in
+    let b : (k : ℕ) → j + (i + k) ≡ j + i + k = λ k. omega arith in
+    rw (a, get_or-drop j ws i 0, get_or-drop j ws (i + 1) 0, get_or-drop j ws (i + 2) 0, get_or-drop j ws (i + 3) 0, b 1, b 2, b 3) refl
 
 -- The bytes from word i on: those of its row, and the others; past the last row, the trailing text
 
@@ -134,11 +160,6 @@ module _ (r : Row) (p : ℕ) (t : Bool) (e : t ≡ (leb (end_of r.command) p && 
       let a = leb (end_of r.command) p in
       let b = leb (end_of r.value) p in
       (leb-true (end_of r.command) p (and_left a b (sym e ∙ k)), leb-true (end_of r.value) p (and_right a b (sym e ∙ k)))
-
-  pub near_within : (s : List ℕ) → p ≤ length s → false ≡ (passes_end s r.command || passes_end s r.value)
-  near_within s h =
-      let n = row_near in
-      rw (le-ltb (length s) (end_of r.command) (omega arith), le-ltb (length s) (end_of r.value) (omega arith)) refl
 
 pub row_sized : (s : List ℕ) (r : Row) (x : ℕ) → (passes_end s r.command || passes_end s r.value) ≡ false → x ≡ r.command.len + r.value.len + 2 → x < 2 ^ 64
     → x ≡ sat (length (token_text s r))

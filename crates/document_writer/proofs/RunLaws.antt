@@ -49,9 +49,6 @@ pair_stands s a m n h e f =
     x ∙ ap (λ (t : List ℕ). part s a m ++ t) (y ∙ rw (p, e, z, q, f) refl)
 
 module _ (s : List ℕ) (at : ℕ) (r : Row) where
-  pub stands_not : Stands s at r at
-  stands_not = record { order = omega arith; text = λ k. absurd (k refl) }
-
   pub stands_there : (q : ℕ) → q ≡ r.value.start + r.value.len → q < length s → (p : ℕ) → p ≡ r.command.start + r.command.len
       → r.value.start ≡ p + 1 → r.command.start ≡ at → (eqb (get_or s p 0) 124 && eqb (get_or s q 0) 124) ≡ true → Stands s at r (q + 1)
   unfolding token_text

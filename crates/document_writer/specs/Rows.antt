@@ -1,15 +1,13 @@
 -- A row of a document as the four words that give it, its text as pieces, and what the writer's steps hand on. (01: Tokens)
-use Rattle.std.specs.Prelude.{ℕ, ◌+◌, ◌-◌, ◌≤◌, ◌≡◌, true, false, List, [], ◌∷◌, ◌++◌, length, drop, get_or}
+use Rattle.std.specs.Prelude.{ℕ, ◌+◌, ◌-◌, ◌≤◌, ◌≡◌, false, List, [], ◌∷◌, ◌++◌, length, drop, get_or}
 use Rattle.lin_spec.specs.Base.{pick, any, ascii}
 use Rattle.lin_spec.specs.Records.{limit, span, part, bytes_at}
-use Rattle.lin_spec.specs.Refusals.{sat, passes_end, ill_span}
+use Rattle.lin_spec.specs.Refusals.{Answer, unless, sat, passes_end, ill_span, past_end, span_not_utf8}
 use Rattle.lin_spec.specs.Document.{Row as RowAt, rows_in, spans_of, document_text}
 use Rattle.lin_spec.specs.declared.Span.{Span}
 use Rattle.output.specs.Put.{joined}
 use Rattle.document_writer.specs.declared.documents.Row.{Row}
 use Rattle.document_writer.specs.declared.documents.Run.{Run}
-use Rattle.document_writer.specs.declared.documents.Look.{Look}
-use Rattle.document_writer.specs.declared.documents.Look.TheVariants.{Past, Ill, Need}
 
 -- the row of the four words from i on
 abbrev pub document_row_at : (ws : List ℕ) (i : ℕ) → RowAt
@@ -40,11 +38,8 @@ pub record RunAt (s ws : List ℕ) (i : ℕ) (r : Run) : Type 0 where
   pub text : (tr : Span) → document_text s (drop i ws) tr ≡ run_text s ws i r ++ document_text s (drop (i + r.words) ws) tr
 
 -- what 5 and 6 say of a document, and how many bytes it has
-abbrev pub Looked : (s ws : List ℕ) → Span → Look → Type 0
-Looked s ws tr Past = any (passes_end s) (spans_of (rows_in ws) tr) ≡ true
-Looked s ws tr Ill = (any (passes_end s) (spans_of (rows_in ws) tr) ≡ false) × (any (ill_span s) (spans_of (rows_in ws) tr) ≡ true)
-Looked s ws tr (Need n) =
-    (any (passes_end s) (spans_of (rows_in ws) tr) ≡ false) × (any (ill_span s) (spans_of (rows_in ws) tr) ≡ false) × (n ≡ sat (length (document_text s ws tr)))
+unfoldable pub looked : (s ws : List ℕ) → Span → Answer ℕ
+looked s ws tr = unless (past_end s (spans_of (rows_in ws) tr) ∷ span_not_utf8 s (spans_of (rows_in ws) tr) ∷ []) (sat (length (document_text s ws tr)))
 
 -- 1, 5 and 6 do not meet a document that has n bytes
 pub record Lawful (s ws : List ℕ) (tr : Span) (n : ℕ) : Type 0 where

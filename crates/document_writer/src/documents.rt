@@ -3,14 +3,14 @@ ghost use Rattle.std.specs.Prelude.{◌≡◌, true, false, ◌&&◌, ◌||◌, 
 ghost use Rattle.lin_spec.specs.Records.{limit, end_of};
 ghost use Rattle.lin_spec.specs.Refusals.{passes_end, ill_span};
 ghost use Rattle.lin_spec.specs.Utf8.{longest};
-ghost use Rattle.lin_spec.specs.Output.{Outcome, answer_of};
+ghost use Rattle.lin_spec.specs.Output.{Outcome};
 ghost use Rattle.lin_spec.specs.Document.{document_text, write_document};
 ghost use Rattle.text.specs.Index.{Indexed};
 ghost use Rattle.output.specs.Put.{Room, Put};
-ghost use Rattle.document_writer.specs.Rows.{document_row_at, document_row, token_text, Stands, run_text, RunAt, Looked, Lawful};
+ghost use Rattle.document_writer.specs.Rows.{document_row_at, document_row, token_text, Stands, run_text, RunAt, looked, Lawful};
 
-use lin_spec::{LIMIT, Refusal, Span, Written, room};
-use output::{put_byte, put_bytes, put_span, sat_add};
+use lin_spec::{LIMIT, Refusal, Span, room};
+use output::{put, put_all, put_span, sat_add};
 use text::{index_text, near_ill, part, past_end, span_ill, well_formed_len};
 
 // A command and a value to write.
@@ -20,20 +20,27 @@ struct Row {
     value: Span,
 }
 
+// The row that four words give.
+fn row_of(words: [u32; 4]) -> Row
+    ensures { result ≡ document_row (document_row_at words 0) }
+{
+    let command = Span {
+        start: words[0],
+        len: words[1],
+    };
+    let value = Span {
+        start: words[2],
+        len: words[3],
+    };
+    Row { command, value }
+}
+
 // The row that the four words from i on give.
 fn document_row_at(rows: &[u32], i: usize) -> Row
     requires { 4 ≤ length rows.now - i }
     ensures { result ≡ document_row (document_row_at rows.now i) }
 {
-    let command = Span {
-        start: rows[i],
-        len: rows[i + 1],
-    };
-    let value = Span {
-        start: rows[i + 2],
-        len: rows[i + 3],
-    };
-    Row { command, value }
+    row_of([rows[i], rows[i + 1], rows[i + 2], rows[i + 3]])
 }
 
 // Puts a command and a value, each with a pipe after it.
@@ -42,9 +49,9 @@ fn put_token(out: &mut [u8], at: usize, text: &[u8], row: Row) -> usize
     ensures { Put out.old at (token_text text.now row) out.new result }
 {
     let a = put_span(out, at, text, row.command);
-    let b = put_byte(out, a, b'|');
+    let b = put(out, a, b'|');
     let c = put_span(out, b, text, row.value);
-    put_byte(out, c, b'|')
+    put(out, c, b'|')
 }
 
 // Rows that stand in the text one after the other with their pipes, by how many words and how many bytes they have; or one row that does not.
@@ -101,22 +108,18 @@ fn run_at(text: &[u8], rows: &[u32], i: usize) -> Run
             stands: false,
         };
     }
-    let mut j = i + 4;
+    let mut words = 4;
     let mut stop = first;
-    while 4 <= rows.len() - j {
-        let next = row_end(text, stop, document_row_at(rows, j));
+    for &row in rows[i + 4..].as_chunks::<4>().0 {
+        let next = row_end(text, stop, row_of(row));
         if next == stop {
-            return Run {
-                words: j - i,
-                len: stop - start,
-                stands: true,
-            };
+            break;
         }
         stop = next;
-        j += 4;
+        words += 4;
     }
     Run {
-        words: j - i,
+        words,
         len: stop - start,
         stands: true,
     }
@@ -128,7 +131,7 @@ fn put_run(out: &mut [u8], at: usize, text: &[u8], rows: &[u32], i: usize, run: 
     ensures { Put out.old at (run_text text.now rows.now i run) out.new result }
 {
     if run.stands {
-        return put_bytes(out, at, part(text, as_place(rows[i]), run.len));
+        return put_all(out, at, part(text, as_place(rows[i]), run.len));
     }
     put_token(out, at, text, document_row_at(rows, i))
 }
@@ -140,20 +143,13 @@ fn put_document(out: &mut [u8], text: &[u8], rows: &[u32], trailing: Span) -> us
 {
     let mut i = 0;
     let mut o = 0;
+    // The place goes on by runs, which differ in length.
     while 4 <= rows.len() - i {
         let run = run_at(text, rows, i);
         o = put_run(out, o, text, rows, i, run);
         i += run.words;
     }
     put_span(out, o, text, trailing)
-}
-
-// What a document meets: 5, 6, or neither, with how many bytes it has.
-#[derive(Clone, Copy)]
-enum Look {
-    Past,
-    Ill,
-    Need(u64),
 }
 
 // Whether a span ends at or before a place.
@@ -201,42 +197,52 @@ fn row_size(row: Row) -> u64
     command.len as u64 + value.len as u64 + 2
 }
 
-// Looks at every row once.
-fn look_at_rows(text: &[u8], first: usize, next: &[u32], rows: &[u32], trailing: Span) -> Look
+// Looks at every row once: refusal 5 or 6, or neither, with how many bytes the document has.
+fn look_at_rows(
+    text: &[u8],
+    first: usize,
+    next: &[u32],
+    rows: &[u32],
+    trailing: Span,
+) -> Result<u64, Refusal>
     requires { (first ≡ longest text.now) × Indexed text.now next.now }
-    ensures { Looked text.now rows.now trailing result }
+    ensures { result ≡ looked text.now rows.now trailing }
 {
-    let mut i = 0;
     let mut n = 0;
     let mut ill = false;
-    while 4 <= rows.len() - i {
-        let row = document_row_at(rows, i);
+    for &words in rows.as_chunks::<4>().0 {
+        let row = row_of(words);
         if row_past(text, first, row) {
-            return Look::Past;
+            return Err(Refusal::SpanPastEnd);
         }
         ill = ill | row_ill(text, first, next, row);
         n = sat_add(n, row_size(row));
-        i += 4;
     }
     if past_end(text, trailing) {
-        return Look::Past;
+        return Err(Refusal::SpanPastEnd);
     }
     if ill | span_ill(text, next, trailing) {
-        return Look::Ill;
+        return Err(Refusal::SpanNotUtf8);
     }
-    Look::Need(sat_add(n, trailing.len as u64))
+    Ok(sat_add(n, trailing.len as u64))
 }
 
 // Writes a document that 5 and 6 do not meet, if there is room for it.
-fn write_fitting(text: &[u8], rows: &[u32], trailing: Span, out: &mut [u8], need: u64) -> Written
+fn write_fitting(
+    text: &[u8],
+    rows: &[u32],
+    trailing: Span,
+    out: &mut [u8],
+    need: u64,
+) -> Result<usize, Refusal>
     requires { Lawful text.now rows.now trailing need }
-    ensures { ◌≡◌ {A = Outcome} (record { answer = answer_of result; output = out.new }) (write_document text.now rows.now trailing out.old) }
+    ensures { ◌≡◌ {A = Outcome} (record { answer = result; output = out.new }) (write_document text.now rows.now trailing out.old) }
 {
     if (room(out.len()) as u64) < need {
-        return Written::Refused(Refusal::OutputTooSmall(need));
+        return Err(Refusal::OutputTooSmall(need));
     }
     let n = put_document(out, text, rows, trailing);
-    Written::Length(n)
+    Ok(n)
 }
 
 // Writes a document over a text that is within the limit.
@@ -247,21 +253,24 @@ fn write_looked(
     rows: &[u32],
     trailing: Span,
     out: &mut [u8],
-) -> Written
+) -> Result<usize, Refusal>
     requires { (length text.now ≤ limit) × (first ≡ longest text.now) × Indexed text.now next.now }
-    ensures { ◌≡◌ {A = Outcome} (record { answer = answer_of result; output = out.new }) (write_document text.now rows.now trailing out.old) }
+    ensures { ◌≡◌ {A = Outcome} (record { answer = result; output = out.new }) (write_document text.now rows.now trailing out.old) }
 {
-    match look_at_rows(text, first, next, rows, trailing) {
-        Look::Past => Written::Refused(Refusal::SpanPastEnd),
-        Look::Ill => Written::Refused(Refusal::SpanNotUtf8),
-        Look::Need(need) => write_fitting(text, rows, trailing, out, need),
-    }
+    let need = look_at_rows(text, first, next, rows, trailing)?;
+    write_fitting(text, rows, trailing, out, need)
 }
 
 // The same, with an index of every block.
-fn write_indexed(text: &[u8], first: usize, rows: &[u32], trailing: Span, out: &mut [u8]) -> Written
+fn write_indexed(
+    text: &[u8],
+    first: usize,
+    rows: &[u32],
+    trailing: Span,
+    out: &mut [u8],
+) -> Result<usize, Refusal>
     requires { (length text.now ≤ limit) × (first ≡ longest text.now) }
-    ensures { ◌≡◌ {A = Outcome} (record { answer = answer_of result; output = out.new }) (write_document text.now rows.now trailing out.old) }
+    ensures { ◌≡◌ {A = Outcome} (record { answer = result; output = out.new }) (write_document text.now rows.now trailing out.old) }
 {
     let mut next = [0; 1025];
     index_text(text, &mut next);
@@ -271,24 +280,27 @@ fn write_indexed(text: &[u8], first: usize, rows: &[u32], trailing: Span, out: &
 // Whether the rows have together more bytes than so many. It says only how to look, which no answer depends on, so it promises nothing.
 fn rows_pass(bytes: usize, rows: &[u32]) -> bool {
     let mut left = bytes as u64;
-    let mut i = 0;
-    while 4 <= rows.len() - i {
-        let n = row_size(document_row_at(rows, i));
+    for &words in rows.as_chunks::<4>().0 {
+        let n = row_size(row_of(words));
         if left < n {
             return true;
         }
         left -= n;
-        i += 4;
     }
     false
 }
 
 // Writes the document from the first byte of the output on, and gives its length; or refuses, and changes nothing.
-pub fn write_document(text: &[u8], rows: &[u32], trailing: Span, out: &mut [u8]) -> Written
-    ensures { ◌≡◌ {A = Outcome} (record { answer = answer_of result; output = out.new }) (write_document text.now rows.now trailing out.old) }
+pub fn write_document(
+    text: &[u8],
+    rows: &[u32],
+    trailing: Span,
+    out: &mut [u8],
+) -> Result<usize, Refusal>
+    ensures { ◌≡◌ {A = Outcome} (record { answer = result; output = out.new }) (write_document text.now rows.now trailing out.old) }
 {
     if LIMIT < text.len() {
-        return Written::Refused(Refusal::TextTooLong);
+        return Err(Refusal::TextTooLong);
     }
     let first = well_formed_len(text);
     if first < text.len() {

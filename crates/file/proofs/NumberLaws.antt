@@ -1,17 +1,15 @@
 -- Laws of boards by number: what a cursor looks for, and what the entries give. (01: File)
 -- Assumes nothing.
+use Rattle.std.specs.Prelude.{Option, Err, Ok, Result}
 use Prim.Native.Nat.{ℕ, suc, ◌-◌, ◌≤◌, ◌<◌}
 use native.Mathlib.Omega.{arith}
 use mathlib.Core.Path.{◌≡◌, refl, ap, sym, subst, ◌∙◌}
 use mathlib.Core.Bool.{Bool, true, false, ◌&&◌}
 use mathlib.Core.List.{List, [], ◌∷◌}
-use mathlib.Core.Option.{Option}
 use lib.ListN.{length, get_or, take, length-map}
 use lib.Dec.{eqb}
 use borrow.Author.Tests.{eqb-true, eqb-false, le-leb, lt-leb}
 use Rattle.lin_spec.specs.Refusals.{Answer, unless, too_long, not_utf8}
-use Rattle.lin_spec.specs.Refusals.Answer.{refused, accepted}
-use Rattle.lin_spec.specs.Fresh.{refused_heading}
 use Rattle.lin_spec.specs.Board.{BoardOf}
 use Rattle.lin_spec.specs.Reading.{heading_of, headed, few_rows, Reading, stored}
 use Rattle.lin_spec.specs.File.{Section as Part, section, Standing, open_boards, sections, boards_of, board_in, file_spans, no_board, numbered, count_boards, file_heading, file_board, remaining}
@@ -29,9 +27,6 @@ use Rattle.file_sections.proofs.WayLaws.{Way, way_begin, way_end, front-boards, 
 use Rattle.file.specs.Numbers.{Counts, NumberedBoard, Numbers}
 use Rattle.file_sections.specs.declared.sections.Section.{Section}
 use Rattle.file_sections.specs.declared.sections.BoardCursor.{BoardCursor}
-use Rattle.file_sections.specs.declared.sections.OpenedBoards.{OpenedBoards}
-use Rattle.file_sections.specs.declared.sections.OpenedBoards.TheVariants.{At, Refused}
-use Rattle.file.specs.declared.numbers.Numbered.{Numbered}
 
 -- One section on the way of a cursor
 
@@ -93,8 +88,9 @@ seeks_found s m c k n p d f h =
     let z = it_is s c k.way n (section_of p) d f m h k.same in
     record { some = z.0; is = z.1; inside = found_inside s c k.way n p d f }
 
-pub seeks_missing : (s : List ℕ) (m : ℕ) (c : Standing) → Seeks s m c → remaining s c ≡ [] → (c.number ≡ length (boards_of (sections s))) × (c.number ≤ m)
-seeks_missing s m c k e = (way_end s c k.way e, k.most)
+pub seeks_missing : (s : List ℕ) (m : ℕ) (c : Standing) → Seeks s m c → remaining s c ≡ []
+    → (NoBoard c.number ≡ NoBoard (length (boards_of (sections s)))) × (length (boards_of (sections s)) ≤ m)
+seeks_missing s m c k e = let w = way_end s c k.way e in (ap NoBoard w, let k = k.most in omega (arith, w))
 
 -- The entries, by the answer of `open_boards`
 
@@ -106,9 +102,9 @@ pub numbered_is : (s : List ℕ) (n : ℕ) (p : Section) → NumberedBoard s n p
 unfolding file_spans board_in
 numbered_is s n p b = get_d_map (board_in s) (boards_of (sections s)) n (section 0 0 false) ∙ ap (board_in s) b.is
 
-module _ (s : List ℕ) (o : OpenedBoards) (e : opened_of o ≡ open_boards s) where
-  module _ (c : BoardCursor) (f : o ≡ At c) where
-    taken : open_boards s ≡ accepted (standing_of c)
+module _ (s : List ℕ) (o : Result BoardCursor Refusal) (e : opened_of o ≡ open_boards s) where
+  module _ (c : BoardCursor) (f : o ≡ Ok c) where
+    taken : open_boards s ≡ Ok (standing_of c)
     taken = sym e ∙ ap opened_of f
 
     -- the checks 1 and 2 are passed
@@ -116,33 +112,33 @@ module _ (s : List ℕ) (o : OpenedBoards) (e : opened_of o ≡ open_boards s) w
     unfolding open_boards
     passed ds a = unless-passed (too_long s ∷ not_utf8 s ∷ []) ds (first_standing s) (standing_of c) a taken
 
-    pub counted : (n : ℕ) → Counts s n → accepted n ≡ count_boards s
+    pub counted : (n : ℕ) → Counts s n → Ok n ≡ count_boards s
     unfolding count_boards
-    counted n h = (let z : accepted n ≡ unless [] (length (file_spans s)) = unfold unless in ap accepted (h ∙ sym (spans-count s)) in z) ∙ sym (passed [] (length (file_spans s)))
+    counted n h = (let z : Ok n ≡ unless [] (length (file_spans s)) = unfold unless in ap Ok (h ∙ sym (spans-count s)) in z) ∙ sym (passed [] (length (file_spans s)))
 
     module _ (n : ℕ) where
-      pub missing : (k : ℕ) → k ≡ length (boards_of (sections s)) → k ≤ n → {A : Type 0} (ds : List (Option Refusal)) (a : A) → unless (no_board n (length (file_spans s)) ∷ ds) a ≡ refused (NoBoard k)
+      pub missing : (r : Refusal) → r ≡ NoBoard (length (boards_of (sections s))) → length (boards_of (sections s)) ≤ n → {A : Type 0} (ds : List (Option Refusal)) (a : A) → unless (no_board n (length (file_spans s)) ∷ ds) a ≡ Err r
       unfolding unless
-      missing k h l ds a = let q : length (file_spans s) ≡ k = spans-count s ∙ sym h in rw q (simp (le-leb k n l))
+      missing r h l ds a = rw (spans-count s, h) (simp (le-leb (length (boards_of (sections s))) n l))
 
       pub there : (p : Section) → NumberedBoard s n p → {A : Type 0} (ds : List (Option Refusal)) (a : A) → unless (no_board n (length (file_spans s)) ∷ ds) a ≡ unless ds a
       unfolding unless
       there p b ds a = simp (lt-leb (length (file_spans s)) n (let x = b.some in let y = spans-count s in omega arith))
 
-      pub heading_missing : (k : ℕ) → k ≡ length (boards_of (sections s)) → k ≤ n → (h : Heading) → h ≡ refused_heading (NoBoard k) → h ≡ file_heading s n
+      pub heading_missing : (r : Refusal) → r ≡ NoBoard (length (boards_of (sections s))) → length (boards_of (sections s)) ≤ n → (h : Answer Heading) → h ≡ Err r → h ≡ file_heading s n
       unfolding file_heading
-      heading_missing k q l h g = g ∙ sym (ap headed (passed _ (numbered s n) ∙ missing k q l [] (numbered s n)))
+      heading_missing r q l h g = g ∙ sym (ap headed (passed _ (numbered s n) ∙ missing r q l [] (numbered s n)))
 
-      pub heading-found : (p : Section) → NumberedBoard s n p → (h : Heading) → h ≡ heading_of (board_at (take p.stop s) p.start) → h ≡ file_heading s n
+      pub heading-found : (p : Section) → NumberedBoard s n p → (h : Heading) → h ≡ heading_of (board_at (take p.stop s) p.start) → Ok h ≡ file_heading s n
       unfolding file_heading
       heading-found p b h g =
-          let z : unless [] (numbered s n) ≡ accepted (board_at (take p.stop s) p.start) = unfold unless in ap accepted (numbered_is s n p b) in
-          g ∙ sym (ap headed (passed _ (numbered s n) ∙ there p b [] (numbered s n) ∙ z))
+          let z : unless [] (numbered s n) ≡ Ok (board_at (take p.stop s) p.start) = unfold unless in ap Ok (numbered_is s n p b) in
+          ap Ok g ∙ sym (ap headed (passed _ (numbered s n) ∙ there p b [] (numbered s n) ∙ z))
 
-      pub board_missing : (k : ℕ) → k ≡ length (boards_of (sections s)) → k ≤ n → (h : Heading) → h ≡ refused_heading (NoBoard k) → (rows cards : List ℕ)
+      pub board_missing : (r : Refusal) → r ≡ NoBoard (length (boards_of (sections s))) → length (boards_of (sections s)) ≤ n → (h : Answer Heading) → h ≡ Err r → (rows cards : List ℕ)
           → record { heading = h; rows = rows; cards = cards } ≡ file_board s n rows cards
       unfolding file_board
-      board_missing k q l h g rows cards = rw g (sym (ap (λ (a : Answer (BoardOf Span)). stored a rows cards) (passed _ (numbered s n) ∙ missing k q l (few_rows (numbered s n) rows cards) (numbered s n))))
+      board_missing r q l h g rows cards = rw g (sym (ap (λ (a : Answer (BoardOf Span)). stored a rows cards) (passed _ (numbered s n) ∙ missing r q l (few_rows (numbered s n) rows cards) (numbered s n))))
 
       pub board-found : (p : Section) → NumberedBoard s n p → (rows cards : List ℕ) {r : Reading}
           → r ≡ stored (unless (few_rows (board_at (take p.stop s) p.start) rows cards) (board_at (take p.stop s) p.start)) rows cards → r ≡ file_board s n rows cards
@@ -151,19 +147,19 @@ module _ (s : List ℕ) (o : OpenedBoards) (e : opened_of o ≡ open_boards s) w
           g
           ∙ sym (ap (λ (a : Answer (BoardOf Span)). stored a rows cards) (passed _ (numbered s n) ∙ there p b (few_rows (numbered s n) rows cards) (numbered s n) ∙ ap (λ (x : BoardOf Span). unless (few_rows x rows cards) x) (numbered_is s n p b)))
 
-  module _ (r : Refusal) (f : o ≡ Refused r) where
-    left : open_boards s ≡ refused r
+  module _ (r : Refusal) (f : o ≡ Err r) where
+    left : open_boards s ≡ Err r
     left = sym e ∙ ap opened_of f
 
-    pub stopped : {A : Type 0} (ds : List (Option Refusal)) (a : A) → unless (too_long s ∷ not_utf8 s ∷ ds) a ≡ refused r
+    pub stopped : {A : Type 0} (ds : List (Option Refusal)) (a : A) → unless (too_long s ∷ not_utf8 s ∷ ds) a ≡ Err r
     unfolding open_boards
     stopped ds a = unless-refused (too_long s ∷ not_utf8 s ∷ []) ds (first_standing s) a r left
 
-    pub count-refused : refused r ≡ count_boards s
+    pub count-refused : Err r ≡ count_boards s
     unfolding count_boards
     count-refused = sym (stopped [] (length (file_spans s)))
 
-    module _ (n : ℕ) (h : Heading) (g : h ≡ refused_heading r) where
+    module _ (n : ℕ) (h : Answer Heading) (g : h ≡ Err r) where
       pub heading-refused : h ≡ file_heading s n
       unfolding file_heading
       heading-refused = g ∙ sym (ap headed (stopped _ (numbered s n)))
@@ -173,5 +169,5 @@ module _ (s : List ℕ) (o : OpenedBoards) (e : opened_of o ≡ open_boards s) w
       board-refused rows cards = rw g (sym (ap (λ (a : Answer (BoardOf Span)). stored a rows cards) (stopped _ (numbered s n))))
 
 -- what a found number that was called for and taken apart says
-pub given : (s : List ℕ) (n : ℕ) (r v : Numbered) → Numbers s n r → r ≡ v → Numbers s n v
+pub given : (s : List ℕ) (n : ℕ) (r v : Answer Section) → Numbers s n r → r ≡ v → Numbers s n v
 given s n r v h e = subst (Numbers s n) e h

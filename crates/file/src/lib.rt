@@ -3,4 +3,4 @@
 // The boards of a file: their count, and a board by its number. (01: File; upstream's mod.rs)
 mod numbers;
 
-pub use numbers::{Counted, Numbered, count_boards, file_board, file_heading, find_board};
+pub use numbers::{count_boards, file_board, file_heading, find_board};

@@ -1,5 +1,6 @@
 -- Laws of the name finder: the seats of a board, a section with the name, the boards counted, and the entry. (01: names; 02: N3)
 -- Assumes nothing.
+use Rattle.std.specs.Prelude.{Err, Ok}
 use Prim.Native.Nat.{ℕ, ◌+◌, ◌^◌, ◌≤◌, ◌<◌}
 use native.Mathlib.Omega.{arith}
 use mathlib.Core.Path.{◌≡◌, refl, ap, sym, subst, ◌∙◌}
@@ -12,7 +13,6 @@ use Rattle.lin_spec.specs.Base.{pick, All, any, keep, count_if, concat, ascii}
 use Rattle.lin_spec.specs.Records.{limit, end_of, span, bytes_at}
 use Rattle.lin_spec.specs.Utf8.{utf8, longest}
 use Rattle.lin_spec.specs.Refusals.{Answer, unless, too_small, sat}
-use Rattle.lin_spec.specs.Refusals.Answer.{refused, accepted}
 use Rattle.lin_spec.specs.Reading.{stream}
 use Rattle.lin_spec.specs.Board.{BoardOf}
 use Rattle.lin_spec.specs.File.{Section as Part, holds, Standing, sections, boards_of, board_in, file_spans, remaining}
@@ -36,7 +36,6 @@ use Rattle.file_sections.specs.declared.sections.BoardCursor.{BoardCursor}
 use Rattle.file_sections.proofs.WayLaws.{Way, way_begin, number-board, number-other, way_on}
 use Rattle.file_finder.specs.Finder.{has_name, places_in, most_places, places_needed, find_name, WorkAfter, Finds}
 use Rattle.file_finder.specs.Walk.{RoomIs, NameFits, BoardFits, Looking, FoundIn, FindsChecked}
-use Rattle.file_finder.specs.declared.measure.Room.{Room}
 use Rattle.file_finder.proofs.MeasureLaws.{shown_small, greatest-room, sum-small}
 
 -- The seats of a board
@@ -217,7 +216,7 @@ pub sought_small : (name : List ℕ) (k : Sought) → Known name k → utf8 name
 sought_small name k h u l = omega (arith, h.places, places_most name u, l)
 
 -- what is told of the room
-pub room_told : (s : List ℕ) (n room : ℕ) (r v : Room) → RoomIs s n room r → r ≡ v → RoomIs s n room v
+pub room_told : (s : List ℕ) (n room : ℕ) (r v : Answer Unit) → RoomIs s n room r → r ≡ v → RoomIs s n room v
 room_told s n room r v h e = subst (RoomIs s n room) e h
 
 -- the names of each board fit, if the room is what is needed
@@ -244,13 +243,13 @@ module _ (s name : List ℕ) (n : ℕ) where
 
 module _ (s name w : List ℕ) (k : Sought) (h : Known name k) where
   -- 7
-  pub checked-short : utf8 s ≡ true → length s ≤ limit → k.places < 2 ^ 32 → (n : ℕ) → n ≡ k.places + most_places s → length w < n → FindsChecked s name w (refused (OutputTooSmall n)) w
+  pub checked-short : utf8 s ≡ true → length s ≤ limit → k.places < 2 ^ 32 → (n : ℕ) → n ≡ k.places + most_places s → length w < n → FindsChecked s name w (Err (OutputTooSmall n)) w
   unfolding unless
   checked-short u l b n e f =
       let m : n ≡ places_needed s name = e ∙ ap (λ (i : ℕ). i + most_places s) h.places in
       let z : sat n ≡ n = omega (arith, sum-small s k.places u l b, e) in
       record {
-        answer = subst (λ (i : ℕ). refused (OutputTooSmall n) ≡ unless (too_small (length w) i ∷ []) (count_if (has_name s name) (file_spans s))) m (sym (simp (lt-ltb (length w) n f, z)));
+        answer = subst (λ (i : ℕ). Err (OutputTooSmall n) ≡ unless (too_small (length w) i ∷ []) (count_if (has_name s name) (file_spans s))) m (sym (simp (lt-ltb (length w) n f, z)));
         work = refl;
       }
 
@@ -262,29 +261,29 @@ module _ (s name w : List ℕ) (k : Sought) (h : Known name k) where
     unfolding places
     front_fits m e l = record { copied = e; short = omega (arith, l); room = record { room = omega (arith, f, h.places) } }
 
-    pub checked-count : (n : ℕ) → n ≡ count_if (has_name s name) (file_spans s) → (v : List ℕ) → length v ≡ length w → FindsChecked s name w (accepted n) v
+    pub checked-count : (n : ℕ) → n ≡ count_if (has_name s name) (file_spans s) → (v : List ℕ) → length v ≡ length w → FindsChecked s name w (Ok n) v
     unfolding unless
     checked-count n e v l = record { answer = sym (simp (le-ltb (length w) (places_needed s name) enough, e)); work = l }
 
 -- The entry, by the tests that it made
 
 module _ (s name w : List ℕ) where
-  pub find-long : limit < length s → Finds s name w (refused TextTooLong) w
+  pub find-long : limit < length s → Finds s name w (Err TextTooLong) w
   unfolding find_name unless
   find-long h = record { answer = simp (lt-ltb limit (length s) h); work = refl }
 
   module _ (a : length s ≤ limit) where
-    pub find_name_long : limit < length name → Finds s name w (refused TextTooLong) w
+    pub find_name_long : limit < length name → Finds s name w (Err TextTooLong) w
     unfolding find_name unless
     find_name_long h = record { answer = simp (le-ltb limit (length s) a, lt-ltb limit (length name) h); work = refl }
 
     module _ (b : length name ≤ limit) (n : ℕ) (f : n ≡ longest s) where
-      pub find-ill : n < length s → Finds s name w (refused (NotUtf8 n)) w
+      pub find-ill : n < length s → Finds s name w (Err (NotUtf8 n)) w
       unfolding find_name unless
       find-ill h = record { answer = simp (le-ltb limit (length s) a, le-ltb limit (length name) b, short s n f h, ← f); work = refl }
 
       module _ (h : length s ≤ n) (m : ℕ) (g : m ≡ longest name) where
-        pub find_name_ill : m < length name → Finds s name w (refused (NotUtf8 m)) w
+        pub find_name_ill : m < length name → Finds s name w (Err (NotUtf8 m)) w
         unfolding find_name unless
         find_name_ill k = record { answer = simp (le-ltb limit (length s) a, le-ltb limit (length name) b, whole-text s n f h, short name m g k, ← g); work = refl }
 

@@ -1,12 +1,12 @@
 -- What the finder's answer means: names that are the same find the same boards, a name of ASCII is found by its bytes, and how much work space is always
 -- enough. (01: names; 02: N3)
 -- Assumes nothing.
+use Rattle.std.specs.Prelude.{Option, None, Some}
 use Prim.Native.Nat.{ℕ, ◌+◌, ◌*◌, ◌≤◌}
 use native.Mathlib.Omega.{arith}
 use mathlib.Core.Path.{◌≡◌, refl, ap}
 use mathlib.Core.Bool.{Bool, true, false, not}
 use mathlib.Core.List.{List, [], ◌∷◌}
-use mathlib.Core.Option.{Option, none, some}
 use lib.ListN.{length}
 use borrow.Author.Tests.{le-ltb}
 use Rattle.lin_spec.specs.Base.{All, any, count_if, eq_list}
@@ -57,8 +57,8 @@ ascii-found s name u v o =
 
 front_same : {A : Type 0} (a : A) (c : Option Refusal) (x y : List (Option Refusal)) → unless x a ≡ unless y a → unless (c ∷ x) a ≡ unless (c ∷ y) a
 unfolding unless
-front_same a none x y e = e
-front_same a (some r) x y e = refl
+front_same a None x y e = e
+front_same a (Some r) x y e = refl
 
 pub always_enough : (s name : List ℕ) (room : ℕ) → 3 * (length s + length name) ≤ 2 * room
     → find_name s name room ≡ unless (too_long s ∷ too_long name ∷ not_utf8 s ∷ not_utf8 name ∷ []) (count_if (has_name s name) (file_spans s))

@@ -1,9 +1,8 @@
 -- The finder: the boards of a file that have a name, the places of work space that a call needs, and what becomes of it. (01: names; 02: N3)
-use Rattle.std.specs.Prelude.{ℕ, ◌+◌, max, ◌≡◌, Bool, List, [], ◌∷◌, map, length}
+use Rattle.std.specs.Prelude.{ℕ, ◌+◌, max, ◌≡◌, Bool, List, [], ◌∷◌, map, length, Err, Ok}
 use Rattle.lin_spec.specs.Base.{any, concat, count_if}
 use Rattle.lin_spec.specs.Records.{bytes_at}
 use Rattle.lin_spec.specs.Refusals.{Answer, unless, too_long, not_utf8, too_small}
-use Rattle.lin_spec.specs.Refusals.Answer.{refused, accepted}
 use Rattle.lin_spec.specs.Board.{BoardOf}
 use Rattle.lin_spec.specs.File.{file_spans}
 use Rattle.lin_spec.specs.declared.Span.{Span}
@@ -38,8 +37,8 @@ find_name s name room =
 
 -- "Work space is lent and free after a success": then it has its length and may hold anything; a refusal leaves it as it was
 abbrev pub WorkAfter : Answer ℕ → (before after : List ℕ) → Type 0
-WorkAfter (refused r) w v = v ≡ w
-WorkAfter (accepted n) w v = length v ≡ length w
+WorkAfter (Err r) w v = v ≡ w
+WorkAfter (Ok n) w v = length v ≡ length w
 
 -- what a call promises that answers a, lent the work space w, which is v afterwards; its room is its whole length
 pub record Finds (s name w : List ℕ) (a : Answer ℕ) (v : List ℕ) : Type 0 where

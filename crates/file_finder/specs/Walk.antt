@@ -1,4 +1,6 @@
 -- What the walks of the finder over a file's sections go by, and what they give. (01: names; 02: N3)
+use Rattle.lin_spec.specs.declared.Refusal.TheVariants.{OutputTooSmall}
+use Rattle.std.specs.Prelude.{Ok, Err}
 use Rattle.std.specs.Prelude.{ℕ, ◌+◌, ◌≤◌, ◌<◌, ◌≡◌, true, ◌&&◌, List, [], ◌∷◌, length}
 use Rattle.lin_spec.specs.Base.{pick, All, count_if}
 use Rattle.lin_spec.specs.Records.{bytes_at}
@@ -15,8 +17,6 @@ use Rattle.accents_names.specs.declared.names.Sought.{Sought}
 use Rattle.file_sections.specs.Sections.{section_of}
 use Rattle.file_sections.specs.declared.sections.Section.{Section}
 use Rattle.file_finder.specs.Finder.{has_name, greatest, places_in, most_places, places_needed, WorkAfter}
-use Rattle.file_finder.specs.declared.measure.Room.{Room}
-use Rattle.file_finder.specs.declared.measure.Room.TheVariants.{Enough, Needed}
 
 -- Measuring
 
@@ -24,10 +24,10 @@ use Rattle.file_finder.specs.declared.measure.Room.TheVariants.{Enough, Needed}
 abbrev pub MostIn : (s : List ℕ) → Section → ℕ → Type 0
 MostIn s p r = r ≡ pick p.board (greatest (places_in s (board_in s (section_of p)))) 0
 
--- what is told of a room, for a name that takes n places: it is enough, or how much is needed, and that it is less
-abbrev pub RoomIs : (s : List ℕ) (n room : ℕ) → Room → Type 0
-RoomIs s n room Enough = n + most_places s ≤ room
-RoomIs s n room (Needed k) = (k ≡ n + most_places s) × (room < k)
+-- what is told of a room, for a name that takes n places: it is enough, or refusal 7 with how many are needed
+abbrev pub RoomIs : (s : List ℕ) (n room : ℕ) → Answer Unit → Type 0
+RoomIs s n room (Ok tt) = n + most_places s ≤ room
+RoomIs s n room (Err r) = (r ≡ OutputTooSmall (n + most_places s)) × (room < n + most_places s)
 
 -- Comparing
 

@@ -5,17 +5,15 @@ ghost use Rattle.lin_spec.specs.Records.{limit, bytes_at};
 ghost use Rattle.lin_spec.specs.Utf8.{utf8};
 ghost use Rattle.lin_spec.specs.File.{board_in, file_spans};
 ghost use Rattle.accents.specs.Names.{same_name};
-ghost use Rattle.file.specs.Numbers.{counted_of};
 ghost use Rattle.file_sections.specs.Sections.{section_of, Inside, AtFirst};
 ghost use Rattle.file_finder.specs.Finder.{has_name, Finds};
 ghost use Rattle.file_finder.specs.Walk.{NameFits, BoardFits, Looking, FoundIn, FindsChecked};
 
-use crate::measure::{Room, room_for};
+use crate::measure::room_for;
 use accents::mappings;
 use accents_names::{Sought, lay_sought, same_name, sought_of};
 use board::names_at;
-use file::Counted;
-use file_sections::{BoardCursor, BoardStep, Section, holds_qx};
+use file_sections::{BoardCursor, Section, holds_qx};
 use lin_spec::{LIMIT, Refusal, Span};
 use text::{shown, well_formed_len};
 
@@ -31,13 +29,10 @@ fn any_same(
     requires { Looking mappings.now name.now sought work.old × All (NameFits text.now name.now (length work.old)) names × (length text.now < 2 ^ 32) }
     ensures { (result ≡ any (λ x. same_name (bytes_at text.now x) name.now) names) × Looking mappings.now name.now sought work.new × (length work.new ≡ length work.old) }
 {
-    let mut seat = 0;
-    while seat < 4 {
-        let x = names[seat];
+    for &x in names.iter() {
         if same_name(mappings, shown(text, x), name, sought, work) {
             return true;
         }
-        seat += 1;
     }
     false
 }
@@ -79,22 +74,19 @@ fn find_from(
     let mut count = 0;
     let mut c = cursor;
     loop {
-        match c.next(text) {
-            BoardStep::Found(_, p, next) => {
-                count += found_in(mappings, text, p, name, sought, work);
-                c = next;
-            }
-            BoardStep::Ended(_) => {
-                return count;
-            }
-        }
+        let step = c.next(text);
+        let Some((_, p)) = step.found else {
+            return count;
+        };
+        count += found_in(mappings, text, p, name, sought, work);
+        c = step.cursor;
     }
 }
 
 // The count over a file and a name that were checked; 7.
-fn find_checked(text: &[u8], name: &[u8], work: &mut [u32]) -> Counted
+fn find_checked(text: &[u8], name: &[u8], work: &mut [u32]) -> Result<usize, Refusal>
     requires { (length text.now ≤ limit) × (length name.now ≤ limit) × (utf8 text.now ≡ true) × (utf8 name.now ≡ true) }
-    ensures { FindsChecked text.now name.now work.old (counted_of result) work.new }
+    ensures { FindsChecked text.now name.now work.old result work.new }
 {
     let lines = !holds_qx(text);
     let cursor = BoardCursor {
@@ -104,31 +96,29 @@ fn find_checked(text: &[u8], name: &[u8], work: &mut [u32]) -> Counted
     };
     let table = mappings();
     let sought = sought_of(&table, name);
-    if let Room::Needed(n) = room_for(&table, text, cursor, sought.places, work.len()) {
-        return Counted::Refused(Refusal::OutputTooSmall(n as u64));
-    }
+    room_for(&table, text, cursor, sought.places, work.len())?;
     lay_sought(&table, name, sought, work);
-    Counted::Count(find_from(&table, text, cursor, name, sought, work))
+    Ok(find_from(&table, text, cursor, name, sought, work))
 }
 
 // How many boards of the file have the name at any seat; 7 unless the work space has a place for each mapped character of the name, and of that name of the
 // file's boards that has most.
-pub fn find_name(text: &[u8], name: &[u8], work: &mut [u32]) -> Counted
-    ensures { Finds text.now name.now work.old (counted_of result) work.new }
+pub fn find_name(text: &[u8], name: &[u8], work: &mut [u32]) -> Result<usize, Refusal>
+    ensures { Finds text.now name.now work.old result work.new }
 {
     if LIMIT < text.len() {
-        return Counted::Refused(Refusal::TextTooLong);
+        return Err(Refusal::TextTooLong);
     }
     if LIMIT < name.len() {
-        return Counted::Refused(Refusal::TextTooLong);
+        return Err(Refusal::TextTooLong);
     }
     let good = well_formed_len(text);
     if good < text.len() {
-        return Counted::Refused(Refusal::NotUtf8(good as u64));
+        return Err(Refusal::NotUtf8(good as u64));
     }
     let well = well_formed_len(name);
     if well < name.len() {
-        return Counted::Refused(Refusal::NotUtf8(well as u64));
+        return Err(Refusal::NotUtf8(well as u64));
     }
     find_checked(text, name, work)
 }

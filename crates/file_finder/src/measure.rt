@@ -11,23 +11,9 @@ ghost use Rattle.file_finder.specs.Walk.{MostIn, RoomIs};
 
 use accents::mapped_len;
 use board::names_at;
-use file_sections::{BoardCursor, BoardStep, Section};
-use lin_spec::Span;
+use file_sections::{BoardCursor, Section};
+use lin_spec::{Refusal, Span};
 use text::shown;
-
-// Whether a room is enough, or how many places are needed.
-#[derive(Clone, Copy)]
-pub enum Room {
-    Enough,
-    Needed(usize),
-}
-
-// The greater of two numbers.
-fn greater(a: usize, b: usize) -> usize
-    ensures { result ≡ max a b }
-{
-    if a < b { b } else { a }
-}
 
 // The most places that one of the names takes.
 fn most_of(mappings: &[u64; 501], text: &[u8], names: [Span; 4]) -> usize
@@ -35,11 +21,8 @@ fn most_of(mappings: &[u64; 501], text: &[u8], names: [Span; 4]) -> usize
     ensures { result ≡ greatest (map (λ x. places_of (bytes_at text.now x)) names) }
 {
     let mut most = 0;
-    let mut seat = 0;
-    while seat < 4 {
-        let x = names[seat];
-        most = greater(most, mapped_len(mappings, shown(text, x)));
-        seat += 1;
+    for &x in names.iter() {
+        most = most.max(mapped_len(mappings, shown(text, x)));
     }
     most
 }
@@ -63,19 +46,16 @@ fn most_from(mappings: &[u64; 501], text: &[u8], cursor: BoardCursor) -> usize
     let mut most = 0;
     let mut c = cursor;
     loop {
-        match c.next(text) {
-            BoardStep::Found(_, p, next) => {
-                most = greater(most, most_in(mappings, text, p));
-                c = next;
-            }
-            BoardStep::Ended(_) => {
-                return most;
-            }
-        }
+        let step = c.next(text);
+        let Some((_, p)) = step.found else {
+            return most;
+        };
+        most = most.max(most_in(mappings, text, p));
+        c = step.cursor;
     }
 }
 
-// Whether the room is enough for a name that takes so many places. A UTF-8 text of n bytes is mapped to n + n / 2 characters at the most, so the names are measured
+// Refusal 7 unless the room is enough for a name that takes so many places. A UTF-8 text of n bytes is mapped to n + n / 2 characters at the most, so the names are measured
 // only where the room is less than that of the whole text.
 pub fn room_for(
     mappings: &[u64; 501],
@@ -83,16 +63,16 @@ pub fn room_for(
     cursor: BoardCursor,
     places: usize,
     room: usize,
-) -> Room
+) -> Result<(), Refusal>
     requires { (mappings.now ≡ table_words mapping_table) × AtFirst text.now cursor × (utf8 text.now ≡ true) × (places < 2 ^ 32) }
     ensures { RoomIs text.now places room result }
 {
     if places + text.len() * 3 / 2 <= room {
-        return Room::Enough;
+        return Ok(());
     }
     let need = places + most_from(mappings, text, cursor);
     if need <= room {
-        return Room::Enough;
+        return Ok(());
     }
-    Room::Needed(need)
+    Err(Refusal::OutputTooSmall(need as u64))
 }

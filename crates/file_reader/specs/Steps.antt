@@ -1,39 +1,48 @@
 -- A step that reads, as lin_spec's, and what its parts ask. (01: File)
-use Rattle.std.specs.Prelude.{ℕ, List}
-use Rattle.std.proofs.Math.Option.{Option, none, some}
-use Rattle.lin_spec.specs.Refusals.{Answer}
-use Rattle.lin_spec.specs.Refusals.Answer.{refused, accepted}
+use Rattle.std.specs.Prelude.{ℕ, ◌≡◌, List, [], ◌∷◌, drop, Option, None, Some, Err, Ok}
+use Rattle.lin_spec.specs.Refusals.{Answer, unless}
 use Rattle.lin_spec.specs.Fresh.{fresh_board}
-use Rattle.lin_spec.specs.File.{Standing, Visit, ReadStep}
+use Rattle.lin_spec.specs.File.{Standing, Visit, ReadStep, not_utf8_from}
 use Rattle.lin_spec.specs.File.Visit.{found, ended}
 use Rattle.lin_spec.specs.declared.Refusal.{Refusal}
-use Rattle.lin_spec.specs.declared.Verdict.{Verdict}
-use Rattle.lin_spec.specs.declared.Verdict.TheVariants.{Accepted, Refused}
+use Rattle.lin_spec.specs.declared.Heading.{Heading}
 use Rattle.file_sections.specs.Sections.{section_of, standing_of}
-use Rattle.file_reader.specs.declared.steps.NextBoard.{NextBoard}
-use Rattle.file_reader.specs.declared.steps.NextBoard.TheVariants.{Found, Ended, Refused as Met}
+use Rattle.file_sections.specs.declared.sections.BoardCursor.{BoardCursor}
+use Rattle.file_reader.specs.declared.steps.ReadBoard.{ReadBoard}
 use Rattle.file_reader.specs.declared.steps.BoardRead.{BoardRead}
 
 -- one check, by its verdict
-abbrev pub check_of : Verdict → Option Refusal
-check_of Accepted = none
-check_of (Refused r) = some r
+abbrev pub check_of : Answer Unit → Option Refusal
+check_of (Ok tt) = None
+check_of (Err r) = Some r
 
--- a step's answer, and the cursor that it hands back
-abbrev pub next_of : NextBoard → Answer Visit
-next_of (Found n p d) = accepted (found n (section_of p) (standing_of d))
-next_of (Ended c) = accepted (ended (standing_of c))
-next_of (Met r c) = refused r
+-- a step's answer, with the cursor that it hands back
+abbrev pub next_of : Answer (Option ReadBoard) → Standing → Answer Visit
+next_of (Ok (Some b)) c = Ok (found b.number (section_of b.section) c)
+next_of (Ok None) c = Ok (ended c)
+next_of (Err r) c = Err r
 
-abbrev pub cursor_of : NextBoard → Standing
-cursor_of (Found n p d) = standing_of d
-cursor_of (Ended c) = standing_of c
-cursor_of (Met r c) = standing_of c
+-- the board that was read, with the numbers of its calls and cards; without one a fresh board, and none
+abbrev pub no_heading : Heading
+no_heading = record { board = fresh_board; calls = 0; cards = 0 }
+
+abbrev pub heading_in : Answer (Option ReadBoard) → Heading
+heading_in (Ok (Some b)) = b.heading
+heading_in (Ok None) = no_heading
+heading_in (Err r) = no_heading
 
 abbrev pub read_of : BoardRead → (rows cards : List ℕ) → ReadStep
 read_of r rows cards =
-    record { answer = next_of r.next; cursor = cursor_of r.next; board = r.board; calls = r.calls; play = r.cards; rows = rows; cards = cards }
+    let h = heading_in r.board in
+    let c = standing_of r.cursor in
+    record { answer = next_of r.board c; cursor = c; board = h.board; calls = h.calls; play = h.cards; rows = rows; cards = cards }
 
--- a step without a board
-abbrev pub unread_of : NextBoard → BoardRead
-unread_of v = record { next = v; board = fresh_board; calls = 0; cards = 0 }
+-- a section that was found, read or refused: c is the cursor where it stood, d the one after it
+abbrev pub read_as : (c d : BoardCursor) → Answer ReadBoard → BoardRead
+read_as c d (Ok b) = record { board = Ok (Some b); cursor = d }
+read_as c d (Err r) = record { board = Err r; cursor = c }
+
+-- no board, or 2 over the bytes from a place on
+pub record NoneLeft (s : List ℕ) (at : ℕ) (r : Answer (Option ReadBoard)) : Type 0 where
+  pub answer : (c : Standing) → next_of r c ≡ unless (not_utf8_from at (drop at s) ∷ []) (ended c)
+  pub heading : heading_in r ≡ no_heading

@@ -3,4 +3,4 @@
 // The step of the board cursor that reads the next board. (01: File; Board)
 mod steps;
 
-pub use steps::{BoardRead, NextBoard, read_board};
+pub use steps::{BoardRead, ReadBoard, read_board};

@@ -3,109 +3,105 @@ ghost use Rattle.std.specs.Prelude.{◌≡◌, [], ◌∷◌, ◌-◌, ◌≤◌
 ghost use Rattle.lin_spec.specs.Records.{part};
 ghost use Rattle.lin_spec.specs.Refusals.{unless};
 ghost use Rattle.lin_spec.specs.Reading.{few_rows};
-ghost use Rattle.lin_spec.specs.File.{board_in, not_utf8_from, read_by, read_step};
-ghost use Rattle.lin_spec.specs.File.Visit.{found, ended};
+ghost use Rattle.lin_spec.specs.File.{board_in, not_utf8_from, Standing, read_by, read_step};
+ghost use Rattle.lin_spec.specs.File.Visit.{found};
+ghost use Rattle.file_sections.specs.declared.sections.BoardCursor.{BoardCursor};
 ghost use Rattle.file_sections.specs.Sections.{section_of, standing_of, Inside};
-ghost use Rattle.file_reader.specs.Steps.{check_of, next_of, cursor_of, unread_of, read_of};
+ghost use Rattle.file_reader.specs.Steps.{check_of, NoneLeft, read_as, read_of};
 
 use board::board_at;
-use file_sections::{BoardCursor, BoardStep, Section, next_board};
-use lin_spec::{Board, LIMIT, Refusal, Verdict};
+use file_sections::{BoardCursor, Section, next_board};
+use lin_spec::{Heading, LIMIT, Refusal};
 use text::well_formed_len;
 
-// The board's number, its section and the cursor after it; or none, or the refusal, with the cursor where it stood.
+// A board that a step read, with its number and its section.
 #[derive(Clone, Copy)]
-pub enum NextBoard {
-    Found(usize, Section, BoardCursor),
-    Ended(BoardCursor),
-    Refused(Refusal, BoardCursor),
+pub struct ReadBoard {
+    pub number: usize,
+    pub section: Section,
+    pub heading: Heading,
 }
 
-// The step, the board that it read, and how many calls and cards that has. Without one there is a fresh board, and none.
+// What a step gives: a board with the cursor after it; or none, or the refusal, with the cursor where it stood.
 #[derive(Clone, Copy)]
 pub struct BoardRead {
-    pub next: NextBoard,
-    pub board: Board,
-    pub calls: usize,
-    pub cards: usize,
-}
-
-fn unread(next: NextBoard) -> BoardRead
-    ensures { result ≡ unread_of next }
-{
-    let board = Board::new();
-    BoardRead {
-        next,
-        board,
-        calls: 0,
-        cards: 0,
-    }
+    pub board: Result<Option<ReadBoard>, Refusal>,
+    pub cursor: BoardCursor,
 }
 
 // Refusal 2 over the bytes from one place up to another.
-fn check_utf8(text: &[u8], at: usize, stop: usize) -> Verdict
+fn check_utf8(text: &[u8], at: usize, stop: usize) -> Result<(), Refusal>
     requires { (at ≤ stop) × (stop ≤ length text.now) }
     ensures { check_of result ≡ not_utf8_from at (part text.now at (stop - at)) }
 {
     let n = well_formed_len(&text[at..stop]);
     if n < stop - at {
-        return Verdict::Refused(Refusal::NotUtf8((at + n) as u64));
+        return Err(Refusal::NotUtf8((at + n) as u64));
     }
-    Verdict::Accepted
+    Ok(())
 }
 
-// The board of a section that was found, read if 2 and 3 do not refuse it.
+// The board of a section that was found after a place, read if 2 and 3 do not refuse it.
 fn read_found(
     text: &[u8],
-    c: BoardCursor,
-    n: usize,
-    p: Section,
-    d: BoardCursor,
+    at: usize,
+    number: usize,
+    section: Section,
     rows: &mut [u32],
     cards: &mut [u8],
-) -> BoardRead
-    requires { (c.at ≤ p.start) × Inside text.now p }
-    ensures { read_of result rows.new cards.new ≡ read_by text.now (standing_of c) (unless (not_utf8_from c.at (part text.now c.at (p.stop - c.at)) ∷ few_rows (board_in text.now (section_of p)) rows.old cards.old) (found n (section_of p) (standing_of d))) rows.old cards.old }
+) -> Result<ReadBoard, Refusal>
+    requires { (at ≤ section.start) × Inside text.now section }
+    ensures { (c d : BoardCursor) → read_of (read_as c d result) rows.new cards.new ≡ read_by text.now (standing_of c) (unless (not_utf8_from at (part text.now at (section.stop - at)) ∷ few_rows (board_in text.now (section_of section)) rows.old cards.old) (found number (section_of section) (standing_of d))) rows.old cards.old }
 {
-    if let Verdict::Refused(r) = check_utf8(text, c.at, p.stop) {
-        return unread(NextBoard::Refused(r, c));
-    }
-    let h = board_at(&text[..p.stop], p.start, rows, cards);
-    let verdict = h.verdict;
-    if let Verdict::Refused(few) = verdict {
-        return unread(NextBoard::Refused(few, c));
-    }
-    let board = h.board;
-    BoardRead {
-        next: NextBoard::Found(n, p, d),
-        board,
-        calls: h.calls,
-        cards: h.cards,
-    }
+    check_utf8(text, at, section.stop)?;
+    let heading = board_at(&text[..section.stop], section.start, rows, cards)?;
+    Ok(ReadBoard {
+        number,
+        section,
+        heading,
+    })
 }
 
-// None from the cursor on, if 2 does not refuse the bytes that are left.
-fn none_left(text: &[u8], c: BoardCursor) -> NextBoard
-    ensures { (next_of result ≡ unless (not_utf8_from c.at (drop c.at text.now) ∷ []) (ended (standing_of c))) × (cursor_of result ≡ standing_of c) }
+// None from a place on, if 2 does not refuse the bytes that are left.
+fn none_left(text: &[u8], at: usize) -> Result<Option<ReadBoard>, Refusal>
+    ensures { NoneLeft text.now at result }
 {
-    if c.at < text.len() {
-        if let Verdict::Refused(r) = check_utf8(text, c.at, text.len()) {
-            return NextBoard::Refused(r, c);
-        }
+    if at < text.len() {
+        check_utf8(text, at, text.len())?;
     }
-    NextBoard::Ended(c)
+    Ok(None)
+}
+
+// A step that is refused: the cursor stays.
+fn refused(r: Refusal, cursor: BoardCursor) -> BoardRead
+    ensures { result ≡ record { board = Err r; cursor = cursor } }
+{
+    BoardRead {
+        board: Err(r),
+        cursor,
+    }
 }
 
 // The next board from a cursor on; sections that are none are passed. Its calls go into the rows, six words each, and its play into the cards. 1, 2 and 3
 // refuse the step.
-pub fn read_board(text: &[u8], c: BoardCursor, rows: &mut [u32], cards: &mut [u8]) -> BoardRead
-    ensures { read_of result rows.new cards.new ≡ read_step text.now (standing_of c) rows.old cards.old }
+pub fn read_board(text: &[u8], cursor: BoardCursor, rows: &mut [u32], cards: &mut [u8]) -> BoardRead
+    ensures { read_of result rows.new cards.new ≡ read_step text.now (standing_of cursor) rows.old cards.old }
 {
     if LIMIT < text.len() {
-        return unread(NextBoard::Refused(Refusal::TextTooLong, c));
+        return refused(Refusal::TextTooLong, cursor);
     }
-    match next_board(text, c) {
-        BoardStep::Found(n, p, d) => read_found(text, c, n, p, d, rows, cards),
-        BoardStep::Ended(_) => unread(none_left(text, c)),
+    let step = next_board(text, cursor);
+    let Some((number, section)) = step.found else {
+        return BoardRead {
+            board: none_left(text, cursor.at),
+            cursor,
+        };
+    };
+    match read_found(text, cursor.at, number, section, rows, cards) {
+        Ok(board) => BoardRead {
+            board: Ok(Some(board)),
+            cursor: step.cursor,
+        },
+        Err(r) => refused(r, cursor),
     }
 }

@@ -1,5 +1,6 @@
 -- Laws of parts and lines as they are read: what is left to read of them, and what a cursor passes. (01: File)
 -- Assumes nothing.
+use Rattle.std.specs.Prelude.{Err, Ok, Option, Result}
 use Prim.Native.Nat.{ℕ, ◌+◌, ◌-◌, ◌≤◌, ◌<◌, ◌^◌}
 use native.Mathlib.Omega.{arith}
 use mathlib.Core.Path.{◌≡◌, refl, ap, sym, subst, ◌∙◌}
@@ -11,13 +12,10 @@ use borrow.Author.Tests.{eq-eqb, ne_eqb, eqb-true, le-leb, lt-ltb, le-ltb}
 use Rattle.lin_spec.specs.Base.{pick, null, ascii, any, keep}
 use Rattle.lin_spec.specs.Records.{end_of, part}
 use Rattle.lin_spec.specs.Refusals.{unless, too_long, not_utf8, sat}
-use Rattle.lin_spec.specs.Refusals.Answer.{refused, accepted}
 use Rattle.lin_spec.specs.Document.{open_text}
 use Rattle.lin_spec.specs.declared.Refusal.{Refusal}
 use Rattle.lin_spec.proofs.Checks.{unless-refused, unless-passed}
 use Rattle.document.specs.declared.tokens.Cursor.{Cursor}
-use Rattle.document.specs.declared.tokens.Opened.{Opened}
-use Rattle.document.specs.declared.tokens.Opened.TheVariants.{At, Refused}
 use Rattle.lin_spec.specs.White.{blank, is_command}
 use Rattle.lin_spec.specs.Tokens.{cut}
 use Rattle.lin_spec.specs.Cards.{field}
@@ -33,7 +31,7 @@ use Rattle.lin_spec.specs.Visits.{line_at, part_end, part_from}
 use Rattle.lin_spec.proofs.File.{visit-is, up_to, none_yet, stream-take}
 use Rattle.lin_spec.proofs.File.{line-stops, part-later, Found, Visited, visits}
 use Rattle.lin_spec.proofs.Steps.{front-board, front-other, number-other, same_lines}
-use Rattle.file_sections.specs.Sections.{section_of, standing_of, visit_of, past, Inside}
+use Rattle.file_sections.specs.Sections.{section_of, standing_of, visit_by, visit_of, past, Inside}
 use Rattle.file_sections.specs.declared.sections.BoardStep.{BoardStep}
 use Rattle.file_sections.specs.declared.sections.Section.{Section}
 use Rattle.file_sections.specs.declared.sections.BoardCursor.{BoardCursor}
@@ -246,8 +244,9 @@ unfolding next_board
 seeking_begins s c = record { same = refl; number = refl; lines = refl }
 
 -- what a step that was called for and taken apart says
-pub seen : (s : List ℕ) (c : BoardCursor) (r v : BoardStep) → visit_of r ≡ visit s (standing_of c) → r ≡ v → Visited s (standing_of c) (visit_of v)
-seen s c r v e f = visits s (standing_of c) (visit_of v) (sym e ∙ ap visit_of f)
+pub seen : (s : List ℕ) (c : BoardCursor) (r : BoardStep) (f : Option (ℕ × Section)) → visit_of r ≡ visit s (standing_of c) → r.found ≡ f
+    → Visited s (standing_of c) (visit_by f (standing_of r.cursor))
+seen s c r f e h = visits s (standing_of c) _ (sym e ∙ ap (λ x. visit_by x (standing_of r.cursor)) h)
 
 module _ (s : List ℕ) (c₀ c : Standing) (k : Seeking s c₀ c) where
   module _ (n : ℕ) (p : Part) (d : Standing) (f : Found s c n p d) where
@@ -269,14 +268,14 @@ module _ (s : List ℕ) (c₀ c : Standing) (k : Seeking s c₀ c) where
   seeking_ended e = ap (λ (ps : List Part). first_of c₀ (boards_of ps)) (sym e) ∙ k.same
 
 -- Opening, by the answer of `open`
-module _ (s : List ℕ) (o : Opened) (e : opened_at o ≡ open_text s) where
-  pub boards-opened : (c : Cursor) → o ≡ At c → (b : Bool) → b ≡ holds (ascii "qx") (stream s 0) → accepted (record { at = 0; number = 0; lines = not b }) ≡ open_boards s
+module _ (s : List ℕ) (o : Result Cursor Refusal) (e : opened_at o ≡ open_text s) where
+  pub boards-opened : (c : Cursor) → o ≡ Ok c → (b : Bool) → b ≡ holds (ascii "qx") (stream s 0) → Ok (record { at = 0; number = 0; lines = not b }) ≡ open_boards s
   unfolding open_boards open_text
   boards-opened c f b h =
       let x : Standing = record { at = 0; number = 0; lines = not (holds (ascii "qx") (stream s 0)) } in
-      let z : unless [] x ≡ accepted x = unfold unless in refl in
+      let z : unless [] x ≡ Ok x = unfold unless in refl in
       rw h (sym (unless-passed (too_long s ∷ not_utf8 s ∷ []) [] 0 c.at x (sym e ∙ ap opened_at f) ∙ z))
 
-  pub boards-refused : (r : Refusal) → o ≡ Refused r → refused r ≡ open_boards s
+  pub boards-refused : (r : Refusal) → o ≡ Err r → Err r ≡ open_boards s
   unfolding open_boards open_text
   boards-refused r f = sym (unless-refused (too_long s ∷ not_utf8 s ∷ []) [] 0 _ r (sym e ∙ ap opened_at f))

@@ -1,5 +1,7 @@
 -- Laws of a board cursor on its way through a file: what it has passed and what remains. (01: File)
 -- Assumes nothing.
+use Rattle.std.specs.Prelude.{Ok, Result}
+use Rattle.lin_spec.specs.declared.Refusal.{Refusal}
 use Prim.Native.Nat.{ℕ, ◌+◌, ◌≤◌}
 use native.Mathlib.Omega.{arith}
 use mathlib.Core.Path.{◌≡◌, refl, ap, sym, subst, ◌∙◌}
@@ -9,7 +11,6 @@ use lib.ListN.{length}
 use Rattle.lin_spec.specs.Base.{pick, keep}
 use Rattle.lin_spec.specs.Records.{limit}
 use Rattle.lin_spec.specs.Refusals.{unless, too_long, not_utf8}
-use Rattle.lin_spec.specs.Refusals.Answer.{accepted}
 use Rattle.lin_spec.specs.Document.{open_text}
 use Rattle.lin_spec.specs.File.{Section as Part, Standing, open_boards, sections, boards_of, remaining}
 use Rattle.lin_spec.proofs.Checks.{unless-same, unless-passed}
@@ -18,8 +19,6 @@ use Rattle.lin_spec.proofs.File.{Found, all_remain}
 use Rattle.file_sections.specs.Sections.{section_of, standing_of, opened_of, Inside, first_standing, AtFirst}
 use Rattle.file_sections.specs.declared.sections.Section.{Section}
 use Rattle.file_sections.specs.declared.sections.BoardCursor.{BoardCursor}
-use Rattle.file_sections.specs.declared.sections.OpenedBoards.{OpenedBoards}
-use Rattle.file_sections.specs.declared.sections.OpenedBoards.TheVariants.{At}
 
 -- A cursor on its way: the boards passed and those that remain are all
 
@@ -72,8 +71,8 @@ pub found_inside : (s : List ℕ) (c : Standing) → Way s c → (n : ℕ) (p : 
 found_inside s c w n p d f = record { begins = f.begins; stops = f.stops; short = let l = w.short in omega arith }
 
 -- a cursor that `open_boards` gave
-module _ (s : List ℕ) (o : OpenedBoards) (e : opened_of o ≡ open_boards s) (c : BoardCursor) (f : o ≡ At c) where
-  taken : open_boards s ≡ accepted (standing_of c)
+module _ (s : List ℕ) (o : Result BoardCursor Refusal) (e : opened_of o ≡ open_boards s) (c : BoardCursor) (f : o ≡ Ok c) where
+  taken : open_boards s ≡ Ok (standing_of c)
   taken = sym e ∙ ap opened_of f
 
   pub at_first : AtFirst s c

@@ -8,8 +8,8 @@ ghost use Rattle.lin_spec.specs.Visits.{line_at, part_from};
 ghost use Rattle.document_commands.specs.Commands.{mn_no, pn_no};
 ghost use Rattle.file_sections.specs.Sections.{section_of, standing_of, opened_of, visit_of, past};
 
-use document::{Cursor, Opened, open};
-use document_commands::{Commanded, MD, MN, PN, PartToken, QX, next_command, part_token};
+use document::{Cursor, open};
+use document_commands::{MD, MN, PN, PartToken, QX, next_command, part_token};
 use lin_spec::Refusal;
 use text::find_byte;
 use white::is_blank;
@@ -30,17 +30,11 @@ pub struct BoardCursor {
     pub lines: bool,
 }
 
-#[derive(Clone, Copy)]
-pub enum OpenedBoards {
-    At(BoardCursor),
-    Refused(Refusal),
-}
-
 // A section with the number that it has if it is a board, and the cursor after it; or none, with the cursor where it was.
 #[derive(Clone, Copy)]
-pub enum BoardStep {
-    Found(usize, Section, BoardCursor),
-    Ended(BoardCursor),
+pub struct BoardStep {
+    pub found: Option<(usize, Section)>,
+    pub cursor: BoardCursor,
 }
 
 // Whether the text has a qx token.
@@ -48,19 +42,13 @@ pub fn holds_qx(text: &[u8]) -> bool
     ensures { result ≡ holds (ascii "qx") (stream text.now 0) }
 {
     let mut c = Cursor { at: 0 };
-    loop {
-        match next_command(text, c) {
-            Commanded::Token(k, _, next) => {
-                if k == QX {
-                    return true;
-                }
-                c = next;
-            }
-            Commanded::Ended => {
-                return false;
-            }
+    while let Some((k, _, next)) = next_command(text, c) {
+        if k == QX {
+            return true;
         }
+        c = next;
     }
+    false
 }
 
 // The place to which a qx is moved back: over mn and pn it stays, else it is the place after the token.
@@ -144,7 +132,10 @@ fn passed(c: BoardCursor, p: Section, at: usize) -> BoardStep
         number: next_number(c.number, p.board),
         lines: c.lines,
     };
-    BoardStep::Found(c.number, p, cursor)
+    BoardStep {
+        found: Some((c.number, p)),
+        cursor,
+    }
 }
 
 impl BoardCursor {
@@ -152,16 +143,21 @@ impl BoardCursor {
     pub fn next(self, text: &[u8]) -> BoardStep
         ensures { visit_of result ≡ visit text.now (standing_of self) }
     {
+        let cursor = self;
+        let stays = BoardStep {
+            found: None,
+            cursor,
+        };
         if self.lines {
             if text.len() < self.at {
-                return BoardStep::Ended(self);
+                return stays;
             }
             let line = line_from(text, self.at);
             return passed(self, line, line.stop + 1);
         }
         let p = part_from(text, self.at);
         if p.stop <= self.at {
-            return BoardStep::Ended(self);
+            return stays;
         }
         passed(self, p, p.stop)
     }
@@ -173,33 +169,29 @@ pub fn next_board(text: &[u8], cursor: BoardCursor) -> BoardStep
 {
     let mut c = cursor;
     loop {
-        match c.next(text) {
-            BoardStep::Found(n, p, next) => {
-                if p.board {
-                    return BoardStep::Found(n, p, next);
-                }
-                c = next;
-            }
-            BoardStep::Ended(_) => {
-                return BoardStep::Ended(cursor);
-            }
+        let step = c.next(text);
+        let Some((_, p)) = step.found else {
+            return BoardStep {
+                found: None,
+                cursor,
+            };
+        };
+        if p.board {
+            return step;
         }
+        c = step.cursor;
     }
 }
 
 // A cursor at the first section of a text that is short enough and UTF-8.
-pub fn open_boards(text: &[u8]) -> OpenedBoards
+pub fn open_boards(text: &[u8]) -> Result<BoardCursor, Refusal>
     ensures { opened_of result ≡ open_boards text.now }
 {
-    match open(text) {
-        Opened::At(_) => {
-            let lines = !holds_qx(text);
-            OpenedBoards::At(BoardCursor {
-                at: 0,
-                number: 0,
-                lines,
-            })
-        }
-        Opened::Refused(r) => OpenedBoards::Refused(r),
-    }
+    open(text)?;
+    let lines = !holds_qx(text);
+    Ok(BoardCursor {
+        at: 0,
+        number: 0,
+        lines,
+    })
 }

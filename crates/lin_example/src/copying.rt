@@ -2,9 +2,8 @@
 // (01: File, Writer, equality)
 use crate::printing::{LINE, say_bytes, say_number, say_refusal, say_written};
 use lin::{
-    BoardCursor, Counted, Equality, Heading, NextBoard, OpenedBoards, Verdict, Written, append,
-    board_line, count_boards, file_board, file_heading, format_cardplay_by_trick, open_boards,
-    read_board, same_board,
+    BoardCursor, Heading, Refusal, append, board_line, count_boards, file_board, file_heading,
+    format_cardplay_by_trick, open_boards, read_board, same_board,
 };
 use std::io;
 use text::part;
@@ -22,8 +21,8 @@ fn rows_of(rows: &[u32], calls: usize) -> &[u32] {
     &rows[..6 * calls]
 }
 
-// A board's line: its number, dealer, vulnerability, hand lengths, counts and claim.
-fn say_board(rt: &impl Print, number: usize, heading: Heading) -> io::Result<()> {
+// A board's line: its number, dealer, vulnerability, hand lengths, counts and claim; or the line of its refusal.
+fn say_board(rt: &impl Print, number: usize, heading: Result<Heading, Refusal>) -> io::Result<()> {
     let mut line = [0u8; LINE];
     let written = board_line(number as u64, heading, &mut line);
     say_written(rt, &line, written)
@@ -34,18 +33,16 @@ fn row_part(text: &[u8], start: u32, len: u32) -> &[u8] {
     part(text, start as usize, len as usize)
 }
 
-// The call of the first row, with `!` if it is alerted, and its annotation in parentheses.
-fn say_call(rt: &impl Print, text: &[u8], rows: &[u32]) -> io::Result<()> {
-    if rows.len() < 6 {
-        return Ok(());
-    }
-    say_bytes(rt, row_part(text, rows[0], rows[1]))?;
-    if rows[2] == 1 {
+// The call of a row, with `!` if it is alerted, and its annotation in parentheses.
+fn say_call(rt: &impl Print, text: &[u8], row: [u32; 6]) -> io::Result<()> {
+    let [bid, bid_len, alerted, annotated, annotation, annotation_len] = row;
+    say_bytes(rt, row_part(text, bid, bid_len))?;
+    if alerted == 1 {
         say_bytes(rt, b"!")?;
     }
-    if rows[3] == 1 {
+    if annotated == 1 {
         say_bytes(rt, b" (")?;
-        say_bytes(rt, row_part(text, rows[4], rows[5]))?;
+        say_bytes(rt, row_part(text, annotation, annotation_len))?;
         say_bytes(rt, b")")?;
     }
     say_bytes(rt, b"\n")
@@ -53,10 +50,8 @@ fn say_call(rt: &impl Print, text: &[u8], rows: &[u32]) -> io::Result<()> {
 
 // The calls of a board.
 fn say_calls(rt: &impl Print, text: &[u8], rows: &[u32]) -> io::Result<()> {
-    let mut i = 0;
-    while 6 <= rows.len() - i {
-        say_call(rt, text, &rows[i..])?;
-        i += 6;
+    for &row in rows.as_chunks::<6>().0 {
+        say_call(rt, text, row)?;
     }
     Ok(())
 }
@@ -70,13 +65,13 @@ fn say_play(rt: &impl Print, cards: &[u8]) -> io::Result<()> {
 }
 
 // The used bytes after an append, and what is said of it.
-fn used_after(rt: &impl Print, written: Written, used: usize) -> io::Result<usize> {
+fn used_after(rt: &impl Print, written: Result<usize, Refusal>, used: usize) -> io::Result<usize> {
     match written {
-        Written::Length(n) => {
+        Ok(n) => {
             say_number(rt, b"used", n)?;
             Ok(n)
         }
-        Written::Refused(r) => {
+        Err(r) => {
             say_refusal(rt, r)?;
             Ok(used)
         }
@@ -94,11 +89,10 @@ fn copy_board(
     out: &mut [u8],
     used: usize,
 ) -> io::Result<usize> {
-    say_board(rt, number, heading)?;
+    say_board(rt, number, Ok(heading))?;
     say_calls(rt, text, calls)?;
     say_play(rt, play)?;
-    let board = heading.board;
-    let written = append(text, board, calls, play, out, used);
+    let written = append(text, heading.board, calls, play, out, used);
     used_after(rt, written, used)
 }
 
@@ -114,26 +108,19 @@ fn copy_from(
     let mut used = 0;
     let mut c = cursor;
     loop {
-        let read = read_board(text, c, &mut rows, &mut cards);
-        let next = read.next;
-        match next {
-            NextBoard::Found(number, _, after) => {
-                let board = read.board;
-                let heading = Heading {
-                    verdict: Verdict::Accepted,
-                    board,
-                    calls: read.calls,
-                    cards: read.cards,
-                };
-                let calls = rows_of(&rows, read.calls);
-                let play = part(&cards, 0, read.cards);
-                used = copy_board(rt, text, number, heading, calls, play, out, used)?;
-                c = after;
+        let step = read_board(text, c, &mut rows, &mut cards);
+        match step.board {
+            Ok(Some(read)) => {
+                let heading = read.heading;
+                let calls = rows_of(&rows, heading.calls);
+                let play = part(&cards, 0, heading.cards);
+                used = copy_board(rt, text, read.number, heading, calls, play, out, used)?;
+                c = step.cursor;
             }
-            NextBoard::Ended(_) => {
+            Ok(None) => {
                 return Ok(used);
             }
-            NextBoard::Refused(r, _) => {
+            Err(r) => {
                 say_refusal(rt, r)?;
                 return Ok(used);
             }
@@ -144,11 +131,11 @@ fn copy_from(
 // How many boards a file has, or why it was refused.
 fn say_count(rt: &impl Print, text: &[u8]) -> io::Result<usize> {
     match count_boards(text) {
-        Counted::Count(count) => {
+        Ok(count) => {
             say_number(rt, b"boards", count)?;
             Ok(count)
         }
-        Counted::Refused(r) => {
+        Err(r) => {
             say_refusal(rt, r)?;
             Ok(0)
         }
@@ -159,8 +146,8 @@ fn say_count(rt: &impl Print, text: &[u8]) -> io::Result<usize> {
 pub fn copy_boards(rt: &impl Print, text: &[u8], out: &mut [u8]) -> io::Result<usize> {
     say_count(rt, text)?;
     match open_boards(text) {
-        OpenedBoards::At(c) => copy_from(rt, text, c, out),
-        OpenedBoards::Refused(r) => {
+        Ok(c) => copy_from(rt, text, c, out),
+        Err(r) => {
             say_refusal(rt, r)?;
             Ok(0)
         }
@@ -168,22 +155,11 @@ pub fn copy_boards(rt: &impl Print, text: &[u8], out: &mut [u8]) -> io::Result<u
 }
 
 // What was found of two boards.
-fn say_equality(rt: &impl Print, equality: Equality) -> io::Result<()> {
+fn say_equality(rt: &impl Print, equality: Result<bool, Refusal>) -> io::Result<()> {
     match equality {
-        Equality::Equal => say_bytes(rt, b"the same\n"),
-        Equality::Different => say_bytes(rt, b"different\n"),
-        Equality::Refused(r) => say_refusal(rt, r),
-    }
-}
-
-// Whether a board was refused, which is then shown.
-fn say_refused(rt: &impl Print, verdict: Verdict) -> io::Result<bool> {
-    match verdict {
-        Verdict::Accepted => Ok(false),
-        Verdict::Refused(r) => {
-            say_refusal(rt, r)?;
-            Ok(true)
-        }
+        Ok(true) => say_bytes(rt, b"the same\n"),
+        Ok(false) => say_bytes(rt, b"different\n"),
+        Err(r) => say_refusal(rt, r),
     }
 }
 
@@ -191,24 +167,26 @@ fn say_refused(rt: &impl Print, verdict: Verdict) -> io::Result<bool> {
 fn compare_board(rt: &impl Print, text: &[u8], copy: &[u8], number: usize) -> io::Result<()> {
     let mut rows = [0u32; WORDS];
     let mut cards = [0u8; PLACES];
-    let heading = file_board(text, number, &mut rows, &mut cards);
+    let read = file_board(text, number, &mut rows, &mut cards);
     let mut rows2 = [0u32; WORDS];
     let mut cards2 = [0u8; PLACES];
-    let heading2 = file_board(copy, number, &mut rows2, &mut cards2);
-    let verdict = heading.verdict;
-    let verdict2 = heading2.verdict;
-    if say_refused(rt, verdict)? | say_refused(rt, verdict2)? {
-        return Ok(());
+    let read2 = file_board(copy, number, &mut rows2, &mut cards2);
+    if let Err(r) = read {
+        say_refusal(rt, r)?;
     }
-    let board = heading.board;
-    let board2 = heading2.board;
+    if let Err(r) = read2 {
+        say_refusal(rt, r)?;
+    }
+    let (Ok(heading), Ok(heading2)) = (read, read2) else {
+        return Ok(());
+    };
     let equality = same_board(
         text,
-        board,
+        heading.board,
         rows_of(&rows, heading.calls),
         part(&cards, 0, heading.cards),
         copy,
-        board2,
+        heading2.board,
         rows_of(&rows2, heading2.calls),
         part(&cards2, 0, heading2.cards),
     );
@@ -217,11 +195,9 @@ fn compare_board(rt: &impl Print, text: &[u8], copy: &[u8], number: usize) -> io
 
 // Shows and compares the boards of a copy by their numbers.
 fn compare_all(rt: &impl Print, text: &[u8], copy: &[u8], count: usize) -> io::Result<()> {
-    let mut number = 0;
-    while number < count {
+    for number in 0..count {
         say_board(rt, number, file_heading(copy, number))?;
         compare_board(rt, text, copy, number)?;
-        number += 1;
     }
     Ok(())
 }

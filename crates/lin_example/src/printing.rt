@@ -1,5 +1,5 @@
 // Bytes, numbers and refusals on standard output.
-use lin::{Refusal, Written, refusal_line};
+use lin::{Refusal, refusal_line};
 use std::io;
 use text::part;
 
@@ -23,10 +23,10 @@ pub fn say_number(rt: &impl Print, name: &[u8], n: usize) -> io::Result<()> {
 }
 
 // What a writer wrote into an output from its first byte on, or nothing where it refused.
-pub fn say_written(rt: &impl Print, out: &[u8], written: Written) -> io::Result<()> {
+pub fn say_written(rt: &impl Print, out: &[u8], written: Result<usize, Refusal>) -> io::Result<()> {
     match written {
-        Written::Length(n) => say_bytes(rt, part(out, 0, n)),
-        Written::Refused(_) => Ok(()),
+        Ok(n) => say_bytes(rt, part(out, 0, n)),
+        Err(_) => Ok(()),
     }
 }
 

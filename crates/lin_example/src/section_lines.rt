@@ -1,6 +1,6 @@
 // The sections of a file, parts or lines, each with its number if it is a board, and its places in the text. (01: File)
 use crate::printing::{say_bytes, say_decimal, say_number, say_refusal};
-use lin::{BoardCursor, BoardStep, OpenedBoards, Section, open_boards};
+use lin::{BoardCursor, Section, open_boards};
 use std::io;
 
 // A section: its number, or that it is no board, and where it begins and stops.
@@ -20,21 +20,18 @@ fn say_section(rt: &impl Print, number: usize, section: Section) -> io::Result<(
 fn say_sections(rt: &impl Print, text: &[u8], cursor: BoardCursor) -> io::Result<()> {
     let mut c = cursor;
     loop {
-        match c.next(text) {
-            BoardStep::Found(number, section, next) => {
-                say_section(rt, number, section)?;
-                c = next;
-            }
-            BoardStep::Ended(_) => {
-                return Ok(());
-            }
-        }
+        let step = c.next(text);
+        let Some((number, section)) = step.found else {
+            return Ok(());
+        };
+        say_section(rt, number, section)?;
+        c = step.cursor;
     }
 }
 
 pub fn show_sections(rt: &impl Print, text: &[u8]) -> io::Result<()> {
     match open_boards(text) {
-        OpenedBoards::At(cursor) => say_sections(rt, text, cursor),
-        OpenedBoards::Refused(r) => say_refusal(rt, r),
+        Ok(cursor) => say_sections(rt, text, cursor),
+        Err(r) => say_refusal(rt, r),
     }
 }

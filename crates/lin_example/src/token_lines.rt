@@ -1,6 +1,6 @@
 // The tokens of a text, each with the place of the cursor before it, and the trailing text. (01: Tokens)
 use crate::printing::{say_bytes, say_decimal, say_number, say_refusal};
-use lin::{Cursor, Opened, Step, Token, command, open, trailing, value};
+use lin::{Cursor, Token, command, open, trailing, value};
 use std::io;
 
 // A token that stands at a place: the place, the command, a pipe, and the value.
@@ -25,22 +25,18 @@ fn say_trailing(rt: &impl Print, text: &[u8], cursor: Cursor) -> io::Result<()> 
 fn say_tokens(rt: &impl Print, text: &[u8], cursor: Cursor) -> io::Result<()> {
     let mut c = cursor;
     loop {
-        match c.next(text) {
-            Step::Found(token, next) => {
-                let p = c.position();
-                say_token(rt, text, p.at, token)?;
-                c = next;
-            }
-            Step::Ended(last) => {
-                return say_trailing(rt, text, last);
-            }
-        }
+        let step = c.next(text);
+        let Some(token) = step.token else {
+            return say_trailing(rt, text, step.cursor);
+        };
+        say_token(rt, text, c.position().at, token)?;
+        c = step.cursor;
     }
 }
 
 pub fn show_tokens(rt: &impl Print, text: &[u8]) -> io::Result<()> {
     match open(text) {
-        Opened::At(cursor) => say_tokens(rt, text, cursor),
-        Opened::Refused(r) => say_refusal(rt, r),
+        Ok(cursor) => say_tokens(rt, text, cursor),
+        Err(r) => say_refusal(rt, r),
     }
 }

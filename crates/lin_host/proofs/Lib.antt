@@ -3,4 +3,3 @@ pub mod AuctionLaws
 pub mod ConvertingLaws
 pub mod Mixed
 pub mod Types
-pub mod ReadingLaws

@@ -1,6 +1,7 @@
 -- The third demand for a list of calls of the entries `append` and `append_rows` and of the export `lin_append`, mixed, on one output; and what the types of
 -- the export's parameters say. (01: Writer, "For the third demand ..")
 -- Assumes nothing.
+use Rattle.std.specs.Prelude.{Err, Ok, Option}
 use Prim.Native.Nat.{ℕ, zero, suc, ◌*◌, ◌≤◌}
 use native.Mathlib.Omega.{arith}
 use mathlib.Core.Path.{◌≡◌, refl, ap}
@@ -11,13 +12,10 @@ use lib.Dec.{eqb, ltb}
 use borrow.Author.Tests.{ltb-false}
 use Rattle.lin_spec.specs.Base.{pick, All}
 use Rattle.lin_spec.specs.Refusals.{Answer, number_of}
-use Rattle.lin_spec.specs.Refusals.Answer.{refused, accepted}
 use Rattle.lin_spec.specs.Board.{Present}
-use Rattle.lin_spec.specs.Lent.{claim_of as claimed}
 use Rattle.lin_spec.specs.Append.{plain, appended}
 use Rattle.lin_spec.specs.Log.{accepts, used_after, State, event}
 use Rattle.lin_spec.specs.ThirdDemand.{Typed}
-use Rattle.lin_spec.specs.declared.MaybeClaim.{MaybeClaim}
 use Rattle.lin_spec.specs.declared.Refusal.{Refusal}
 use Rattle.lin_spec.specs.declared.Refusal.TheVariants.{TextTooLong, NotUtf8, TooFewRows, NoBoard, SpanPastEnd, SpanNotUtf8, OutputTooSmall, OutOfRange, BidUnknown}
 use Rattle.lin_spec.proofs.Base.{picked, all_map}
@@ -44,12 +42,12 @@ refusal_told OutOfRange = refl
 refusal_told (BidUnknown n) = refl
 
 accepts_told : (a : Answer ℕ) → eqb (numbers_of a).refusal 0 ≡ accepts a
-accepts_told (refused r) = refusal_told r
-accepts_told (accepted n) = refl
+accepts_told (Err r) = refusal_told r
+accepts_told (Ok n) = refl
 
 used_told : (a : Answer ℕ) (used : ℕ) → pick (eqb (numbers_of a).refusal 0) (numbers_of a).value used ≡ used_after a used
-used_told (refused r) used = ap (λ (t : Bool). pick t (numbers_of (refused r)).value used) (refusal_told r)
-used_told (accepted n) used = refl
+used_told (Err r) used = ap (λ (t : Bool). pick t (numbers_of (Err r)).value used) (refusal_told r)
+used_told (Ok n) used = refl
 
 same-call : (st : State) (c : Appending) → called_by st c ≡ event st (fed c)
 unfolding event
@@ -70,12 +68,12 @@ spans-length zero (a ∷ ws) h = absurd (let z : ⊥ = omega arith in z)
 spans-length (suc n) (a ∷ []) h = absurd (let z : ⊥ = omega arith in z)
 spans-length (suc n) (a ∷ b ∷ ws) h = ap suc (spans-length n ws (omega arith))
 
-claim_told : (t n : ℕ) → Present (λ (k : ℕ). k ≤ 255) (claimed (coded_claim t n))
+claim_told : (t n : ℕ) → Present (λ (k : ℕ). k ≤ 255) (coded_claim t n)
 claim_told t n =
     picked P (eqb t 0) (λ _. tt) (λ _. picked P (ltb 255 n) (λ _. tt) (λ e. ltb-false 255 n e))
   where
-    P : MaybeClaim → Type 0
-    P c = Present (λ (k : ℕ). k ≤ 255) (claimed c)
+    P : Option ℕ → Type 0
+    P c = Present (λ (k : ℕ). k ≤ 255) c
 
 numbers_typed : (s : List ℕ) (b : LinBoard) (ws cs : List ℕ) → TypedNumbers b → Typed (lent_numbers s b ws cs)
 unfolding coded_board

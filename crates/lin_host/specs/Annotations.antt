@@ -1,17 +1,15 @@
 -- The answer of an annotation's writer as numbers. (01: From PBN, "Words join with a space, none means absent.")
-use Rattle.std.specs.Prelude.{ℕ, List}
-use Rattle.std.proofs.Math.Option.{Option, none, some}
+use Rattle.std.specs.Prelude.{ℕ, List, Option, None, Some, Err, Ok}
 use Rattle.lin_spec.specs.Refusals.{Answer}
-use Rattle.lin_spec.specs.Refusals.Answer.{refused, accepted}
 use Rattle.lin_spec.specs.Annotation.{Annotated as Written}
 use Rattle.lin_host_numbers.specs.Answers.{numbers_of}
 use Rattle.lin_host.specs.declared.annotations.LinAnnotation.{LinAnnotation}
 
 -- the length of the text, or "absent" as 0 and 0, or the refusal
 abbrev pub annotation_numbers : Answer (Option ℕ) → LinAnnotation
-annotation_numbers (accepted none) = record { answer = numbers_of (accepted 0); present = 0 }
-annotation_numbers (accepted (some n)) = record { answer = numbers_of (accepted n); present = 1 }
-annotation_numbers (refused r) = record { answer = numbers_of (refused r); present = 0 }
+annotation_numbers (Ok None) = record { answer = numbers_of (Ok 0); present = 0 }
+annotation_numbers (Ok (Some n)) = record { answer = numbers_of (Ok n); present = 1 }
+annotation_numbers (Err r) = record { answer = numbers_of (Err r); present = 0 }
 
 -- an answer, and the output afterwards
 pub record Annotated : Type 0 where

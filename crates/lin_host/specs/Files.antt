@@ -1,7 +1,6 @@
 -- The finder, the board cursor and its step as numbers. (01: File; names; 02: N3)
-use Rattle.std.specs.Prelude.{ℕ, ◌≡◌, not, List, eqb, length}
+use Rattle.std.specs.Prelude.{ℕ, ◌≡◌, not, List, eqb, length, Err, Ok}
 use Rattle.lin_spec.specs.Refusals.{Answer}
-use Rattle.lin_spec.specs.Refusals.Answer.{refused, accepted}
 use Rattle.lin_spec.specs.Reading.{flag}
 use Rattle.lin_spec.specs.File.{Standing, Visit, ReadStep}
 use Rattle.lin_spec.specs.File.Visit.{found, ended}
@@ -24,8 +23,8 @@ standing at number lines = record { at = at; number = number; lines = not (eqb l
 
 -- the answer 0 with the cursor, or the refusal with 0, 0, 0
 unfoldable pub opened_numbers : Answer Standing → LinBoards
-opened_numbers (accepted c) = record { answer = numbers_of (accepted 0); at = c.at; number = c.number; lines = flag c.lines }
-opened_numbers (refused r) = record { answer = numbers_of (refused r); at = 0; number = 0; lines = 0 }
+opened_numbers (Ok c) = record { answer = numbers_of (Ok 0); at = c.at; number = c.number; lines = flag c.lines }
+opened_numbers (Err r) = record { answer = numbers_of (Err r); at = 0; number = 0; lines = 0 }
 
 -- without a section its numbers are 0
 unfoldable pub visit_numbers : Visit → LinSection
@@ -52,13 +51,13 @@ visit_numbers (ended c) =
 
 -- a step that reads: the answer 0, or the refusal
 abbrev pub step_answer : Answer Visit → LinAnswer
-step_answer (accepted v) = numbers_of (accepted 0)
-step_answer (refused r) = numbers_of (refused r)
+step_answer (Ok v) = numbers_of (Ok 0)
+step_answer (Err r) = numbers_of (Err r)
 
 -- what it gives as a step: a refusal gives none, with the cursor handed back
 abbrev pub step_visit : Answer Visit → Standing → Visit
-step_visit (accepted v) c = v
-step_visit (refused r) c = ended c
+step_visit (Ok v) c = v
+step_visit (Err r) c = ended c
 
 pub record StepRead : Type 0 where
   pub read : LinRead

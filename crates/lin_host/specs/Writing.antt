@@ -1,7 +1,6 @@
 -- The calls that are lent a board as numbers. (01: Writer; equality)
-use Rattle.std.specs.Prelude.{ℕ, Bool, ◌||◌, List}
+use Rattle.std.specs.Prelude.{ℕ, Bool, ◌||◌, List, Err, Ok}
 use Rattle.lin_spec.specs.Refusals.{Answer}
-use Rattle.lin_spec.specs.Refusals.Answer.{refused, accepted}
 use Rattle.lin_spec.specs.Reading.{flag}
 use Rattle.lin_spec.specs.Lent.{Lent, lent}
 use Rattle.lin_spec.specs.Append.{plain, appended}
@@ -20,8 +19,8 @@ append_numbers s b ws cs o used = outcome_numbers (appended (bad_codes b) (plain
 
 -- equality: 1 for equal boards, 0 for others, or the refusal
 abbrev pub equality_numbers : Answer Bool → LinAnswer
-equality_numbers (accepted t) = numbers_of (accepted (flag t))
-equality_numbers (refused r) = numbers_of (refused r)
+equality_numbers (Ok t) = numbers_of (Ok (flag t))
+equality_numbers (Err r) = numbers_of (Err r)
 
 abbrev pub same_numbers : (text : List ℕ) → LinBoard → (words cards : List ℕ) (text2 : List ℕ) → LinBoard → (words2 cards2 : List ℕ) → LinAnswer
 same_numbers s b ws cs s2 b2 ws2 cs2 = equality_numbers (same_boards (bad_codes b || bad_codes b2) (lent_numbers s b ws cs) (lent_numbers s2 b2 ws2 cs2))

@@ -1,11 +1,11 @@
 // The entry of annotations: the text of a raw PBN annotation. (01: From PBN, "Annotation parts ..")
 ghost use Rattle.std.specs.Prelude.{◌≡◌};
 ghost use Rattle.lin_spec.specs.Records.{span};
-ghost use Rattle.lin_spec.specs.Annotation.{annotation_answer, write_annotation};
+ghost use Rattle.lin_spec.specs.Annotation.{write_annotation};
 ghost use Rattle.lin_host.specs.Annotations.{annotation_numbers, Annotated, annotated_numbers};
 
-use lin_host_numbers::{LinAnswer, refusal};
-use lin_spec::{AnnotationWritten, Span};
+use lin_host_numbers::{LinAnswer, answer_numbers};
+use lin_spec::{Refusal, Span};
 use pbn_annotation::annotation_text;
 
 // present 1: a text, with its length as the answer's value. present 0: no word, with the value 0, or the refusal.
@@ -16,30 +16,12 @@ pub struct LinAnnotation {
     pub present: u32,
 }
 
-fn annotation_numbers(w: AnnotationWritten) -> LinAnnotation
-    ensures { result ≡ annotation_numbers (annotation_answer w) }
+fn annotation_numbers(w: Result<Option<usize>, Refusal>) -> LinAnnotation
+    ensures { result ≡ annotation_numbers w }
 {
-    match w {
-        AnnotationWritten::Absent => LinAnnotation {
-            answer: LinAnswer {
-                refusal: 0,
-                kind: 0,
-                value: 0,
-            },
-            present: 0,
-        },
-        AnnotationWritten::Length(n) => LinAnnotation {
-            answer: LinAnswer {
-                refusal: 0,
-                kind: 0,
-                value: n as u64,
-            },
-            present: 1,
-        },
-        AnnotationWritten::Refused(r) => LinAnnotation {
-            answer: refusal(r),
-            present: 0,
-        },
+    LinAnnotation {
+        answer: answer_numbers(w.map(|n| n.unwrap_or(0))),
+        present: u32::from(matches!(w, Ok(Some(_)))),
     }
 }
 

@@ -1,8 +1,9 @@
 // The entry of PBN records: the board that is made of one. (01: From PBN, `from_board`)
 ghost use Rattle.std.specs.Prelude.{◌≡◌};
-ghost use Rattle.lin_host.specs.Converting.{Conversion, from_board_numbers};
+ghost use Rattle.lin_host.specs.Converting.{converted_numbers, Conversion, from_board_numbers};
 
 use lin_host_numbers::{LinHeading, LinPbn, bad_record_codes, heading_numbers, record_of};
+use lin_spec::{Converted, Refusal};
 use pbn::from_board_with;
 use writer_texts::PLAIN;
 
@@ -12,6 +13,15 @@ use writer_texts::PLAIN;
 pub struct LinConverted {
     pub heading: LinHeading,
     pub len: u64,
+}
+
+fn converted_numbers(c: Result<Converted, Refusal>) -> LinConverted
+    ensures { result ≡ converted_numbers c }
+{
+    LinConverted {
+        heading: heading_numbers(c.map(|c| c.heading)),
+        len: c.map_or(0, |c| c.len as u64),
+    }
 }
 
 // Makes a board of a record. A call of the record takes six words: kind 0 to 5 for pass, double, redouble, bid, continue, blank; level 1 to 7 and strain
@@ -29,13 +39,16 @@ pub fn lin_from_board(
 ) -> LinConverted
     ensures { ◌≡◌ {A = Conversion} (record { heading = result.heading; len = result.len; rows = rows.new; cards = cards.new; output = out.new }) (from_board_numbers text.now board calls.now plays.now notes.now out.old rows.old cards.old) }
 {
-    let other = bad_record_codes(board);
-    let marks = PLAIN;
-    let b = record_of(board);
-    let made = from_board_with(other, marks, text, b, calls, plays, notes, out, rows, cards);
-    let heading = made.heading;
-    LinConverted {
-        heading: heading_numbers(heading),
-        len: made.len as u64,
-    }
+    converted_numbers(from_board_with(
+        bad_record_codes(board),
+        PLAIN,
+        text,
+        record_of(board),
+        calls,
+        plays,
+        notes,
+        out,
+        rows,
+        cards,
+    ))
 }

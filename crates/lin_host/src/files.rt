@@ -1,21 +1,23 @@
 // The entries of files: how many boards, a board by its number, the name finder and the board cursor. (01: File; names; 02: N3)
-ghost use Rattle.std.specs.Prelude.{◌≡◌};
-ghost use Rattle.lin_spec.specs.Reading.{flag};
+ghost use Rattle.std.specs.Prelude.{◌≡◌, ℕ, List};
+ghost use Rattle.lin_spec.specs.Fresh.{fresh_board};
 ghost use Rattle.lin_spec.specs.File.{count_boards, file_heading, file_board, open_boards, visit, read_step};
-ghost use Rattle.file.specs.Numbers.{counted_of};
-ghost use Rattle.file_sections.specs.Sections.{opened_of, visit_of};
+ghost use Rattle.file_sections.specs.Sections.{standing_of, opened_of, visit_of};
 ghost use Rattle.lin_host_numbers.specs.Answers.{numbers_of};
-ghost use Rattle.lin_host_numbers.specs.Boards.{heading_numbers, Reading, reading_numbers};
-ghost use Rattle.file_reader.specs.Steps.{next_of, cursor_of};
-ghost use Rattle.lin_host.specs.Files.{FindsNumbers, standing, opened_numbers, visit_numbers, step_answer, step_visit, StepRead, read_numbers};
+ghost use Rattle.lin_host_numbers.specs.Boards.{board_numbers, heading_numbers, Reading, reading_numbers};
+ghost use Rattle.file_reader.specs.Steps.{read_of};
+ghost use Rattle.lin_host.specs.Files.{FindsNumbers, standing, opened_numbers, visit_numbers, StepRead, read_numbers};
 
-use file::{Counted, count_boards, file_board, file_heading};
+use file::{count_boards, file_board, file_heading};
 use file_finder::find_name;
-use file_reader::{NextBoard, read_board};
-use file_sections::{BoardCursor, BoardStep, OpenedBoards, open_boards};
-use lin_host_numbers::{LinAnswer, LinBoard, LinHeading, board_numbers, heading_numbers, refusal};
+use file_reader::{BoardRead, read_board};
+use file_sections::{BoardCursor, BoardStep, open_boards};
+use lin_host_numbers::{
+    LinAnswer, LinBoard, LinHeading, answer_numbers, board_numbers, heading_numbers,
+};
+use lin_spec::{Board, Refusal};
 
-// The verdict and the cursor: the place of the next part or line, the number of the next board, lines 0 or 1. An accepted call has the value 0; a refusal
+// The answer and the cursor: the place of the next part or line, the number of the next board, lines 0 or 1. An accepted call has the value 0; a refusal
 // has the cursor 0, 0, 0.
 #[repr(C)]
 #[derive(Clone, Copy)]
@@ -59,44 +61,19 @@ pub struct LinRead {
 
 // The answers as numbers.
 
-fn counted(n: Counted) -> LinAnswer
-    ensures { result ≡ numbers_of (counted_of n) }
-{
-    match n {
-        Counted::Count(n) => LinAnswer {
-            refusal: 0,
-            kind: 0,
-            value: n as u64,
-        },
-        Counted::Refused(r) => refusal(r),
-    }
-}
-
-fn flag_number(b: bool) -> u32
-    ensures { result ≡ flag b }
-{
-    if b {
-        return 1;
-    }
-    0
-}
-
-fn opened_numbers(o: OpenedBoards) -> LinBoards
+#[tactic(auto, unfolding(crate::specs::Files::opened_numbers))]
+fn opened_numbers(o: Result<BoardCursor, Refusal>) -> LinBoards
     ensures { result ≡ opened_numbers (opened_of o) }
 {
     match o {
-        OpenedBoards::At(c) => LinBoards {
-            answer: LinAnswer {
-                refusal: 0,
-                kind: 0,
-                value: 0,
-            },
+        Ok(c) => LinBoards {
+            answer: answer_numbers(Ok(0)),
             at: c.at as u64,
             number: c.number as u64,
-            lines: flag_number(c.lines),
+            lines: u32::from(c.lines),
         },
-        OpenedBoards::Refused(r) => LinBoards {
-            answer: refusal(r),
+        Err(r) => LinBoards {
+            answer: answer_numbers(Err(r)),
             at: 0,
             number: 0,
             lines: 0,
@@ -104,56 +81,80 @@ fn opened_numbers(o: OpenedBoards) -> LinBoards
     }
 }
 
+#[tactic(auto, unfolding(crate::specs::Files::visit_numbers))]
 fn section_numbers(s: BoardStep) -> LinSection
     ensures { result ≡ visit_numbers (visit_of s) }
 {
-    match s {
-        BoardStep::Found(n, p, c) => LinSection {
+    match s.found {
+        Some((n, p)) => LinSection {
             found: 1,
             number: n as u64,
             start: p.start as u64,
             stop: p.stop as u64,
-            board: flag_number(p.board),
-            next_at: c.at as u64,
-            next_number: c.number as u64,
+            board: u32::from(p.board),
+            next_at: s.cursor.at as u64,
+            next_number: s.cursor.number as u64,
         },
-        BoardStep::Ended(c) => LinSection {
+        None => LinSection {
             found: 0,
             number: 0,
             start: 0,
             stop: 0,
             board: 0,
-            next_at: c.at as u64,
-            next_number: c.number as u64,
+            next_at: s.cursor.at as u64,
+            next_number: s.cursor.number as u64,
         },
     }
 }
 
-fn next_answer(next: NextBoard) -> LinAnswer
-    ensures { result ≡ step_answer (next_of next) }
+// A step without a board.
+fn none_read(answer: LinAnswer, c: BoardCursor) -> LinRead
+    ensures { result ≡ record { answer = answer; found = 0; number = 0; start = 0; stop = 0; next_at = c.at; next_number = c.number; board = board_numbers fresh_board; calls = 0; cards = 0 } }
 {
-    match next {
-        NextBoard::Found(_, _, _) => LinAnswer {
-            refusal: 0,
-            kind: 0,
-            value: 0,
-        },
-        NextBoard::Ended(_) => LinAnswer {
-            refusal: 0,
-            kind: 0,
-            value: 0,
-        },
-        NextBoard::Refused(r, _) => refusal(r),
+    LinRead {
+        answer,
+        found: 0,
+        number: 0,
+        start: 0,
+        stop: 0,
+        next_at: c.at as u64,
+        next_number: c.number as u64,
+        board: board_numbers(Board::new()),
+        calls: 0,
+        cards: 0,
     }
 }
 
-fn next_step(next: NextBoard) -> BoardStep
-    ensures { visit_of result ≡ step_visit (next_of next) (cursor_of next) }
+#[tactic(auto, unfolding(crate::specs::Files::read_numbers, crate::specs::Files::visit_numbers))]
+fn read_numbers(r: BoardRead) -> LinRead
+    ensures { (rows cards : List ℕ) → result ≡ (read_numbers (read_of r rows cards)).read }
 {
-    match next {
-        NextBoard::Found(n, p, d) => BoardStep::Found(n, p, d),
-        NextBoard::Ended(c) => BoardStep::Ended(c),
-        NextBoard::Refused(_, c) => BoardStep::Ended(c),
+    match r.board {
+        Ok(Some(b)) => LinRead {
+            answer: answer_numbers(Ok(0)),
+            found: 1,
+            number: b.number as u64,
+            start: b.section.start as u64,
+            stop: b.section.stop as u64,
+            next_at: r.cursor.at as u64,
+            next_number: r.cursor.number as u64,
+            board: board_numbers(b.heading.board),
+            calls: b.heading.calls as u64,
+            cards: b.heading.cards as u64,
+        },
+        Ok(None) => none_read(answer_numbers(Ok(0)), r.cursor),
+        Err(e) => none_read(answer_numbers(Err(e)), r.cursor),
+    }
+}
+
+// A cursor of any numbers; lines other than 0 counts as 1.
+fn standing(at: u64, number: u64, lines: u32) -> BoardCursor
+    ensures { standing_of result ≡ standing at number lines }
+{
+    BoardCursor {
+        at: at as usize,
+        number: number as usize,
+        lines: lines != 0,
     }
 }
 
@@ -162,7 +163,7 @@ fn next_step(next: NextBoard) -> BoardStep
 pub fn lin_count_boards(text: &[u8]) -> LinAnswer
     ensures { result ≡ numbers_of (count_boards text.now) }
 {
-    counted(count_boards(text))
+    answer_numbers(count_boards(text))
 }
 
 pub fn lin_file_heading(text: &[u8], number: u64) -> LinHeading
@@ -182,7 +183,7 @@ pub fn lin_file_board(text: &[u8], number: u64, rows: &mut [u32], cards: &mut [u
 pub fn lin_find_name(text: &[u8], name: &[u8], work: &mut [u32]) -> LinAnswer
     ensures { FindsNumbers text.now name.now work.old result work.new }
 {
-    counted(find_name(text, name, work))
+    answer_numbers(find_name(text, name, work))
 }
 
 pub fn lin_open_boards(text: &[u8]) -> LinBoards
@@ -195,12 +196,7 @@ pub fn lin_open_boards(text: &[u8]) -> LinBoards
 pub fn lin_next_board(text: &[u8], at: u64, number: u64, lines: u32) -> LinSection
     ensures { result ≡ visit_numbers (visit text.now (standing at number lines)) }
 {
-    let cursor = BoardCursor {
-        at: at as usize,
-        number: number as usize,
-        lines: lines != 0,
-    };
-    section_numbers(cursor.next(text))
+    section_numbers(standing(at, number, lines).next(text))
 }
 
 // The next board from a cursor of any numbers, read; parts or lines that are none are passed. Rows and cards are as for lin_parse_lin. 1, 2 and 3 refuse
@@ -215,25 +211,5 @@ pub fn lin_read_board(
 ) -> LinRead
     ensures { ◌≡◌ {A = StepRead} (record { read = result; rows = rows.new; cards = cards.new }) (read_numbers (read_step text.now (standing at number lines) rows.old cards.old)) }
 {
-    let cursor = BoardCursor {
-        at: at as usize,
-        number: number as usize,
-        lines: lines != 0,
-    };
-    let read = read_board(text, cursor, rows, cards);
-    let next = read.next;
-    let board = read.board;
-    let v = section_numbers(next_step(next));
-    LinRead {
-        answer: next_answer(next),
-        found: v.found,
-        number: v.number,
-        start: v.start,
-        stop: v.stop,
-        next_at: v.next_at,
-        next_number: v.next_number,
-        board: board_numbers(board),
-        calls: read.calls as u64,
-        cards: read.cards as u64,
-    }
+    read_numbers(read_board(text, standing(at, number, lines), rows, cards))
 }

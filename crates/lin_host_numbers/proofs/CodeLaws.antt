@@ -1,5 +1,6 @@
 -- Boards as numbers, there and back; and what a code outside its range leaves of a call. (01: Records; Eight refusals, 8)
 -- Assumes nothing.
+use Rattle.std.specs.Prelude.{Option, None, Some}
 use Prim.Native.Nat.{ℕ, ◌≤◌}
 use native.Mathlib.Omega.{arith}
 use mathlib.Core.Path.{◌≡◌, refl}
@@ -11,19 +12,14 @@ use borrow.Author.Tests.{le-ltb}
 use Rattle.lin_spec.specs.Records.{span}
 use Rattle.lin_spec.specs.Letters.{seat_number}
 use Rattle.lin_spec.specs.declared.Span.{Span}
-use Rattle.lin_spec.specs.declared.MaybeSpan.{MaybeSpan}
-use Rattle.lin_spec.specs.declared.MaybeSpan.TheVariants.{Absent, Present}
-use Rattle.lin_spec.specs.declared.MaybeClaim.{MaybeClaim}
-use Rattle.lin_spec.specs.declared.MaybeClaim.TheVariants.{Absent as NoClaim, Claimed}
 use Rattle.lin_spec.specs.declared.Seat.{Seat}
 use Rattle.lin_spec.specs.declared.Seat.TheVariants.{South, West, North, East}
 use Rattle.lin_spec.specs.declared.Vulnerability.{Vulnerability}
-use Rattle.lin_spec.specs.declared.Vulnerability.TheVariants.{None, NorthSouth, EastWest, Both}
+use Rattle.lin_spec.specs.declared.Vulnerability.TheVariants.{NorthSouth, EastWest, Both}
 use Rattle.lin_spec.specs.declared.Board.{Board}
 use Rattle.lin_host_numbers.specs.Boards.{vulnerability_number, place_numbers, text_numbers, claim_flag, claim_number, board_numbers}
 use Rattle.lin_host_numbers.specs.Codes.{vulnerability_of, word_spans, text_of, coded_claim, coded_board, bad_given, bad_codes}
 use Rattle.lin_spec.specs.Board.{Present as Holds}
-use Rattle.lin_spec.specs.Lent.{claim_of as claim_in}
 use Rattle.lin_spec.proofs.Seats.{seat_back}
 
 -- the spans of eight words
@@ -45,7 +41,7 @@ eight (a ∷ b ∷ c ∷ d ∷ e ∷ f ∷ g ∷ i ∷ x ∷ ws) h = absurd (ome
 -- There and back: a board that a reading gives can be lent again
 
 vulnerability_back : (v : Vulnerability) → vulnerability_of (vulnerability_number v) ≡ v
-vulnerability_back None = refl
+vulnerability_back Vulnerability.None = refl
 vulnerability_back NorthSouth = refl
 vulnerability_back EastWest = refl
 vulnerability_back Both = refl
@@ -55,15 +51,15 @@ unfolding word_spans place_numbers
 spans_back [] = refl
 spans_back (x ∷ xs) = rw (spans_back xs)
 
-text_back : (x : MaybeSpan) → text_of (text_numbers x) ≡ x
-text_back Absent = refl
-text_back (Present x) = refl
+text_back : (x : Option Span) → text_of (text_numbers x) ≡ x
+text_back None = refl
+text_back (Some x) = refl
 
-claim_back : (c : MaybeClaim) → Holds (λ (n : ℕ). n ≤ 255) (claim_in c) → coded_claim (claim_flag c) (claim_number c) ≡ c
-claim_back NoClaim h = refl
-claim_back (Claimed n) h = simp (le-ltb 255 n h)
+claim_back : (c : Option ℕ) → Holds (λ (n : ℕ). n ≤ 255) c → coded_claim (claim_flag c) (claim_number c) ≡ c
+claim_back None h = refl
+claim_back (Some n) h = simp (le-ltb 255 n h)
 
-pub board_back : (b : Board) → Holds (λ (n : ℕ). n ≤ 255) (claim_in b.claim) → coded_board (board_numbers b) ≡ b
+pub board_back : (b : Board) → Holds (λ (n : ℕ). n ≤ 255) b.claim → coded_board (board_numbers b) ≡ b
 unfolding coded_board board_numbers
 board_back b h =
     rw (spans_back b.names, seat_back b.dealer, vulnerability_back b.vulnerability, text_back b.title, text_back b.room_board, text_back b.board_header, claim_back b.claim h)
@@ -75,20 +71,20 @@ seat_good North = refl
 seat_good East = refl
 
 vulnerability_good : (v : Vulnerability) → ltb 3 (vulnerability_number v) ≡ false
-vulnerability_good None = refl
+vulnerability_good Vulnerability.None = refl
 vulnerability_good NorthSouth = refl
 vulnerability_good EastWest = refl
 vulnerability_good Both = refl
 
-text_good : (x : MaybeSpan) → ltb 1 (text_numbers x).present ≡ false
-text_good Absent = refl
-text_good (Present x) = refl
+text_good : (x : Option Span) → ltb 1 (text_numbers x).present ≡ false
+text_good None = refl
+text_good (Some x) = refl
 
-claim_good : (c : MaybeClaim) → Holds (λ (n : ℕ). n ≤ 255) (claim_in c) → bad_given (claim_flag c) (claim_number c) 255 ≡ false
-claim_good NoClaim h = refl
-claim_good (Claimed n) h = simp (le-ltb 255 n h)
+claim_good : (c : Option ℕ) → Holds (λ (n : ℕ). n ≤ 255) c → bad_given (claim_flag c) (claim_number c) 255 ≡ false
+claim_good None h = refl
+claim_good (Some n) h = simp (le-ltb 255 n h)
 
-pub codes_good : (b : Board) → Holds (λ (n : ℕ). n ≤ 255) (claim_in b.claim) → bad_codes (board_numbers b) ≡ false
+pub codes_good : (b : Board) → Holds (λ (n : ℕ). n ≤ 255) b.claim → bad_codes (board_numbers b) ≡ false
 unfolding bad_codes board_numbers
 codes_good b h =
     rw (seat_good b.dealer, vulnerability_good b.vulnerability, text_good b.title, text_good b.room_board, text_good b.board_header, claim_good b.claim h)

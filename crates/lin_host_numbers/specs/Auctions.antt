@@ -1,7 +1,6 @@
 -- What the check of an auction answers, as numbers. (02: N1, "The result is lawful and ended, lawful and open, or the index of the first unlawful call")
-use Rattle.std.specs.Prelude.{ℕ}
+use Rattle.std.specs.Prelude.{ℕ, Err, Ok}
 use Rattle.lin_spec.specs.Refusals.{Answer}
-use Rattle.lin_spec.specs.Refusals.Answer.{refused, accepted}
 use Rattle.lin_spec.specs.Letters.{seat_number}
 use Rattle.bridge_auction.specs.Auction.{strain_number, doubling_number}
 use Rattle.bridge_auction.specs.declared.calls.Contract.{Contract}
@@ -18,7 +17,7 @@ without_contract a n = record { answer = a; outcome = n; level = 0; strain = 0; 
 abbrev pub contract_numbers : Contract → LinAuction
 contract_numbers c =
     record {
-      answer = numbers_of (accepted 0);
+      answer = numbers_of (Ok 0);
       outcome = 2;
       level = c.level;
       strain = strain_number c.strain;
@@ -28,12 +27,12 @@ contract_numbers c =
 
 -- the four results: 1 ended without a bid, 2 ended with a contract, 3 open, 4 unlawful, with the index as the value
 abbrev pub result_numbers : Auction → LinAuction
-result_numbers PassedOut = without_contract (numbers_of (accepted 0)) 1
+result_numbers PassedOut = without_contract (numbers_of (Ok 0)) 1
 result_numbers (Ended c) = contract_numbers c
-result_numbers Open = without_contract (numbers_of (accepted 0)) 3
-result_numbers (Unlawful i) = without_contract (numbers_of (accepted i)) 4
+result_numbers Open = without_contract (numbers_of (Ok 0)) 3
+result_numbers (Unlawful i) = without_contract (numbers_of (Ok i)) 4
 
 -- or the refusal
 abbrev pub auction_numbers : Answer Auction → LinAuction
-auction_numbers (accepted a) = result_numbers a
-auction_numbers (refused r) = without_contract (numbers_of (refused r)) 0
+auction_numbers (Ok a) = result_numbers a
+auction_numbers (Err r) = without_contract (numbers_of (Err r)) 0

@@ -1,27 +1,21 @@
 -- A board without its rows, and a heading, as numbers. (01: Records; Board)
-use Rattle.std.specs.Prelude.{ℕ, List, [], ◌∷◌}
+use Rattle.std.specs.Prelude.{ℕ, List, [], ◌∷◌, Option, None, Some, Err, Ok}
+use Rattle.lin_spec.specs.Refusals.{Answer}
+use Rattle.lin_spec.specs.Fresh.{fresh_board}
 use Rattle.lin_spec.specs.Letters.{seat_number}
-use Rattle.lin_spec.specs.Refusals.Answer.{refused}
 use Rattle.lin_spec.specs.Reading.{Reading as BoardReading}
 use Rattle.lin_spec.specs.declared.Span.{Span}
-use Rattle.lin_spec.specs.declared.MaybeSpan.{MaybeSpan}
-use Rattle.lin_spec.specs.declared.MaybeSpan.TheVariants.{Absent, Present}
-use Rattle.lin_spec.specs.declared.MaybeClaim.{MaybeClaim}
-use Rattle.lin_spec.specs.declared.MaybeClaim.TheVariants.{Absent as NoClaim, Claimed}
 use Rattle.lin_spec.specs.declared.Vulnerability.{Vulnerability}
-use Rattle.lin_spec.specs.declared.Vulnerability.TheVariants.{None, NorthSouth, EastWest, Both}
-use Rattle.lin_spec.specs.declared.Verdict.{Verdict}
-use Rattle.lin_spec.specs.declared.Verdict.TheVariants.{Accepted, Refused}
+use Rattle.lin_spec.specs.declared.Vulnerability.TheVariants.{NorthSouth, EastWest, Both}
 use Rattle.lin_spec.specs.declared.Board.{Board}
 use Rattle.lin_spec.specs.declared.Heading.{Heading}
 use Rattle.lin_host_numbers.specs.Answers.{numbers_of}
-use Rattle.lin_host_numbers.specs.declared.answers.LinAnswer.{LinAnswer}
 use Rattle.lin_host_numbers.specs.declared.boards.LinText.{LinText}
 use Rattle.lin_host_numbers.specs.declared.boards.LinBoard.{LinBoard}
 use Rattle.lin_host_numbers.specs.declared.boards.LinHeading.{LinHeading}
 
 abbrev pub vulnerability_number : Vulnerability → ℕ
-vulnerability_number None = 0
+vulnerability_number Vulnerability.None = 0
 vulnerability_number NorthSouth = 1
 vulnerability_number EastWest = 2
 vulnerability_number Both = 3
@@ -32,18 +26,18 @@ place_numbers [] = []
 place_numbers (x ∷ xs) = x.start ∷ x.len ∷ place_numbers xs
 
 -- "a span or absent": absent is 0, 0, 0
-abbrev pub text_numbers : MaybeSpan → LinText
-text_numbers Absent = record { present = 0; start = 0; len = 0 }
-text_numbers (Present x) = record { present = 1; start = x.start; len = x.len }
+abbrev pub text_numbers : Option Span → LinText
+text_numbers None = record { present = 0; start = 0; len = 0 }
+text_numbers (Some x) = record { present = 1; start = x.start; len = x.len }
 
 -- "claim 0 to 255 or absent": absent is 0, 0
-abbrev pub claim_flag : MaybeClaim → ℕ
-claim_flag NoClaim = 0
-claim_flag (Claimed n) = 1
+abbrev pub claim_flag : Option ℕ → ℕ
+claim_flag None = 0
+claim_flag (Some n) = 1
 
-abbrev pub claim_number : MaybeClaim → ℕ
-claim_number NoClaim = 0
-claim_number (Claimed n) = n
+abbrev pub claim_number : Option ℕ → ℕ
+claim_number None = 0
+claim_number (Some n) = n
 
 -- a board without its rows
 unfoldable pub board_numbers : Board → LinBoard
@@ -60,14 +54,10 @@ board_numbers b =
       counts = b.deal.counts;
     }
 
--- 0, 0, 0 where nothing is refused
-abbrev pub verdict_numbers : Verdict → LinAnswer
-verdict_numbers Accepted = record { refusal = 0; kind = 0; value = 0 }
-verdict_numbers (Refused r) = numbers_of (refused r)
-
--- "everything but rows, with the numbers of calls and cards"
-unfoldable pub heading_numbers : Heading → LinHeading
-heading_numbers h = record { answer = verdict_numbers h.verdict; calls = h.calls; cards = h.cards; board = board_numbers h.board }
+-- "everything but rows, with the numbers of calls and cards"; a refusal has a fresh board, and none
+unfoldable pub heading_numbers : Answer Heading → LinHeading
+heading_numbers (Ok h) = record { answer = numbers_of (Ok 0); calls = h.calls; cards = h.cards; board = board_numbers h.board }
+heading_numbers (Err r) = record { answer = numbers_of (Err r); calls = 0; cards = 0; board = board_numbers fresh_board }
 
 -- a heading, and the rows and cards afterwards
 pub record Reading : Type 0 where

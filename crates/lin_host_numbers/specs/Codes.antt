@@ -1,15 +1,11 @@
 -- A board that is lent as numbers: the board that they are, and whether a code is outside its range. (01: Records; Eight refusals, 8)
-use Rattle.std.specs.Prelude.{ℕ, Bool, ◌&&◌, ◌||◌, List, [], ◌∷◌, eqb, ltb}
+use Rattle.std.specs.Prelude.{ℕ, Bool, ◌&&◌, ◌||◌, List, [], ◌∷◌, eqb, ltb, Option, None, Some}
 use Rattle.lin_spec.specs.Base.{pick}
 use Rattle.lin_spec.specs.Records.{span}
 use Rattle.lin_spec.specs.Letters.{seat_at}
 use Rattle.lin_spec.specs.declared.Span.{Span}
-use Rattle.lin_spec.specs.declared.MaybeSpan.{MaybeSpan}
-use Rattle.lin_spec.specs.declared.MaybeSpan.TheVariants.{Absent, Present}
-use Rattle.lin_spec.specs.declared.MaybeClaim.{MaybeClaim}
-use Rattle.lin_spec.specs.declared.MaybeClaim.TheVariants.{Absent as NoClaim, Claimed}
 use Rattle.lin_spec.specs.declared.Vulnerability.{Vulnerability}
-use Rattle.lin_spec.specs.declared.Vulnerability.TheVariants.{None, NorthSouth, EastWest, Both}
+use Rattle.lin_spec.specs.declared.Vulnerability.TheVariants.{NorthSouth, EastWest, Both}
 use Rattle.lin_spec.specs.declared.Board.{Board}
 use Rattle.lin_host_numbers.specs.declared.boards.LinText.{LinText}
 use Rattle.lin_host_numbers.specs.declared.boards.LinBoard.{LinBoard}
@@ -17,7 +13,7 @@ use Rattle.lin_host_numbers.specs.declared.boards.LinBoard.{LinBoard}
 -- The board. A code outside its range, with which the call is refused, counts as the last seat, as both sides, as a text that is there, or as no claim.
 
 abbrev pub vulnerability_of : ℕ → Vulnerability
-vulnerability_of n = pick (eqb n 0) None (pick (eqb n 1) NorthSouth (pick (eqb n 2) EastWest Both))
+vulnerability_of n = pick (eqb n 0) Vulnerability.None (pick (eqb n 1) NorthSouth (pick (eqb n 2) EastWest Both))
 
 -- a start and a length are a span
 unfoldable pub word_spans : List ℕ → List Span
@@ -26,12 +22,12 @@ word_spans (a ∷ []) = []
 word_spans (a ∷ n ∷ ws) = span a n ∷ word_spans ws
 
 -- the place of an absent text is not looked at
-abbrev pub text_of : LinText → MaybeSpan
-text_of x = pick (eqb x.present 0) Absent (Present (span x.start x.len))
+abbrev pub text_of : LinText → Option Span
+text_of x = pick (eqb x.present 0) None (Some (span x.start x.len))
 
 -- nor is an absent claim
-abbrev pub coded_claim : (claimed claim : ℕ) → MaybeClaim
-coded_claim t n = pick (eqb t 0) NoClaim (pick (ltb 255 n) NoClaim (Claimed n))
+abbrev pub coded_claim : (claimed claim : ℕ) → Option ℕ
+coded_claim t n = pick (eqb t 0) None (pick (ltb 255 n) None (Some n))
 
 unfoldable pub coded_board : LinBoard → Board
 coded_board b =

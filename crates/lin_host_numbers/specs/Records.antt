@@ -1,27 +1,22 @@
 -- A PBN record that is lent as numbers: the record that they are, and whether a code is outside its range. (01: From PBN; Eight refusals, 8)
-use Rattle.std.specs.Prelude.{ℕ, Bool, ◌||◌, ℤ, eqb, ltb}
+use Rattle.lin_spec.specs.declared.Seat.{Seat}
+use Rattle.std.specs.Prelude.{ℕ, Bool, ◌||◌, ℤ, eqb, ltb, Option, None, Some}
 use Rattle.lin_spec.specs.Base.{pick}
 use Rattle.lin_spec.specs.Letters.{seat_at}
-use Rattle.lin_spec.specs.declared.MaybeNumber.{MaybeNumber}
-use Rattle.lin_spec.specs.declared.MaybeNumber.TheVariants.{Absent as NoNumber, Number}
-use Rattle.lin_spec.specs.declared.MaybeSeat.{MaybeSeat}
-use Rattle.lin_spec.specs.declared.MaybeSeat.TheVariants.{Absent as NoSeat, Given}
-use Rattle.lin_spec.specs.declared.MaybeResult.{MaybeResult}
-use Rattle.lin_spec.specs.declared.MaybeResult.TheVariants.{Absent as NoResult, Tricks}
 use Rattle.lin_spec.specs.declared.PbnBoard.{PbnBoard}
 use Rattle.lin_host_numbers.specs.Codes.{vulnerability_of, text_of, bad_three, bad_given}
 use Rattle.lin_host_numbers.specs.declared.records.LinPbn.{LinPbn}
 
 -- The record. A code outside its range, with which the call is refused, counts as the last seat, as both sides, or as given.
 
-abbrev pub board_number_of : (given number : ℕ) → MaybeNumber
-board_number_of t n = pick (eqb t 0) NoNumber (Number n)
+abbrev pub board_number_of : (given number : ℕ) → Option ℕ
+board_number_of t n = pick (eqb t 0) None (Some n)
 
-abbrev pub coded_dealer : (given dealer : ℕ) → MaybeSeat
-coded_dealer t n = pick (eqb t 0) NoSeat (Given (seat_at n))
+abbrev pub coded_dealer : (given dealer : ℕ) → Option Seat
+coded_dealer t n = pick (eqb t 0) None (Some (seat_at n))
 
-abbrev pub result_of : (given : ℕ) (result : ℤ) → MaybeResult
-result_of t n = pick (eqb t 0) NoResult (Tricks n)
+abbrev pub result_of : (given : ℕ) (result : ℤ) → Option ℤ
+result_of t n = pick (eqb t 0) None (Some n)
 
 unfoldable pub record_of : LinPbn → PbnBoard
 record_of b =

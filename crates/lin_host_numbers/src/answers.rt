@@ -1,10 +1,8 @@
 // What an entry answers, as numbers: the answer with its value, or the refusal. (01: Eight refusals, "No." and "With it"; 02: N1)
 ghost use Rattle.std.specs.Prelude.{◌≡◌};
-ghost use Rattle.lin_spec.specs.Refusals.Answer.{refused, accepted};
-ghost use Rattle.lin_spec.specs.Output.{answer_of};
 ghost use Rattle.lin_host_numbers.specs.Answers.{numbers_of};
 
-use lin_spec::{Refusal, Written};
+use lin_spec::Refusal;
 
 // refusal 0: accepted, with a place, a length or an index as the value. Else the number of 01 or 02, with what it carries; kind 0 for calls, 1 for cards.
 #[repr(C)]
@@ -15,32 +13,20 @@ pub struct LinAnswer {
     pub value: u64,
 }
 
-pub fn refusal(r: Refusal) -> LinAnswer
-    ensures { result ≡ numbers_of (refused r) }
+// The numbers of an answer with its value, or of a refusal.
+pub fn answer_numbers(a: Result<usize, Refusal>) -> LinAnswer
+    ensures { result ≡ numbers_of a }
 {
-    LinAnswer {
-        refusal: r.number(),
-        kind: r.kind(),
-        value: r.carried(),
-    }
-}
-
-// An answer that is no refusal, with its value.
-pub(crate) fn answered(value: u64) -> LinAnswer
-    ensures { result ≡ numbers_of (accepted value) }
-{
-    LinAnswer {
-        refusal: 0,
-        kind: 0,
-        value,
-    }
-}
-
-pub fn written(w: Written) -> LinAnswer
-    ensures { result ≡ numbers_of (answer_of w) }
-{
-    match w {
-        Written::Length(n) => answered(n as u64),
-        Written::Refused(r) => refusal(r),
+    match a {
+        Ok(value) => LinAnswer {
+            refusal: 0,
+            kind: 0,
+            value: value as u64,
+        },
+        Err(r) => LinAnswer {
+            refusal: r.number(),
+            kind: r.kind(),
+            value: r.carried(),
+        },
     }
 }

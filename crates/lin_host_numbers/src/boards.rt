@@ -1,9 +1,9 @@
 // The entries of boards: the heading that a text gives, and its board with rows and cards. (01: Board, `parse_lin`)
 ghost use Rattle.std.specs.Prelude.{◌≡◌};
-ghost use Rattle.lin_host_numbers.specs.Boards.{vulnerability_number, place_numbers, text_numbers, claim_number, claim_flag, board_numbers, verdict_numbers, heading_numbers};
+ghost use Rattle.lin_host_numbers.specs.Boards.{vulnerability_number, place_numbers, text_numbers, board_numbers, heading_numbers};
 
-use crate::answers::{LinAnswer, refusal};
-use lin_spec::{Board, Heading, MaybeClaim, MaybeSpan, Span, Verdict, Vulnerability};
+use crate::answers::{LinAnswer, answer_numbers};
+use lin_spec::{Board, Heading, Refusal, Span, Vulnerability};
 
 // A text or its absence, which is 0, 0, 0. present is 0 or 1.
 #[repr(C)]
@@ -34,7 +34,7 @@ pub struct LinBoard {
     pub counts: [u32; 208],
 }
 
-// The verdict, how many calls and cards the board has, and the board. An accepted call has the value 0; a refusal has a fresh board, and none.
+// The answer, how many calls and cards the board has, and the board. An accepted call has the value 0; a refusal has a fresh board, and none.
 #[repr(C)]
 #[derive(Clone, Copy)]
 pub struct LinHeading {
@@ -61,98 +61,56 @@ fn vulnerability_number(v: Vulnerability) -> u32
 fn place_numbers(names: [Span; 4]) -> [u32; 8]
     ensures { result ≡ place_numbers names }
 {
-    let s = names[0];
-    let w = names[1];
-    let n = names[2];
-    let e = names[3];
+    let [s, w, n, e] = names;
     [
         s.start, s.len, w.start, w.len, n.start, n.len, e.start, e.len,
     ]
 }
 
-fn text_numbers(x: MaybeSpan) -> LinText
+fn text_numbers(x: Option<Span>) -> LinText
     ensures { result ≡ text_numbers x }
 {
-    match x {
-        MaybeSpan::Absent => LinText {
-            present: 0,
-            start: 0,
-            len: 0,
-        },
-        MaybeSpan::Present(s) => LinText {
-            present: 1,
-            start: s.start,
-            len: s.len,
-        },
+    let place = x.unwrap_or(Span { start: 0, len: 0 });
+    LinText {
+        present: u32::from(x.is_some()),
+        start: place.start,
+        len: place.len,
     }
 }
 
-fn claim_flag(c: MaybeClaim) -> u32
-    ensures { result ≡ claim_flag c }
-{
-    match c {
-        MaybeClaim::Absent => 0,
-        MaybeClaim::Claimed(_) => 1,
-    }
-}
-
-fn claim_number(c: MaybeClaim) -> u32
-    ensures { result ≡ claim_number c }
-{
-    match c {
-        MaybeClaim::Absent => 0,
-        MaybeClaim::Claimed(n) => n as u32,
-    }
-}
-
-fn verdict_numbers(v: Verdict) -> LinAnswer
-    ensures { result ≡ verdict_numbers v }
-{
-    match v {
-        Verdict::Accepted => LinAnswer {
-            refusal: 0,
-            kind: 0,
-            value: 0,
-        },
-        Verdict::Refused(r) => refusal(r),
-    }
-}
-
+#[tactic(auto, unfolding(crate::specs::Boards::board_numbers))]
 pub fn board_numbers(b: Board) -> LinBoard
     ensures { result ≡ board_numbers b }
 {
-    let names = b.names;
-    let dealer = b.dealer;
-    let deal = b.deal;
-    let vulnerability = b.vulnerability;
-    let title = b.title;
-    let room_board = b.room_board;
-    let board_header = b.board_header;
-    let claim = b.claim;
-    let counts = deal.counts;
-    let names = place_numbers(names);
     LinBoard {
-        names,
-        dealer: dealer.number() as u32,
-        vulnerability: vulnerability_number(vulnerability),
-        title: text_numbers(title),
-        room_board: text_numbers(room_board),
-        board_header: text_numbers(board_header),
-        claimed: claim_flag(claim),
-        claim: claim_number(claim),
-        counts,
+        names: place_numbers(b.names),
+        dealer: b.dealer.number() as u32,
+        vulnerability: vulnerability_number(b.vulnerability),
+        title: text_numbers(b.title),
+        room_board: text_numbers(b.room_board),
+        board_header: text_numbers(b.board_header),
+        claimed: u32::from(b.claim.is_some()),
+        claim: b.claim.map_or(0, u32::from),
+        counts: b.deal.counts,
     }
 }
 
-pub fn heading_numbers(h: Heading) -> LinHeading
+#[tactic(auto, unfolding(crate::specs::Boards::heading_numbers))]
+pub fn heading_numbers(h: Result<Heading, Refusal>) -> LinHeading
     ensures { result ≡ heading_numbers h }
 {
-    let verdict = h.verdict;
-    let board = h.board;
-    LinHeading {
-        answer: verdict_numbers(verdict),
-        calls: h.calls as u64,
-        cards: h.cards as u64,
-        board: board_numbers(board),
+    match h {
+        Ok(h) => LinHeading {
+            answer: answer_numbers(Ok(0)),
+            calls: h.calls as u64,
+            cards: h.cards as u64,
+            board: board_numbers(h.board),
+        },
+        Err(r) => LinHeading {
+            answer: answer_numbers(Err(r)),
+            calls: 0,
+            cards: 0,
+            board: board_numbers(Board::new()),
+        },
     }
 }

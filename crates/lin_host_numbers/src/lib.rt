@@ -8,7 +8,7 @@ mod boards;
 mod codes;
 mod records;
 
-pub use answers::{LinAnswer, refusal, written};
+pub use answers::{LinAnswer, answer_numbers};
 pub use auctions::{LinAuction, auction_numbers};
 pub use boards::{LinBoard, LinHeading, LinText, board_numbers, heading_numbers};
 pub use codes::{bad_codes, coded_head};

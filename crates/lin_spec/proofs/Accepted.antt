@@ -1,25 +1,24 @@
 -- A call that no refusal meets has a board that reads back: its cards are cards and its texts are UTF-8. And what a reader gives, lent again, means the
 -- board that was read. (01: Eight refusals; Writer; Board)
 -- Assumes nothing.
+use Rattle.std.specs.Prelude.{Option, None, Some, Err, Ok}
 use Prim.Native.Nat.{ℕ, suc, ◌+◌, ◌*◌, ◌<◌}
 use native.Mathlib.Omega.{arith}
 use mathlib.Core.Path.{◌≡◌, refl, ap, sym, ◌∙◌}
 use mathlib.Core.Bool.{Bool, true, false, not, false≢true}
 use mathlib.Core.List.{List, [], ◌∷◌, ◌++◌, map}
-use mathlib.Core.Option.{Option, none, some}
 use lib.ListN.{length, length-map}
 use lib.Dec.{ltb}
 use borrow.Author.Tests.{ltb-false, le-ltb}
 use Rattle.lin_spec.specs.Base.{All, any}
-use Rattle.lin_spec.specs.Records.{bytes_at, option_of}
+use Rattle.lin_spec.specs.Records.{bytes_at}
 use Rattle.lin_spec.specs.Refusals.{Answer, refuse_if, unless, ill_span, too_small, sat}
-use Rattle.lin_spec.specs.Refusals.Answer.{refused, accepted}
 use Rattle.lin_spec.specs.Output.{Outcome, room, output_after, fill}
 use Rattle.lin_spec.specs.Utf8.{utf8}
 use Rattle.lin_spec.specs.Board.{CallOf, BoardOf, map_option, map_call, map_board, Present, EachText}
-use Rattle.lin_spec.specs.Reading.{maybe_of, claimed_of, heading_of, flag, annotation_words, call_words}
+use Rattle.lin_spec.specs.Reading.{heading_of, flag, annotation_words, call_words}
 use Rattle.lin_spec.specs.Append.{plain, written_form, extended, appended, write_lin}
-use Rattle.lin_spec.specs.Lent.{Lent, lent_checks, lent, call_rows, rows_of, call_in, claim_of, lent_board, meaning, span_in, call_spans, lent_spans, bad_cards, bad_number}
+use Rattle.lin_spec.specs.Lent.{Lent, lent_checks, lent, call_rows, rows_of, call_in, lent_board, meaning, span_in, call_spans, lent_spans, bad_cards, bad_number}
 use Rattle.lin_spec.specs.declared.Span.{Span}
 use Rattle.lin_spec.specs.declared.Refusal.{Refusal}
 use Rattle.lin_spec.specs.declared.Refusal.TheVariants.{OutputTooSmall}
@@ -89,8 +88,8 @@ module _ (s : List ℕ) where
   well-names (x ∷ xs) h = (well-utf8 x h.0, well-names xs h.1)
 
   well_option : (o : Option Span) → All Well (span_in o) → Present Utf8 (map_option (bytes_at s) o)
-  well_option none h = tt
-  well_option (some x) h = well-utf8 x h.0
+  well_option None h = tt
+  well_option (Some x) h = well-utf8 x h.0
 
   well-calls : (cs : List (CallOf Span)) → All Well (call_spans cs)
       → All (λ (c : CallOf (List ℕ)). Utf8 c.bid × Present Utf8 c.annotation) (map (map_call (bytes_at s)) cs)
@@ -128,10 +127,10 @@ rows_back (c ∷ cs) = go c.alerted c.annotation (rows_back cs)
   where
     go : (t : Bool) (o : Option Span) → map call_in (call_rows (call_words cs)) ≡ cs
         → map call_in (call_rows (c.bid.start ∷ c.bid.len ∷ flag t ∷ (annotation_words o ++ call_words cs))) ≡ record { bid = c.bid; alerted = t; annotation = o } ∷ cs
-    go true none e = ap (λ (r : List (CallOf Span)). record { bid = c.bid; alerted = true; annotation = none } ∷ r) e
-    go true (some x) e = ap (λ (r : List (CallOf Span)). record { bid = c.bid; alerted = true; annotation = some x } ∷ r) e
-    go false none e = ap (λ (r : List (CallOf Span)). record { bid = c.bid; alerted = false; annotation = none } ∷ r) e
-    go false (some x) e = ap (λ (r : List (CallOf Span)). record { bid = c.bid; alerted = false; annotation = some x } ∷ r) e
+    go true None e = ap (λ (r : List (CallOf Span)). record { bid = c.bid; alerted = true; annotation = None } ∷ r) e
+    go true (Some x) e = ap (λ (r : List (CallOf Span)). record { bid = c.bid; alerted = true; annotation = Some x } ∷ r) e
+    go false None e = ap (λ (r : List (CallOf Span)). record { bid = c.bid; alerted = false; annotation = None } ∷ r) e
+    go false (Some x) e = ap (λ (r : List (CallOf Span)). record { bid = c.bid; alerted = false; annotation = Some x } ∷ r) e
 
 pub words-length : (cs : List (CallOf Span)) → length (call_words cs) ≡ length cs * 6
 unfolding call_words
@@ -139,16 +138,16 @@ words-length [] = refl
 words-length (c ∷ cs) = go c.annotation (words-length cs)
   where
     go : (o : Option Span) → length (call_words cs) ≡ length cs * 6 → suc (suc (suc (length (annotation_words o ++ call_words cs)))) ≡ suc (length cs) * 6
-    go none e = omega arith
-    go (some x) e = omega arith
+    go None e = omega arith
+    go (Some x) e = omega arith
 
-option_back : (o : Option Span) → option_of (maybe_of o) ≡ o
-option_back none = refl
-option_back (some x) = refl
+option_back : (o : Option Span) → o ≡ o
+option_back None = refl
+option_back (Some x) = refl
 
-claim_back : (o : Option ℕ) → claim_of (claimed_of o) ≡ o
-claim_back none = refl
-claim_back (some n) = refl
+claim_back : (o : Option ℕ) → o ≡ o
+claim_back None = refl
+claim_back (Some n) = refl
 
 pub lent_back : (t : List ℕ) (b : BoardOf Span) → lent_board (lent t (heading_of b).board (call_words b.calls) b.play) ≡ b
 unfolding lent_board
@@ -167,5 +166,5 @@ write_fills x o =
     go (unless (checks (ltb (room o) 0) (0 + length s)) (0 + length s)) ∙ ap (λ (t : Bool). outcome (unless (checks t (0 + length s)) (0 + length s))) n ∙ ap (λ (k : ℕ). outcome (unless (checks false k) k)) z
   where
     go : (a : Answer ℕ) → ◌≡◌ {A = Outcome} (record { answer = a; output = extended a o 0 (written_form (plain x)) }) (record { answer = a; output = output_after a o (written_form (plain x)) })
-    go (refused r) = refl
-    go (accepted n) = refl
+    go (Err r) = refl
+    go (Ok n) = refl

@@ -1,11 +1,11 @@
 -- The parts of a raw annotation are its bytes, back to back, and none is empty. (01: From PBN, "Annotation parts ..")
 -- Assumes nothing.
+use Rattle.std.specs.Prelude.{Option, None, Some}
 use Prim.Native.Nat.{ℕ, zero, suc, ◌+◌, ◌*◌, ◌≤◌, ◌<◌, min}
 use native.Mathlib.Omega.{arith}
 use mathlib.Core.Path.{◌≡◌, refl, ap, sym, subst, ◌∙◌}
 use mathlib.Core.Bool.{Bool, true, false, ◌&&◌, ◌||◌, not, false≢true}
 use mathlib.Core.List.{List, [], ◌∷◌, ◌++◌, append_assoc}
-use mathlib.Core.Option.{Option, none, some}
 use Prim.Native.Char.{code}
 use lib.ListN.{length, take, drop, get_or, length-drop, take-append-drop, get_or-eq_default}
 use lib.Seq.{take-suc, take-length}
@@ -186,7 +186,7 @@ note-later a b c ws n =
     let x = at (suc n * 3) (n * 3) (omega arith) in
     let y = at (suc n * 3 + 1) (n * 3 + 1) (omega arith) in
     let z = at (suc n * 3 + 2) (n * 3 + 2) (omega arith) in
-    λ i. pick (eqb (x i) 0) none (some (span (y i) (z i)))
+    λ i. pick (eqb (x i) 0) None (Some (span (y i) (z i)))
 
 -- a list that ends within a note has no byte of its text there
 note-short : (P : Span → Type 0) → ((a : ℕ) → P (span a 0)) → (ws : List ℕ) → length ws ≤ 2 → (n : ℕ) → Present P (note_of ws n)
@@ -202,7 +202,7 @@ note-named P nil (a ∷ []) h n = note-short P nil (a ∷ []) (omega arith) n
 note-named P nil (a ∷ b ∷ []) h n = note-short P nil (a ∷ b ∷ []) (omega arith) n
 note-named P nil (a ∷ b ∷ c ∷ ws) h zero = unfold note_of in go (eqb a 0) h
   where
-    go : (t : Bool) → All P (pick t (note_spans ws) (span b c ∷ note_spans ws)) → Present P (pick t none (some (span b c)))
+    go : (t : Bool) → All P (pick t (note_spans ws) (span b c ∷ note_spans ws)) → Present P (pick t None (Some (span b c)))
     go true k = tt
     go false k = k.0
 note-named P nil (a ∷ b ∷ c ∷ ws) h (suc n) = subst (Present P) (sym (note-later a b c ws n)) (note-named P nil ws (go (eqb a 0) h) n)
@@ -225,12 +225,12 @@ nag_utf8 p =
 
 module _ (s ws : List ℕ) (notes : All (λ (x : Span). Utf8 (bytes_at s x)) (note_spans ws)) where
   note-utf8 : (p : List ℕ) → Utf8 p → (o : Option ℕ) → Utf8 (note_word s ws p o)
-  note-utf8 p h none = h
-  note-utf8 p h (some n) = go (note_of ws n) (note-named (λ (x : Span). Utf8 (bytes_at s x)) (λ a. unfold part in utf8-ascii [] tt) ws notes n)
+  note-utf8 p h None = h
+  note-utf8 p h (Some n) = go (note_of ws n) (note-named (λ (x : Span). Utf8 (bytes_at s x)) (λ a. unfold part in utf8-ascii [] tt) ws notes n)
     where
       go : (o : Option Span) → Present (λ (x : Span). Utf8 (bytes_at s x)) o → Utf8 (note_text s p o)
-      go none g = h
-      go (some x) g = g
+      go None g = h
+      go (Some x) g = g
 
   word-utf8 : (p : List ℕ) → Utf8 p → Utf8 (part_word s ws p)
   unfolding part_word

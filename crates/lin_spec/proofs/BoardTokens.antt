@@ -1,10 +1,10 @@
 -- The tokens of a written board. What stands before its first command is a parameter, since the LF after the board before it goes there. No command or
 -- value holds a pipe, there is one md and one qx, before the qx stand mn and pn alone, and the trailing text is one LF. (01: Writer and settled form)
 -- Assumes nothing.
+use Rattle.std.specs.Prelude.{Option, None, Some}
 use Prim.Native.Nat.{ℕ}
 use mathlib.Core.Path.{◌≡◌, refl, ap, ◌∙◌}
 use mathlib.Core.List.{List, [], ◌∷◌, ◌++◌, map, append_assoc}
-use mathlib.Core.Option.{Option, none, some}
 use Rattle.lin_spec.specs.Base.{pick, All, concat, join_by, ascii}
 use Rattle.lin_spec.specs.Tokens.{TokenOf, Token, write}
 use Rattle.lin_spec.specs.Tokens.TokenOf.{token}
@@ -20,12 +20,12 @@ pg = token (ascii "pg") []
 
 module _ (p q : ℕ) where
   abbrev pub header_tokens : Option (List ℕ) → List Token
-  header_tokens none = []
-  header_tokens (some s) = token (ascii "ah") (clean p q s) ∷ []
+  header_tokens None = []
+  header_tokens (Some s) = token (ascii "ah") (clean p q s) ∷ []
 
   abbrev pub note_tokens : Option (List ℕ) → List Token
-  note_tokens none = []
-  note_tokens (some s) = token (ascii "an") (clean p q s) ∷ []
+  note_tokens None = []
+  note_tokens (Some s) = token (ascii "an") (clean p q s) ∷ []
 
   abbrev pub bid_text : CallOf (List ℕ) → List ℕ
   bid_text c = clean p q c.bid ++ pick c.alerted (ascii "!") []
@@ -48,8 +48,8 @@ play_tokens [] = []
 play_tokens (t ∷ ts) = trick_tokens t ++ play_tokens ts
 
 abbrev pub claim_tokens : Option ℕ → List Token
-claim_tokens none = []
-claim_tokens (some n) = token (ascii "\nmc") (decimal n) ∷ pg ∷ []
+claim_tokens None = []
+claim_tokens (Some n) = token (ascii "\nmc") (decimal n) ∷ pg ∷ []
 
 module _ (p q : ℕ) where
   abbrev pub names_text : BoardOf (List ℕ) → List ℕ
@@ -87,13 +87,13 @@ write-after (token c v ∷ ts) s t = simp (append_assoc, write-after ts s t)
 module _ (p q : ℕ) (t : List ℕ) where
   header-text : (o : Option (List ℕ)) → write (header_tokens p q o) t ≡ optional (ascii "ah|") (map_option (clean p q) o) ++ t
   unfolding write
-  header-text none = refl
-  header-text (some s) = simp append_assoc
+  header-text None = refl
+  header-text (Some s) = simp append_assoc
 
   note-text : (o : Option (List ℕ)) (t : List ℕ) → write (note_tokens p q o) t ≡ optional (ascii "an|") (map_option (clean p q) o) ++ t
   unfolding write
-  note-text none t = refl
-  note-text (some s) t = simp append_assoc
+  note-text None t = refl
+  note-text (Some s) t = simp append_assoc
 
   calls-text : (cs : List (CallOf (List ℕ))) → write (call_tokens p q cs) t ≡ calls_text p q cs ++ t
   unfolding write call_tokens concat call_text
@@ -105,11 +105,11 @@ unfolding write card_tokens concat
 cards-text [] t = refl
 cards-text (c ∷ cs) t = simp (cards-text cs t, append_assoc)
 
-abbrev Some : List ℕ → Type 0
-Some [] = ⊥
-Some (c ∷ cs) = Unit
+abbrev Some_card : List ℕ → Type 0
+Some_card [] = ⊥
+Some_card (c ∷ cs) = Unit
 
-tricks-some : (cs : List ℕ) → All Some (tricks cs)
+tricks-some : (cs : List ℕ) → All Some_card (tricks cs)
 unfolding tricks
 tricks-some [] = tt
 tricks-some (a ∷ []) = (tt, tt)
@@ -117,7 +117,7 @@ tricks-some (a ∷ b ∷ []) = (tt, tt)
 tricks-some (a ∷ b ∷ c ∷ []) = (tt, tt)
 tricks-some (a ∷ b ∷ c ∷ d ∷ r) = (tt, tricks-some r)
 
-play-text : (ts : List (List ℕ)) → All Some ts → (t : List ℕ) → write (play_tokens ts) (0x0A ∷ t) ≡ 0x0A ∷ (concat (map trick_text ts) ++ t)
+play-text : (ts : List (List ℕ)) → All Some_card ts → (t : List ℕ) → write (play_tokens ts) (0x0A ∷ t) ≡ 0x0A ∷ (concat (map trick_text ts) ++ t)
 unfolding write play_tokens concat
 play-text [] h t = refl
 play-text ([] ∷ ts) h t = absurd h.0
@@ -125,8 +125,8 @@ play-text ((c ∷ cs) ∷ ts) h t = simp (write-append, play-text ts h.1 t, card
 
 claim-text : (o : Option ℕ) → write (claim_tokens o) (0x0A ∷ []) ≡ 0x0A ∷ claim_text o
 unfolding write
-claim-text none = refl
-claim-text (some n) = refl
+claim-text None = refl
+claim-text (Some n) = refl
 
 module _ (p q : ℕ) (b : BoardOf (List ℕ)) where
   pub written-tokens : written p q b ≡ write (board_tokens p q [] b) (0x0A ∷ [])
@@ -152,12 +152,12 @@ CommandOf C (token c v) = C c
 
 module _ (p q : ℕ) (C : List ℕ → Type 0) where
   pub header_commands : C (ascii "ah") → (o : Option (List ℕ)) → All (CommandOf C) (header_tokens p q o)
-  header_commands ah none = tt
-  header_commands ah (some s) = (ah, tt)
+  header_commands ah None = tt
+  header_commands ah (Some s) = (ah, tt)
 
   note_commands : C (ascii "an") → (o : Option (List ℕ)) → All (CommandOf C) (note_tokens p q o)
-  note_commands an none = tt
-  note_commands an (some s) = (an, tt)
+  note_commands an None = tt
+  note_commands an (Some s) = (an, tt)
 
   pub call_commands : C (ascii "mb") → C (ascii "an") → (cs : List (CallOf (List ℕ))) → All (CommandOf C) (call_tokens p q cs)
   unfolding call_tokens
@@ -180,8 +180,8 @@ module _ (C : List ℕ → Type 0) where
   play_commands lf pc g (t ∷ ts) = all_append (CommandOf C) (trick_tokens t) (play_tokens ts) (trick_commands lf pc g t) (play_commands lf pc g ts)
 
   pub claim_commands : C (ascii "\nmc") → C (ascii "pg") → (o : Option ℕ) → All (CommandOf C) (claim_tokens o)
-  claim_commands mc g none = tt
-  claim_commands mc g (some n) = (mc, (g, tt))
+  claim_commands mc g None = tt
+  claim_commands mc g (Some n) = (mc, (g, tt))
 
 -- all commands after the qx
 pub record Commands (C : List ℕ → Type 0) : Type 0 where
@@ -240,12 +240,12 @@ all-tricks Q (a ∷ b ∷ c ∷ d ∷ r) h = ((h.0, (h.1.0, (h.1.1.0, (h.1.1.1.0
 
 module _ (p q : ℕ) (P : List ℕ → Type 0) where
   header_values : (o : Option (List ℕ)) → Present (λ (s : List ℕ). P (clean p q s)) o → All (ValueOf P) (header_tokens p q o)
-  header_values none h = tt
-  header_values (some s) h = (h, tt)
+  header_values None h = tt
+  header_values (Some s) h = (h, tt)
 
   note_values : (o : Option (List ℕ)) → Present (λ (s : List ℕ). P (clean p q s)) o → All (ValueOf P) (note_tokens p q o)
-  note_values none h = tt
-  note_values (some s) h = (h, tt)
+  note_values None h = tt
+  note_values (Some s) h = (h, tt)
 
   call_values : (cs : List (CallOf (List ℕ))) → All (λ (c : CallOf (List ℕ)). P (bid_text p q c) × Present (λ (s : List ℕ). P (clean p q s)) c.annotation) cs
       → All (ValueOf P) (call_tokens p q cs)
@@ -268,8 +268,8 @@ module _ (p q : ℕ) (P : List ℕ → Type 0) where
   play_values n (t ∷ ts) h = all_append (ValueOf P) (trick_tokens t) (play_tokens ts) (trick_values n t h.0) (play_values n ts h.1)
 
   claim_values : P [] → (o : Option ℕ) → Present (λ (n : ℕ). P (decimal n)) o → All (ValueOf P) (claim_tokens o)
-  claim_values n none h = tt
-  claim_values n (some k) h = (h, (n, tt))
+  claim_values n None h = tt
+  claim_values n (Some k) h = (h, (n, tt))
 
   pub board_values : (lead : List ℕ) (b : BoardOf (List ℕ)) → Values p q P b → All (ValueOf P) (board_tokens p q lead b)
   unfolding board_tokens body_tokens

@@ -1,5 +1,6 @@
 -- What the types of a board and of a PBN record say of their values: four names, 208 counts, a claim of one byte. (01: Records; From PBN)
 -- Assumes nothing.
+use Rattle.std.specs.Prelude.{Option, None, Some}
 use Prim.Native.Nat.{ℕ, suc, ◌≤◌}
 use native.Mathlib.Omega.{arith}
 use mathlib.Core.Path.{◌≡◌, sym, ◌∙◌}
@@ -9,14 +10,13 @@ use mir.Val.{Val}
 use denote.Laws.{Is}
 use denote.Struct.Declared.{row}
 use Rattle.lin_spec.specs.Board.{Present}
-use Rattle.lin_spec.specs.Lent.{lent, claim_of}
+use Rattle.lin_spec.specs.Lent.{lent}
 use Rattle.lin_spec.specs.ThirdDemand.{Typed}
 use Rattle.lin_spec.specs.Pbn.{Pbn}
 use Rattle.lin_spec.specs.declared.Board.{Board}
-use Rattle.lin_spec.specs.declared.MaybeClaim.{MaybeClaim}
-use Rattle.lin_spec.specs.declared.MaybeClaim.TheVariants.{Absent, Claimed}
 use Rattle.lin_spec.specs.contracts.Board as board
-use Rattle.lin_spec.specs.contracts.MaybeClaim as claim
+use Rattle.std.specs.contracts.option.Option as option
+use denote.Builtin.{u8}
 use Rattle.lin_spec.specs.contracts.PbnBoard as pbn
 use Rattle.lin_spec.proofs.Pbn.{PbnTyped}
 
@@ -29,11 +29,11 @@ names-four b vs h = h.1.1.0.1.0.1
 counts-long : (b : Board) (vs : List Val) → Is (row board.the_type) b vs → length b.deal.counts ≡ 208
 counts-long b vs h = h.1.1.1.1.0.1.1.0.1.0.1
 
-claim_fits : (c : MaybeClaim) (vs : List Val) → Is (claim.the_field).row ((claim.the_field).into c) vs → Present (λ n. n ≤ 255) (claim_of c)
-claim_fits Absent vs h = tt
-claim_fits (Claimed n) vs h = let l : suc n ≤ 256 = h.1.1.1.1.0.1 in omega arith
+claim_fits : (c : Option ℕ) (vs : List Val) → Is (option.the_field u8).row ((option.the_field u8).into c) vs → Present (λ n. n ≤ 255) c
+claim_fits None vs h = tt
+claim_fits (Some n) vs h = let l : suc n ≤ 256 = h.1.1.1.1.0.1 in omega arith
 
-claim_byte : (b : Board) (vs : List Val) → Is (row board.the_type) b vs → Present (λ n. n ≤ 255) (claim_of b.claim)
+claim_byte : (b : Board) (vs : List Val) → Is (row board.the_type) b vs → Present (λ n. n ≤ 255) b.claim
 claim_byte b vs h = claim_fits b.claim _ h.1.1.1.1.1.1.1.1.1.0
 
 -- so a board that is lent is of append's types

@@ -1,12 +1,12 @@
 -- Laws of cards, hands and deals: the range of what the letters give, the letters of each suit and rank, the length of hands and deals, how
 -- many cards a text can give, and which cards the remainder holds. (01: Records; Board, md and pc)
 -- Assumes nothing.
+use Rattle.std.specs.Prelude.{Option, None, Some}
 use Prim.Native.Nat.{ℕ, zero, suc, ◌+◌, ◌≤◌, ◌<◌}
 use native.Mathlib.Omega.{arith}
 use mathlib.Core.Path.{◌≡◌, refl, ap, subst, ◌∙◌}
 use mathlib.Core.Bool.{Bool, true, false, ◌&&◌, false≢true}
 use mathlib.Core.List.{List, [], ◌∷◌}
-use mathlib.Core.Option.{Option, none, some}
 use lib.ListN.{length, get_or, set, length-append, length-set}
 use lib.Dec.{eqb}
 use borrow.Author.Tests.{ne_eqb, eqb-true}
@@ -22,11 +22,11 @@ use Rattle.lin_spec.proofs.Tokens.{joined, joined-cut}
 
 -- what is found, if anything is, is below n
 abbrev pub Under : ℕ → Option ℕ → Type 0
-Under n none = Unit
-Under n (some k) = k < n
+Under n None = Unit
+Under n (Some k) = k < n
 
 -- a number found is below n
-pub under : (n : ℕ) (o : Option ℕ) (k : ℕ) → Under n o → o ≡ some k → k < n
+pub under : (n : ℕ) (o : Option ℕ) (k : ℕ) → Under n o → o ≡ Some k → k < n
 under n o k h e = subst (Under n) e h
 
 index_under : (n b : ℕ) (cs : List ℕ) → Under (n + length cs) (index_of n b cs)
@@ -48,9 +48,9 @@ rank_under b = index_under 0 (lower b) (ascii "23456789tjqka")
 
 -- a suit below 4 and a rank below 13 give a card below 52
 pub card_under : (u r : Option ℕ) → Under 4 u → Under 13 r → Under 52 (card_of u r)
-card_under none r h k = tt
-card_under (some u) none h k = tt
-card_under (some u) (some r) h k = omega arith
+card_under None r h k = tt
+card_under (Some u) None h k = tt
+card_under (Some u) (Some r) h k = omega arith
 
 -- a card that is read is below 52
 pub read_under : (s : List ℕ) → Under 52 (read_card s)
@@ -64,44 +64,44 @@ read_under (a ∷ b ∷ c ∷ s) = tt
 
 -- the number found is k
 finds : ℕ → Option ℕ → Bool
-finds k none = false
-finds k (some n) = eqb n k
+finds k None = false
+finds k (Some n) = eqb n k
 
 -- nothing is found
 nothing : Option ℕ → Bool
-nothing none = true
-nothing (some n) = false
+nothing None = true
+nothing (Some n) = false
 
-found-is : (k : ℕ) (o : Option ℕ) → finds k o ≡ true → o ≡ some k
+found-is : (k : ℕ) (o : Option ℕ) → finds k o ≡ true → o ≡ Some k
 unfolding finds
-found-is k none h = absurd (false≢true h)
-found-is k (some n) h = ap some (eqb-true n k h)
+found-is k None h = absurd (false≢true h)
+found-is k (Some n) h = ap Some (eqb-true n k h)
 
-nothing_is : (o : Option ℕ) → nothing o ≡ true → o ≡ none
+nothing_is : (o : Option ℕ) → nothing o ≡ true → o ≡ None
 unfolding nothing
-nothing_is none h = refl
-nothing_is (some n) h = absurd (false≢true h)
+nothing_is None h = refl
+nothing_is (Some n) h = absurd (false≢true h)
 
 -- the capital of suit u gives u
-pub suit_letter : (u : ℕ) → u < 4 → suit_of (get_or (ascii "SHDC") u 0) ≡ some u
+pub suit_letter : (u : ℕ) → u < 4 → suit_of (get_or (ascii "SHDC") u 0) ≡ Some u
 unfolding suit_of index_of lower finds all_below
 suit_letter u h = found-is u _ (below (λ u. finds u (suit_of (get_or (ascii "SHDC") u 0))) 4 refl u h)
 
 -- the capital of rank r gives r
-pub rank_letter_lem : (r : ℕ) → r < 13 → rank_of (get_or (ascii "23456789TJQKA") r 0) ≡ some r
+pub rank_letter_lem : (r : ℕ) → r < 13 → rank_of (get_or (ascii "23456789TJQKA") r 0) ≡ Some r
 unfolding rank_of index_of lower finds all_below
 rank_letter_lem r h = found-is r _ (below (λ r. finds r (rank_of (get_or (ascii "23456789TJQKA") r 0))) 13 refl r h)
 
 -- no rank letter is a suit letter
-pub rank_no_suit : (r : ℕ) → r < 13 → suit_of (get_or (ascii "23456789TJQKA") r 0) ≡ none
+pub rank_no_suit : (r : ℕ) → r < 13 → suit_of (get_or (ascii "23456789TJQKA") r 0) ≡ None
 unfolding suit_of index_of lower nothing all_below
 rank_no_suit r h = nothing_is _ (below (λ r. nothing (suit_of (get_or (ascii "23456789TJQKA") r 0))) 13 refl r h)
 
 -- Hands
 
 with-length : (o : Option ℕ) (h : List ℕ) → length (with_card o h) ≡ length h
-with-length none h = refl
-with-length (some c) h = length-set h c (get_or h c 0 + 1)
+with-length None h = refl
+with-length (Some c) h = length-set h c (get_or h c 0 + 1)
 
 from-length : (suit : Option ℕ) (h s : List ℕ) → length (hand_from suit h s) ≡ length h
 unfolding hand_from
@@ -110,13 +110,13 @@ from-length suit h (b ∷ s) = go (suit_of b) (λ u k. from-length u k s)
   where
     go : (o : Option ℕ) → ((u : Option ℕ) (k : List ℕ) → length (hand_from u k s) ≡ length k)
         → length (hand_by o b suit h (λ u k. hand_from u k s)) ≡ length h
-    go (some u) ih = ih (some u) h
-    go none ih = ih suit (with_card (card_of suit (rank_of b)) h) ∙ with-length (card_of suit (rank_of b)) h
+    go (Some u) ih = ih (Some u) h
+    go None ih = ih suit (with_card (card_of suit (rank_of b)) h) ∙ with-length (card_of suit (rank_of b)) h
 
 -- a hand has 52 counts
 pub hand-length : (s : List ℕ) → length (read_hand s) ≡ 52
 unfolding read_hand
-hand-length s = from-length none no_cards s
+hand-length s = from-length None no_cards s
 
 -- no count is greater than the length of the hand
 pub count-sum : (h : List ℕ) (c : ℕ) → get_or h c 0 ≤ sum h
@@ -133,8 +133,8 @@ set_sum (n ∷ h) zero = omega arith
 set_sum (n ∷ h) (suc c) = let k = set_sum h c in omega arith
 
 with-sum : (o : Option ℕ) (h : List ℕ) → sum (with_card o h) ≤ sum h + 1
-with-sum none h = omega arith
-with-sum (some c) h = set_sum h c
+with-sum None h = omega arith
+with-sum (Some c) h = set_sum h c
 
 from-sum : (suit : Option ℕ) (h s : List ℕ) → sum (hand_from suit h s) ≤ sum h + length s
 unfolding hand_from
@@ -143,13 +143,13 @@ from-sum suit h (b ∷ s) = go (suit_of b) (λ u k. from-sum u k s)
   where
     go : (o : Option ℕ) → ((u : Option ℕ) (k : List ℕ) → sum (hand_from u k s) ≤ sum k + length s)
         → sum (hand_by o b suit h (λ u k. hand_from u k s)) ≤ sum h + suc (length s)
-    go (some u) ih = omega (arith, ih (some u) h)
-    go none ih = omega (arith, ih suit (with_card (card_of suit (rank_of b)) h), with-sum (card_of suit (rank_of b)) h)
+    go (Some u) ih = omega (arith, ih (Some u) h)
+    go None ih = omega (arith, ih suit (with_card (card_of suit (rank_of b)) h), with-sum (card_of suit (rank_of b)) h)
 
 -- a hand has no more cards than its text has bytes
 pub hand-sum : (s : List ℕ) → sum (read_hand s) ≤ length s
 unfolding read_hand sum
-hand-sum s = omega (arith, from-sum none no_cards s)
+hand-sum s = omega (arith, from-sum None no_cards s)
 
 -- no card is counted more often than the text has bytes
 pub hand-count : (s : List ℕ) (c : ℕ) → get_or (read_hand s) c 0 ≤ length s

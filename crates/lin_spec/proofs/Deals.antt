@@ -1,11 +1,11 @@
 -- Reading a written md value gives dealer and settled deal. (01: Writer and settled form; Board, md)
 -- Assumes nothing.
+use Rattle.std.specs.Prelude.{Some}
 use Prim.Native.Nat.{ℕ, ◌*◌, ◌≤◌}
 use native.Mathlib.Omega.{arith}
 use mathlib.Core.Path.{◌≡◌, refl, ap, ◌∙◌}
 use mathlib.Core.Bool.{Bool, true, false, ◌&&◌, and-false}
 use mathlib.Core.List.{List, [], ◌∷◌, ◌++◌, append-nil}
-use mathlib.Core.Option.{some}
 use lib.ListN.{length, length-take, length-drop}
 use lib.Dec.{eqb}
 use borrow.Author.Tests.{ne_eqb, eqb-false}
@@ -116,7 +116,7 @@ md_visible x =
       ),
     )
 
-dealer-digit : (x : Seat) → dealer_of (dealer_digit x) ≡ some x
+dealer-digit : (x : Seat) → dealer_of (dealer_digit x) ≡ Some x
 unfolding dealer_of
 dealer-digit South = refl
 dealer-digit West = refl

@@ -1,12 +1,12 @@
 -- Laws of decimal: a digit more at the end, and adequacy: a number's digits are digits, give it back, and begin with no needless zero.
 -- (01: Program linlist; Board, mc)
 -- Assumes nothing.
+use Rattle.std.specs.Prelude.{Some}
 use Prim.Native.Nat.{ℕ, zero, suc, ◌+◌, ◌*◌, ◌/◌, ◌%◌, ◌≤◌, ◌<◌}
 use native.Mathlib.Omega.{arith}
 use mathlib.Core.Path.{◌≡◌, refl, ap, sym, ◌∙◌}
 use mathlib.Core.Bool.{Bool, true, false, ◌&&◌}
 use mathlib.Core.List.{List, [], ◌∷◌, ◌++◌}
-use mathlib.Core.Option.{some}
 use lib.ListN.{length, get_or, length-append}
 use borrow.Author.Tests.{lt-ltb, le-ltb, le-leb}
 use Rattle.lin_spec.specs.Base.{null, all}
@@ -111,7 +111,7 @@ pub decimal_led : (n : ℕ) → Led n (decimal n)
 decimal_led = by_digits Led (λ n h. record { some-digit = refl; no_zero = λ e. omega arith }) (λ n h s l. led_last n h s _ l)
 
 -- read as mc's digits it is the number again: "value at most 255", for any bound
-pub decimal-read : (bound n : ℕ) → n ≤ bound → number_in bound (decimal n) ≡ some n
+pub decimal-read : (bound n : ℕ) → n ≤ bound → number_in bound (decimal n) ≡ Some n
 decimal-read bound n h =
     number_is bound (decimal n) n
     (record {

@@ -1,5 +1,6 @@
 -- Documents written from spans: what the cursor gives is written back (D2d), and what was written is read again (D2e). (01: Tokens)
 -- Assumes nothing.
+use Rattle.std.specs.Prelude.{Ok}
 use Prim.Native.Nat.{ℕ, zero, suc, ◌+◌, ◌-◌, ◌^◌, ◌≤◌, ◌<◌}
 use native.Mathlib.Omega.{arith}
 use mathlib.Core.Path.{◌≡◌, refl, ap, sym, ◌∙◌}
@@ -16,7 +17,6 @@ use Rattle.lin_spec.specs.Cursor.{Place, Step, step_at, Steps}
 use Rattle.lin_spec.specs.Cursor.Step.{found, ended}
 use Rattle.lin_spec.specs.Cursor.Steps.{stop, more}
 use Rattle.lin_spec.specs.Refusals.{unless, passes_end, ill_span}
-use Rattle.lin_spec.specs.Refusals.Answer.{accepted}
 use Rattle.lin_spec.specs.Output.{overlay, room, fill}
 use Rattle.lin_spec.specs.Document.{open_text, Row, rows_in, spans_of, token_at, document_text, write_document}
 use Rattle.lin_spec.specs.declared.Span.{Span}
@@ -34,14 +34,14 @@ pub record Opened (s : List ℕ) : Type 0 where
   pub short : length s ≤ limit
   pub good : utf8 s ≡ true
 
-pub opened : (s : List ℕ) {n : ℕ} → open_text s ≡ accepted n → Opened s
+pub opened : (s : List ℕ) {n : ℕ} → open_text s ≡ Ok n → Opened s
 unfolding open_text
 opened s {n} h =
     let p = unmet (ltb limit (length s)) _ _ 0 n h in
     let q = unmet (not (utf8 s)) _ [] 0 n p.1 in
     record { short = ltb-false limit (length s) p.0; good = not-false (utf8 s) q.0 }
 
-pub open_accepts : (s : List ℕ) → Opened s → open_text s ≡ accepted 0
+pub open_accepts : (s : List ℕ) → Opened s → open_text s ≡ Ok 0
 unfolding open_text unless
 open_accepts s h = simp (le-ltb limit (length s) h.short, h.good)
 
@@ -123,13 +123,13 @@ pub record Rewritten (s : List ℕ) (ws : List ℕ) (last : ℕ) (o : List ℕ) 
   pub words : All (λ w. w < 2 ^ 32) ws
   pub start : last < 2 ^ 32
   pub len : length s - last < 2 ^ 32
-  pub text : write_document s ws (span last (length s - last)) o ≡ record { answer = accepted (length s); output = overlay o 0 s }
+  pub text : write_document s ws (span last (length s - last)) o ≡ record { answer = Ok (length s); output = overlay o 0 s }
 
 small-words : (n : ℕ) (ws : List ℕ) → n < 2 ^ 32 → All (λ w. w ≤ n) ws → All (λ w. w < 2 ^ 32) ws
 small-words n [] h k = tt
 small-words n (w ∷ ws) h k = (let l = k.0 in omega arith, small-words n ws h k.1)
 
-pub rewritten : (s : List ℕ) → open_text s ≡ accepted 0 → {ws : List ℕ} {last : ℕ} → Steps s 0 ws last → (o : List ℕ) → length s ≤ room o → Rewritten s ws last o
+pub rewritten : (s : List ℕ) → open_text s ≡ Ok 0 → {ws : List ℕ} {last : ℕ} → Steps s 0 ws last → (o : List ℕ) → length s ≤ room o → Rewritten s ws last o
 unfolding write_document fill unless
 rewritten s h {ws} {last} r o k =
     let g = opened s h in
@@ -210,7 +210,7 @@ pub record Filed (s ws : List ℕ) (tr : Span) (n : ℕ) (o : List ℕ) : Type 0
   -- the first n bytes of the output are the document's
   pub bytes : take n o ≡ document_text s ws tr
   -- a cursor opens over them
-  pub opens : open_text (take n o) ≡ accepted 0
+  pub opens : open_text (take n o) ≡ Ok 0
   -- and shows the document's tokens and trailing text, compared by bytes, if no command or value holds a pipe and the trailing text at most one
   pub reads : {us : List ℕ} {last : ℕ} → Steps (take n o) 0 us last → Plain (map (token_at s) (rows_in ws)) (bytes_at s tr)
       → (map (token_at (take n o)) (rows_in us) ≡ map (token_at s) (rows_in ws)) × (drop last (take n o) ≡ bytes_at s tr)
@@ -219,7 +219,7 @@ pub record Filed (s ws : List ℕ) (tr : Span) (n : ℕ) (o : List ℕ) : Type 0
       → (map (token_at (take n o)) (rows_in us) ≡ map (token_at s) (rows_in ws)) × (drop last (take n o) ≡ bytes_at s tr)
       → Plain (map (token_at s) (rows_in ws)) (bytes_at s tr)
 
-pub filed : (s ws : List ℕ) (tr : Span) (o : List ℕ) (n : ℕ) (o' : List ℕ) → write_document s ws tr o ≡ record { answer = accepted n; output = o' } → Filed s ws tr n o'
+pub filed : (s ws : List ℕ) (tr : Span) (o : List ℕ) (n : ℕ) (o' : List ℕ) → write_document s ws tr o ≡ record { answer = Ok n; output = o' } → Filed s ws tr n o'
 unfolding write_document
 filed s ws tr o n o' h =
     let t = document_text s ws tr in

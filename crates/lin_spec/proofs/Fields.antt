@@ -1,11 +1,11 @@
 -- The board that the tokens of a written board give is its settled form, field by field. (01: Writer and settled form; Board)
 -- Assumes nothing.
+use Rattle.std.specs.Prelude.{Option, Some, None}
 use Prim.Native.Nat.{ℕ, ◌+◌, ◌*◌, ◌/◌, ◌%◌, ◌≤◌, ◌<◌}
 use native.Mathlib.Omega.{arith}
 use mathlib.Core.Path.{◌≡◌, refl, ap, sym, ◌∙◌}
 use mathlib.Core.Bool.{Bool, true, false}
 use mathlib.Core.List.{List, [], ◌∷◌, ◌++◌, map, append_assoc, append-nil}
-use mathlib.Core.Option.{Option, none, some}
 use lib.ListN.{length, take, drop, replicate}
 use lib.Seq.{take-append_seam, take-length}
 use Rattle.lin_spec.specs.Base.{pick, All, starts, concat, join_by, ascii, eq_all}
@@ -21,7 +21,7 @@ use Rattle.lin_spec.specs.Board.{CallOf, BoardOf, named, read_md, read_sv, non_e
 use Rattle.lin_spec.specs.Reading.{bytes_text}
 use Rattle.lin_spec.specs.Writer.{clean, clean_name, or_empty, card_letters, tricks, md_text, present, settled_call, cleaned, settled}
 use Rattle.lin_spec.specs.declared.Vulnerability.{Vulnerability}
-use Rattle.lin_spec.specs.declared.Vulnerability.TheVariants.{None, NorthSouth, EastWest, Both}
+use Rattle.lin_spec.specs.declared.Vulnerability.TheVariants.{NorthSouth, EastWest, Both}
 use Rattle.lin_spec.proofs.Base.{all_append}
 use Rattle.lin_spec.proofs.White.{trim_visible}
 use Rattle.lin_spec.proofs.Tokens.{cut-piece, cut-none}
@@ -60,7 +60,7 @@ past w g ts us h x = over-append (λ c v y. on c w (g v y) y) x ts us ∙ ap (λ
 
 sv_letter_lem : (v : Vulnerability) → read_sv (sv_letter v ∷ []) ≡ v
 unfolding read_sv same_word lower eq_all
-sv_letter_lem None = refl
+sv_letter_lem Vulnerability.None = refl
 sv_letter_lem NorthSouth = refl
 sv_letter_lem EastWest = refl
 sv_letter_lem Both = refl
@@ -68,19 +68,19 @@ sv_letter_lem Both = refl
 sv_read : (v : Vulnerability) → read_sv (trim (sv_letter v ∷ [])) ≡ v
 sv_read v = ap read_sv (trim_visible (sv_letter v ∷ []) (sv_visible v)) ∙ sv_letter_lem v
 
-card-read : (c : ℕ) → c < 52 → read_card (trim (card_letters c)) ≡ some c
+card-read : (c : ℕ) → c < 52 → read_card (trim (card_letters c)) ≡ Some c
 unfolding read_card
 card-read c h =
     ap read_card (trim_visible (card_letters c) (card_visible c h))
-    ∙ simp (suit_letter (c / 13) (omega arith), rank_letter_lem (c % 13) (omega arith)) (let z : c / 13 * 13 + c % 13 ≡ c = omega arith in ap (λ (n : ℕ). some n) z)
+    ∙ simp (suit_letter (c / 13) (omega arith), rank_letter_lem (c % 13) (omega arith)) (let z : c / 13 * 13 + c % 13 ≡ c = omega arith in ap (λ (n : ℕ). Some n) z)
 
-claim-read : (n : ℕ) → n ≤ 255 → number_in 255 (trim (decimal n)) ≡ some n
+claim-read : (n : ℕ) → n ≤ 255 → number_in 255 (trim (decimal n)) ≡ Some n
 claim-read n h = ap (number_in 255) (trim_visible (decimal n) (decimal_visible n)) ∙ decimal-read 255 n h
 
 text-read : (p q : ℕ) (o : Option (List ℕ)) → non_empty bytes_text (clean p q (or_empty o)) ≡ present (map_option (clean p q) o)
 unfolding clean
-text-read p q none = refl
-text-read p q (some s) = refl
+text-read p q None = refl
+text-read p q (Some s) = refl
 
 -- the names between their commas: the rest of the text from the place k on is the names that are left
 names-from : (p q : ℕ) (v : List ℕ) (k : ℕ) (ns ms : List (List ℕ)) → length ms ≡ length ns → drop k v ≡ join_by (ascii ",") (map (clean_name p q) ns)
@@ -115,7 +115,7 @@ names-read p q b l = names-from p q (names_text p q b) 0 b.names (replicate 4 []
 -- Calls
 
 annotated-last : (v : List ℕ) (cs : List (CallOf (List ℕ))) (c : CallOf (List ℕ))
-    → annotated v (cs ++ (c ∷ [])) ≡ cs ++ (record { bid = c.bid; alerted = c.alerted; annotation = some v } ∷ [])
+    → annotated v (cs ++ (c ∷ [])) ≡ cs ++ (record { bid = c.bid; alerted = c.alerted; annotation = Some v } ∷ [])
 unfolding annotated
 annotated-last v [] c = refl
 annotated-last v (d ∷ []) c = refl
@@ -125,7 +125,7 @@ module _ (p q : ℕ) where
   abbrev settled_one : CallOf (List ℕ) → CallOf (List ℕ)
   settled_one c = settled_call (map_call (clean p q) c)
 
-  call-read : (c : CallOf (List ℕ)) → call_of bytes_text (bid_text p q c) ≡ record { bid = (settled_one c).bid; alerted = (settled_one c).alerted; annotation = none }
+  call-read : (c : CallOf (List ℕ)) → call_of bytes_text (bid_text p q c) ≡ record { bid = (settled_one c).bid; alerted = (settled_one c).alerted; annotation = None }
   unfolding settled_call part
   call-read c =
       simp (without-mark 0x21 (clean p q c.bid) c.alerted, without-front 0x21 (clean p q c.bid) (pick c.alerted (ascii "!") []), ends-mark 0x21 (clean p q c.bid) c.alerted)
@@ -148,8 +148,8 @@ module _ (p q : ℕ) where
   one-read : (b : List ℕ) (t : Bool) (o : Option (List ℕ)) (x : List (CallOf (List ℕ)))
       → over (on_calls bytes_text) x (token (ascii "mb") (bid_text p q (call b t o)) ∷ note_tokens p q o) ≡ x ++ (settled_one (call b t o) ∷ [])
   unfolding over settled_call
-  one-read b t none x = simp (mb_is, call-read (call b t none))
-  one-read b t (some v) x = simp (mb_is, an_is, an_not, call-read (call b t (some v)), annotated-last)
+  one-read b t None x = simp (mb_is, call-read (call b t None))
+  one-read b t (Some v) x = simp (mb_is, an_is, an_not, call-read (call b t (Some v)), annotated-last)
 
   calls-read : (cs x : List (CallOf (List ℕ))) → over (on_calls bytes_text) x (call_tokens p q cs) ≡ x ++ map settled_one cs
   unfolding call_tokens over
@@ -220,10 +220,10 @@ pg-other : is_command (ascii "pg") (ascii "mc") ≡ false
 unfolding is_command same_word lower trim trim_end trim_start skip_white blank white_at front white_space encode starts eq_all
 pg-other = refl
 
-claim_option : (o : Option ℕ) → Present (λ (n : ℕ). n ≤ 255) o → over (on_claim bytes_text) none (claim_tokens o) ≡ o
+claim_option : (o : Option ℕ) → Present (λ (n : ℕ). n ≤ 255) o → over (on_claim bytes_text) None (claim_tokens o) ≡ o
 unfolding over
-claim_option none h = refl
-claim_option (some n) h = simp (mc_is, pg-other, claim-read n h)
+claim_option None h = refl
+claim_option (Some n) h = simp (mc_is, pg-other, claim-read n h)
 
 -- The fields
 
@@ -246,28 +246,28 @@ module _ (p q : ℕ) (b : BoardOf (List ℕ)) (v : Valid b) where
       pass (ascii "pn") (λ v y. named bytes_text v 0 (cut 0x2C v) y) (body_tokens p q b) (body_commands p q (Unlike (ascii "pn")) (record { rh = refl; ah = refl; md = refl; sv = refl; sa = refl; mb = refl; an = refl; g = refl; lf = refl; pc = refl; mc = refl }) b) _
       ∙ names-read p q b v.names
 
-  title-field : over (on_title bytes_text) none (board_tokens p q [] b) ≡ present (map_option (clean p q) b.title)
+  title-field : over (on_title bytes_text) None (board_tokens p q [] b) ≡ present (map_option (clean p q) b.title)
   unfolding board_tokens over is_command same_word lower trim trim_end trim_start skip_white blank white_at front white_space encode starts eq_all
   title-field =
       pass (ascii "mn") (λ v y. non_empty bytes_text v) (body_tokens p q b) (body_commands p q (Unlike (ascii "mn")) (record { rh = refl; ah = refl; md = refl; sv = refl; sa = refl; mb = refl; an = refl; g = refl; lf = refl; pc = refl; mc = refl }) b) _
       ∙ text-read p q b.title
 
-  room-field : over (on_room bytes_text) none (board_tokens p q [] b) ≡ present (map_option (clean p q) b.room)
+  room-field : over (on_room bytes_text) None (board_tokens p q [] b) ≡ present (map_option (clean p q) b.room)
   unfolding board_tokens over is_command same_word lower trim trim_end trim_start skip_white blank white_at front white_space encode starts eq_all
   room-field =
       pass (ascii "qx") (λ v y. non_empty bytes_text v) (body_tokens p q b) (body_commands p q (Unlike (ascii "qx")) (record { rh = refl; ah = refl; md = refl; sv = refl; sa = refl; mb = refl; an = refl; g = refl; lf = refl; pc = refl; mc = refl }) b) _
       ∙ text-read p q b.room
 
-  header_option : (o : Option (List ℕ)) → over (on_header bytes_text) none (header_tokens p q o) ≡ map_option (clean p q) o
+  header_option : (o : Option (List ℕ)) → over (on_header bytes_text) None (header_tokens p q o) ≡ map_option (clean p q) o
   unfolding over is_command same_word lower trim trim_end trim_start skip_white blank white_at front white_space encode starts eq_all
-  header_option none = refl
-  header_option (some s) = refl
+  header_option None = refl
+  header_option (Some s) = refl
 
-  header-field : over (on_header bytes_text) none (board_tokens p q [] b) ≡ map_option (clean p q) b.header
+  header-field : over (on_header bytes_text) None (board_tokens p q [] b) ≡ map_option (clean p q) b.header
   unfolding board_tokens body_tokens over is_command same_word lower trim trim_end trim_start skip_white blank white_at front white_space encode starts eq_all
   header-field =
-      over-append (on_header bytes_text) none (header_tokens p q b.header) _
-      ∙ pass (ascii "ah") (λ v y. some v) (after p q b) (after_commands p q b (Unlike (ascii "ah")) refl refl refl refl refl refl) _
+      over-append (on_header bytes_text) None (header_tokens p q b.header) _
+      ∙ pass (ascii "ah") (λ v y. Some v) (after p q b) (after_commands p q b (Unlike (ascii "ah")) refl refl refl refl refl refl) _
       ∙ header_option b.header
 
   dealt-value : over (on_dealt bytes_text) undealt (board_tokens p q [] b) ≡ read_md (trim (md_text b.dealt)) undealt
@@ -276,10 +276,10 @@ module _ (p q : ℕ) (b : BoardOf (List ℕ)) (v : Valid b) where
       past (ascii "md") (λ v y. read_md (trim v) y) (header_tokens p q b.header) _ (header_commands p q (Unlike (ascii "md")) refl b.header) undealt
       ∙ pass (ascii "md") (λ v y. read_md (trim v) y) (after p q b) (after_commands p q b (Unlike (ascii "md")) refl refl refl refl refl refl) _
 
-  sv_value : over (on_vulnerability bytes_text) None (board_tokens p q [] b) ≡ read_sv (trim (sv_letter b.vulnerability ∷ []))
+  sv_value : over (on_vulnerability bytes_text) Vulnerability.None (board_tokens p q [] b) ≡ read_sv (trim (sv_letter b.vulnerability ∷ []))
   unfolding board_tokens body_tokens over is_command same_word lower trim trim_end trim_start skip_white blank white_at front white_space encode starts eq_all
   sv_value =
-      past (ascii "sv") (λ v y. read_sv (trim v)) (header_tokens p q b.header) _ (header_commands p q (Unlike (ascii "sv")) refl b.header) None
+      past (ascii "sv") (λ v y. read_sv (trim v)) (header_tokens p q b.header) _ (header_commands p q (Unlike (ascii "sv")) refl b.header) Vulnerability.None
       ∙ pass (ascii "sv") (λ v y. read_sv (trim v)) (after p q b) (after_commands p q b (Unlike (ascii "sv")) refl refl refl refl refl refl) _
 
   abbrev Uncalled : List ℕ → Type 0
@@ -312,12 +312,12 @@ module _ (p q : ℕ) (b : BoardOf (List ℕ)) (v : Valid b) where
       ∙ play-read (tricks b.play) (all-tricks (λ (c : ℕ). c < 52) b.play v.cards) []
       ∙ tricks-all b.play
 
-  claim-field : over (on_claim bytes_text) none (board_tokens p q [] b) ≡ over (on_claim bytes_text) none (claim_tokens b.claim)
+  claim-field : over (on_claim bytes_text) None (board_tokens p q [] b) ≡ over (on_claim bytes_text) None (claim_tokens b.claim)
   unfolding board_tokens body_tokens over is_command same_word lower trim trim_end trim_start skip_white blank white_at front white_space encode starts eq_all
   claim-field =
-      past (ascii "mc") (λ v y. number_in 255 (trim v)) (header_tokens p q b.header) _ (header_commands p q (Unlike (ascii "mc")) refl b.header) none
-      ∙ past (ascii "mc") (λ v y. number_in 255 (trim v)) (call_tokens p q b.calls) _ (call_commands p q (Unlike (ascii "mc")) refl refl b.calls) none
-      ∙ past (ascii "mc") (λ v y. number_in 255 (trim v)) (play_tokens (tricks b.play)) _ (play_commands (Unlike (ascii "mc")) refl refl refl (tricks b.play)) none
+      past (ascii "mc") (λ v y. number_in 255 (trim v)) (header_tokens p q b.header) _ (header_commands p q (Unlike (ascii "mc")) refl b.header) None
+      ∙ past (ascii "mc") (λ v y. number_in 255 (trim v)) (call_tokens p q b.calls) _ (call_commands p q (Unlike (ascii "mc")) refl refl b.calls) None
+      ∙ past (ascii "mc") (λ v y. number_in 255 (trim v)) (play_tokens (tricks b.play)) _ (play_commands (Unlike (ascii "mc")) refl refl refl (tricks b.play)) None
 
   pub board-read : board_from bytes_text (board_tokens p q [] b) ≡ settled p q b
   unfolding board_from settled cleaned

@@ -1,5 +1,6 @@
 -- Laws of a file's sections: a text's tokens up to a place, the sections from a place on, and what a board cursor visits. (01: File)
 -- Assumes nothing.
+use Rattle.std.specs.Prelude.{Ok}
 use Prim.Native.Nat.{ℕ, zero, suc, ◌+◌, ◌-◌, ◌≤◌, ◌<◌}
 use native.Mathlib.Omega.{arith}
 use mathlib.Core.Path.{◌≡◌, refl, ap, sym, subst, ◌∙◌}
@@ -19,7 +20,6 @@ use Rattle.lin_spec.specs.Cards.{field}
 use Rattle.lin_spec.specs.Reading.{placed, stream}
 use Rattle.lin_spec.specs.File.{Section, section, holds, leads, part_at, parts_from, lines_from, lines_at, parts_at, sections, Standing, Visit, remaining, first_of, after, visit, open_boards}
 use Rattle.lin_spec.specs.Refusals.{sat, too_long, not_utf8}
-use Rattle.lin_spec.specs.Refusals.Answer.{accepted}
 use Rattle.lin_spec.specs.File.Visit.{found, ended}
 use Rattle.lin_spec.specs.Visits.{line_at, part_end, part_from}
 use Rattle.lin_spec.specs.declared.Span.{Span}
@@ -386,6 +386,6 @@ all_remain s = go (holds (ascii "qx") (stream s 0)) refl
         some-token (t ∷ ts) h = refl
     go false e = unfold lines_at in simp (le-ltb (length s) 0 (omega arith))
 
-pub visits_all : (s : List ℕ) (c : Standing) (ps : List Section) → open_boards s ≡ accepted c → Visits s c ps → ps ≡ sections s
+pub visits_all : (s : List ℕ) (c : Standing) (ps : List Section) → open_boards s ≡ Ok c → Visits s c ps → ps ≡ sections s
 unfolding open_boards
 visits_all s c ps e v = visits_remaining s c ps v ∙ ap (remaining s) (sym (unless-same (too_long s ∷ not_utf8 s ∷ []) _ c e)) ∙ all_remain s

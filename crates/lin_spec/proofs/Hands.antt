@@ -1,12 +1,12 @@
 -- Reading a written hand gives its counts back; its bytes are letters. (01: Writer; Board, md)
 -- Assumes nothing.
+use Rattle.std.specs.Prelude.{Option, None, Some}
 use Prim.Native.Nat.{ℕ, zero, suc, ◌+◌, ◌*◌, ◌≤◌, ◌<◌}
 use native.Mathlib.Nat.{add-zero, zero-add}
 use native.Mathlib.Omega.{arith}
 use mathlib.Core.Path.{◌≡◌, refl, ap, sym, ◌∙◌}
 use mathlib.Core.Bool.{Bool, true, false, false≢true}
 use mathlib.Core.List.{List, [], ◌∷◌, ◌++◌, append_assoc, append-nil}
-use mathlib.Core.Option.{Option, none, some}
 use lib.ListN.{length, get_or, take, drop, replicate, length-append, length-take, length-drop, length-replicate, take-append-drop}
 use lib.Seq.{set_at, get_or_at, append_snoc, take_all, take-suc, drop-drop, get_or-drop}
 use lib.Dec.{eqb, leb}
@@ -23,38 +23,38 @@ rank_letter r = get_or (ascii "23456789TJQKA") r 0
 
 -- an option that is none, or some n
 abbrev is_none : Option ℕ → Bool
-is_none none = true
-is_none (some n) = false
+is_none None = true
+is_none (Some n) = false
 
 abbrev is_some : ℕ → Option ℕ → Bool
-is_some n none = false
-is_some n (some m) = eqb m n
+is_some n None = false
+is_some n (Some m) = eqb m n
 
-is-none : (o : Option ℕ) → is_none o ≡ true → o ≡ none
-is-none none h = refl
-is-none (some n) h = absurd (false≢true h)
+is-none : (o : Option ℕ) → is_none o ≡ true → o ≡ None
+is-none None h = refl
+is-none (Some n) h = absurd (false≢true h)
 
-is-some : (n : ℕ) (o : Option ℕ) → is_some n o ≡ true → o ≡ some n
-is-some n none h = absurd (false≢true h)
-is-some n (some m) h = ap some (eqb-true m n h)
+is-some : (n : ℕ) (o : Option ℕ) → is_some n o ≡ true → o ≡ Some n
+is-some n None h = absurd (false≢true h)
+is-some n (Some m) h = ap Some (eqb-true m n h)
 
-rank_suit : (r : ℕ) → r < 13 → suit_of (rank_letter r) ≡ none
+rank_suit : (r : ℕ) → r < 13 → suit_of (rank_letter r) ≡ None
 unfolding all_below suit_of index_of lower
 rank_suit r h = is-none (suit_of (rank_letter r)) (below (λ n. is_none (suit_of (rank_letter n))) 13 refl r h)
 
-rank-rank : (r : ℕ) → r < 13 → rank_of (rank_letter r) ≡ some r
+rank-rank : (r : ℕ) → r < 13 → rank_of (rank_letter r) ≡ Some r
 unfolding all_below rank_of index_of lower
 rank-rank r h = is-some r (rank_of (rank_letter r)) (below (λ n. is_some n (rank_of (rank_letter n))) 13 refl r h)
 
 -- a rank's letter as often as it is counted
 many : (u r : ℕ) → r < 13 → (pre post : List ℕ) → length pre ≡ u * 13 + r → (a n : ℕ) (t : List ℕ)
-    → hand_from (some u) (pre ++ a ∷ post) (replicate n (rank_letter r) ++ t) ≡ hand_from (some u) (pre ++ (a + n) ∷ post) t
+    → hand_from (Some u) (pre ++ a ∷ post) (replicate n (rank_letter r) ++ t) ≡ hand_from (Some u) (pre ++ (a + n) ∷ post) t
 unfolding hand_from
-many u r h pre post e a zero t = ap (λ (m : ℕ). hand_from (some u) (pre ++ m ∷ post) t) (sym (add-zero a))
+many u r h pre post e a zero t = ap (λ (m : ℕ). hand_from (Some u) (pre ++ m ∷ post) t) (sym (add-zero a))
 many u r h pre post e a (suc n) t =
     let q : a + 1 + n ≡ a + suc n = omega arith in
     simp (rank_suit r h, rank-rank r h, get_or_at pre a post 0 (u * 13 + r) e, set_at pre a post (a + 1) (u * 13 + r) e)
-    (many u r h pre post e (a + 1) n t ∙ ap (λ (m : ℕ). hand_from (some u) (pre ++ m ∷ post) t) q)
+    (many u r h pre post e (a + 1) n t ∙ ap (λ (m : ℕ). hand_from (Some u) (pre ++ m ∷ post) t) q)
 
 -- a suit's ranks from A down fill its places
 snoc_zero : (r : ℕ) (post : List ℕ) → replicate (suc r) 0 ++ post ≡ replicate r 0 ++ (0 ∷ post)
@@ -62,7 +62,7 @@ snoc_zero zero post = refl
 snoc_zero (suc r) post = ap (λ (x : List ℕ). 0 ∷ x) (snoc_zero r post)
 
 ranks : (h : List ℕ) (u r : ℕ) → r ≤ 13 → u * 13 + r ≤ length h → (pre post t : List ℕ) → length pre ≡ u * 13
-    → hand_from (some u) (pre ++ (replicate r 0 ++ post)) (ranks_from h (u * 13) r ++ t) ≡ hand_from (some u) (pre ++ (take r (drop (u * 13) h) ++ post)) t
+    → hand_from (Some u) (pre ++ (replicate r 0 ++ post)) (ranks_from h (u * 13) r ++ t) ≡ hand_from (Some u) (pre ++ (take r (drop (u * 13) h) ++ post)) t
 unfolding ranks_from
 ranks h u zero k w pre post t e = refl
 ranks h u (suc r) k w pre post t e =
@@ -71,19 +71,19 @@ ranks h u (suc r) k w pre post t e =
     let a : pre ++ (replicate (suc r) 0 ++ post) ≡ (pre ++ replicate r 0) ++ 0 ∷ post = ap (λ (x : List ℕ). pre ++ x) (snoc_zero r post) ∙ sym (append_assoc pre (replicate r 0) (0 ∷ post)) in
     let b : take (suc r) (drop (u * 13) h) ++ post ≡ take r (drop (u * 13) h) ++ n ∷ post =
     ap (λ (x : List ℕ). x ++ post) (take-suc (drop (u * 13) h) r 0 (let z = length-drop (u * 13) h in omega arith) ∙ ap (λ (x : ℕ). take r (drop (u * 13) h) ++ (x ∷ [])) (get_or-drop (u * 13) h r 0)) ∙ append_snoc (take r (drop (u * 13) h)) n post in
-    ap (λ (x : List ℕ). hand_from (some u) x (ranks_from h (u * 13) (suc r) ++ t)) a
-    ∙ ap (hand_from (some u) ((pre ++ replicate r 0) ++ 0 ∷ post)) (append_assoc (replicate n (rank_letter r)) (ranks_from h (u * 13) r) t)
+    ap (λ (x : List ℕ). hand_from (Some u) x (ranks_from h (u * 13) (suc r) ++ t)) a
+    ∙ ap (hand_from (Some u) ((pre ++ replicate r 0) ++ 0 ∷ post)) (append_assoc (replicate n (rank_letter r)) (ranks_from h (u * 13) r) t)
     ∙ many u r (omega arith) (pre ++ replicate r 0) post l 0 n (ranks_from h (u * 13) r ++ t)
-    ∙ ap (λ (x : List ℕ). hand_from (some u) x (ranks_from h (u * 13) r ++ t)) (append_assoc pre (replicate r 0) _ ∙ ap (λ (m : ℕ). pre ++ (replicate r 0 ++ m ∷ post)) (zero-add n))
+    ∙ ap (λ (x : List ℕ). hand_from (Some u) x (ranks_from h (u * 13) r ++ t)) (append_assoc pre (replicate r 0) _ ∙ ap (λ (m : ℕ). pre ++ (replicate r 0 ++ m ∷ post)) (zero-add n))
     ∙ ranks h u r (omega arith) (omega arith) pre (n ∷ post) t e
-    ∙ ap (λ (x : List ℕ). hand_from (some u) (pre ++ x) t) (sym b)
+    ∙ ap (λ (x : List ℕ). hand_from (Some u) (pre ++ x) t) (sym b)
 
-hand_letter : (b u : ℕ) → suit_of b ≡ some u → (o : Option ℕ) (g t : List ℕ) → hand_from o g (b ∷ t) ≡ hand_from (some u) g t
+hand_letter : (b u : ℕ) → suit_of b ≡ Some u → (o : Option ℕ) (g t : List ℕ) → hand_from o g (b ∷ t) ≡ hand_from (Some u) g t
 unfolding hand_from
 hand_letter b u k o g t = simp k
 
-suit : (h : List ℕ) (u : ℕ) → suit_of (get_or (ascii "SHDC") u 0) ≡ some u → length h ≡ 52 → u ≤ 3 → (o : Option ℕ) (pre post t : List ℕ) → length pre ≡ u * 13
-    → hand_from o (pre ++ (replicate 13 0 ++ post)) (suit_text h u ++ t) ≡ hand_from (some u) (pre ++ (take 13 (drop (u * 13) h) ++ post)) t
+suit : (h : List ℕ) (u : ℕ) → suit_of (get_or (ascii "SHDC") u 0) ≡ Some u → length h ≡ 52 → u ≤ 3 → (o : Option ℕ) (pre post t : List ℕ) → length pre ≡ u * 13
+    → hand_from o (pre ++ (replicate 13 0 ++ post)) (suit_text h u ++ t) ≡ hand_from (Some u) (pre ++ (take 13 (drop (u * 13) h) ++ post)) t
 unfolding suit_text
 suit h u k l m o pre post t e = hand_letter (get_or (ascii "SHDC") u 0) u k o _ _ ∙ ranks h u 13 (omega arith) (omega arith) pre post t e
 
@@ -130,13 +130,13 @@ read-hand h l = go (eqb (sum h) 0) refl
         let lab : length (a ++ b) ≡ 26 = length-append a b ∙ (omega arith) in
         let labc : length (a ++ b ++ c) ≡ 39 = length-append (a ++ b) c ∙ (omega arith) in
         simp e
-        (suit h 0 refl l (omega arith) none [] (replicate 39 0) (suit_text h 1 ++ (suit_text h 2 ++ suit_text h 3)) refl
-        ∙ suit h 1 refl l (omega arith) (some 0) a (replicate 26 0) (suit_text h 2 ++ suit_text h 3) la
-        ∙ ap (λ (x : List ℕ). hand_from (some 1) x (suit_text h 2 ++ suit_text h 3)) (sym (append_assoc a b (replicate 26 0)))
-        ∙ suit h 2 refl l (omega arith) (some 1) (a ++ b) (replicate 13 0) (suit_text h 3) lab
-        ∙ ap (λ (x : List ℕ). hand_from (some 2) x (suit_text h 3)) (sym (append_assoc (a ++ b) c (replicate 13 0)))
-        ∙ ap (hand_from (some 2) (a ++ b ++ c ++ replicate 13 0)) (sym (append-nil (suit_text h 3)))
-        ∙ suit h 3 refl l (omega arith) (some 2) (a ++ b ++ c) [] [] labc
+        (suit h 0 refl l (omega arith) None [] (replicate 39 0) (suit_text h 1 ++ (suit_text h 2 ++ suit_text h 3)) refl
+        ∙ suit h 1 refl l (omega arith) (Some 0) a (replicate 26 0) (suit_text h 2 ++ suit_text h 3) la
+        ∙ ap (λ (x : List ℕ). hand_from (Some 1) x (suit_text h 2 ++ suit_text h 3)) (sym (append_assoc a b (replicate 26 0)))
+        ∙ suit h 2 refl l (omega arith) (Some 1) (a ++ b) (replicate 13 0) (suit_text h 3) lab
+        ∙ ap (λ (x : List ℕ). hand_from (Some 2) x (suit_text h 3)) (sym (append_assoc (a ++ b) c (replicate 13 0)))
+        ∙ ap (hand_from (Some 2) (a ++ b ++ c ++ replicate 13 0)) (sym (append-nil (suit_text h 3)))
+        ∙ suit h 3 refl l (omega arith) (Some 2) (a ++ b ++ c) [] [] labc
         ∙ (unfold hand_from in simp (append-nil, append_assoc) (quarters 13 h l)))
 
 -- The bytes of a hand are letters and figures from 2 to T

@@ -1,12 +1,12 @@
 -- What a reader gives can be lent again: each span lies within the text and is UTF-8, each flag is 0 or 1, and each card is a card. (01: Board; File;
 -- Eight refusals, 8, 5 and 6)
 -- Assumes nothing.
+use Rattle.std.specs.Prelude.{Option, None, Some}
 use Prim.Native.Nat.{ℕ, zero, suc, ◌+◌, ◌-◌, ◌≤◌, ◌<◌}
 use native.Mathlib.Omega.{arith}
 use mathlib.Core.Path.{◌≡◌, refl, ap, sym, subst, ◌∙◌}
 use mathlib.Core.Bool.{Bool, true, false, not}
 use mathlib.Core.List.{List, [], ◌∷◌, ◌++◌, append_assoc, append-nil}
-use mathlib.Core.Option.{Option, none, some}
 use lib.ListN.{length, take, drop, get_or, length-append, length-take, length-drop, drop_of_length-le, take-append-drop}
 use lib.Seq.{take-take, take-add, take-append_seam, take-append-add}
 use lib.Dec.{eqb, ltb}
@@ -129,8 +129,8 @@ abbrev Card : ℕ → Type 0
 Card c = c < 52
 
 played-cards : (o : Option ℕ) → Under 52 o → (cs : List ℕ) → All Card cs → All Card (played o cs)
-played-cards none u cs h = h
-played-cards (some c) u cs h = all_append Card cs (c ∷ []) h (u, tt)
+played-cards None u cs h = h
+played-cards (Some c) u cs h = all_append Card cs (c ∷ []) h (u, tt)
 
 -- a board over s that none of 8, 5 and 6 meets
 pub record Legal (s : List ℕ) (b : BoardOf Span) : Type 0 where
@@ -151,9 +151,9 @@ tokens_legal s a u =
                 over-all F (All F) (on_names (span_text s))
                 (λ c v b w k. picked (All F) (is_command c (ascii "pn")) (λ _. let j = joined-cut 0x2C (bytes_at s v) in names-fine s v w.0 0 (cut 0x2C (bytes_at s v)) b (sym j) (omega arith) (ap utf8 j ∙ w.1) k) (λ _. k))
                 (stream s a) h _ (z, (z, (z, (z, tt))));
-            title = over-all F (Present F) (on_title (span_text s)) (value-fine s (ascii "mn")) (stream s a) h none tt;
-            room = over-all F (Present F) (on_room (span_text s)) (value-fine s (ascii "qx")) (stream s a) h none tt;
-            header = over-all F (Present F) (on_header (span_text s)) (λ c v b w k. picked (Present F) (is_command c (ascii "ah")) (λ _. w) (λ _. k)) (stream s a) h none tt;
+            title = over-all F (Present F) (on_title (span_text s)) (value-fine s (ascii "mn")) (stream s a) h None tt;
+            room = over-all F (Present F) (on_room (span_text s)) (value-fine s (ascii "qx")) (stream s a) h None tt;
+            header = over-all F (Present F) (on_header (span_text s)) (λ c v b w k. picked (Present F) (is_command c (ascii "ah")) (λ _. w) (λ _. k)) (stream s a) h None tt;
             calls =
                 over-all F (All (CallFine s)) (on_calls (span_text s))
                 (λ c v b w k. picked (All (CallFine s)) (is_command c (ascii "mb")) (λ _. all_append (CallFine s) b _ k (call-fine s v w, tt))
@@ -178,8 +178,8 @@ all-each P Q f [] h = tt
 all-each P Q f (a ∷ x) h = (f a h.0, all-each P Q f x h.1)
 
 present-each : {A : Type 0} (P Q : A → Type 0) → ((a : A) → P a → Q a) → (o : Option A) → Present P o → Present Q o
-present-each P Q f none h = tt
-present-each P Q f (some a) h = f a h
+present-each P Q f None h = tt
+present-each P Q f (Some a) h = f a h
 
 pub each-text : {A : Type 0} (P Q : A → Type 0) → ((a : A) → P a → Q a) → (b : BoardOf A) → EachText P b → EachText Q b
 each-text {A} P Q f b h =
@@ -360,8 +360,8 @@ any_none f (x ∷ xs) h = simp (h.0, any_none f xs h.1)
 
 module _ (P : Span → Type 0) where
   option_spans : (o : Option Span) → Present P o → All P (span_in o)
-  option_spans none h = tt
-  option_spans (some x) h = (h, tt)
+  option_spans None h = tt
+  option_spans (Some x) h = (h, tt)
 
   calls-spans : (cs : List (CallOf Span)) → All (λ (c : CallOf Span). P c.bid × Present P c.annotation) cs → All P (call_spans cs)
   unfolding call_spans
@@ -405,10 +405,10 @@ words_flags [] = refl
 words_flags (c ∷ cs) = go c.alerted c.annotation (words_flags cs)
   where
     go : (t : Bool) (o : Option Span) → any bad_flag (call_rows (call_words cs)) ≡ false → any bad_flag (call_rows (c.bid.start ∷ c.bid.len ∷ flag t ∷ (annotation_words o ++ call_words cs))) ≡ false
-    go true none e = e
-    go true (some x) e = e
-    go false none e = e
-    go false (some x) e = e
+    go true None e = e
+    go true (Some x) e = e
+    go false None e = e
+    go false (Some x) e = e
 
 -- what is stored of a board, lent again
 abbrev pub stored_again : (t : List ℕ) → BoardOf Span → Lent

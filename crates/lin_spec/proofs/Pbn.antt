@@ -1,23 +1,24 @@
 -- What `from_board` makes: the spans of its texts, back to back, are the texts; no text holds a pipe or a line break; and written and read back it is its
 -- settled form. (01: From PBN)
 -- Assumes nothing.
+use Rattle.lin_spec.specs.declared.Converted.{Converted}
+use Rattle.lin_spec.specs.declared.Heading.{Heading}
+use Rattle.std.specs.Prelude.{Option, None, Some, Err, Ok, ℤ}
 use Prim.Native.Nat.{ℕ, ◌+◌, ◌-◌, ◌≤◌, ◌<◌}
 use native.Mathlib.Omega.{arith}
 use mathlib.Core.Path.{◌≡◌, refl, ap, sym, subst, ◌∙◌}
 use mathlib.Core.Bool.{Bool, true, false, ◌&&◌, ◌||◌, not, false≢true}
 use mathlib.Core.List.{List, [], ◌∷◌, ◌++◌, map, append_assoc, append-nil}
-use mathlib.Core.Option.{Option, none, some}
 use lib.ListN.{length, take, drop, get_or, length-append, length-drop}
 use lib.Seq.{take-append_seam, drop_at, drop-drop}
 use lib.IntN.ℤ.{pos, negsuc}
 use lib.Dec.{eqb, ltb, leb}
 use borrow.Author.Tests.{ltb-false, leb-true}
 use Rattle.lin_spec.specs.Base.{All, any, null, concat, ascii}
-use Rattle.lin_spec.specs.Records.{span, part, bytes_at, option_of, limit}
+use Rattle.lin_spec.specs.Records.{span, part, bytes_at, limit}
 use Rattle.lin_spec.specs.Utf8.{utf8}
 use Rattle.lin_spec.specs.Refusals.{Answer, refuse_if, unless, too_long, passes_end, past_end, ill_span, span_not_utf8}
-use Rattle.lin_spec.specs.Refusals.Answer.{refused, accepted}
-use Rattle.lin_spec.specs.Reading.{Reading, stored}
+use Rattle.lin_spec.specs.Reading.{heading_of, Reading, stored}
 use Rattle.lin_spec.specs.ThirdDemand.{Gives}
 use Rattle.lin_spec.specs.Board.{CallOf, BoardOf, map_option, map_call, map_board, Present, EachText}
 use Rattle.lin_spec.specs.Decimal.{digit, decimal}
@@ -26,16 +27,10 @@ use Rattle.lin_spec.specs.Writer.{clean, or_empty, present, written, settled}
 use Rattle.lin_spec.specs.Pbn.{Pbn, pbn_names, gap, claim_from, bid_of, raw_of, title_of, label_of, annotation_by, text_by, filled_by, name_by, kept_by, kept_calls, kept_cards, from_board, call_texts, board_texts, laid_names, laid_option, laid_calls, laid, bad_entry, bad_call, bad_board_number, bad_pbn, raw_spans, name_spans, pbn_spans, Conversion, converted, convert_board}
 use Rattle.lin_spec.specs.Lent.{span_in}
 use Rattle.lin_spec.specs.Annotation.{note_spans, annotation_text}
-use Rattle.lin_spec.specs.declared.MaybeSpan.{MaybeSpan}
-use Rattle.lin_spec.specs.declared.MaybeNumber.{MaybeNumber}
-use Rattle.lin_spec.specs.declared.MaybeNumber.TheVariants.{Absent as NoNumber, Number}
 use Rattle.lin_spec.specs.declared.PbnCall.{PbnCall}
-use Rattle.lin_spec.specs.declared.MaybeResult.{MaybeResult}
-use Rattle.lin_spec.specs.declared.MaybeResult.TheVariants.{Absent as NoResult, Tricks}
 use Rattle.lin_spec.specs.declared.Span.{Span}
 use Rattle.lin_spec.specs.declared.Refusal.{Refusal}
 use Rattle.lin_spec.specs.declared.Refusal.TheVariants.{TextTooLong, SpanPastEnd, SpanNotUtf8, OutOfRange}
-use Rattle.lin_spec.specs.declared.Verdict.TheVariants.{Accepted}
 use Rattle.lin_spec.proofs.Base.{picked, or_none, and_left, and_right, all_below, below, every, all_keep}
 use Rattle.lin_spec.proofs.White.{Visible}
 use Rattle.lin_spec.proofs.Reading.{board_eq}
@@ -80,8 +75,8 @@ names-laid t at (n ∷ ns) r e =
     λ i. h i ∷ k i
 
 option_laid : (t : List ℕ) (at : ℕ) (o : Option (List ℕ)) (r : List ℕ) → drop at t ≡ or_empty o ++ r → map_option (bytes_at t) (laid_option at o) ≡ o
-option_laid t at none r e = refl
-option_laid t at (some s) r e = ap (λ (x : List ℕ). some x) (here t at s r e)
+option_laid t at None r e = refl
+option_laid t at (Some s) r e = ap (λ (x : List ℕ). Some x) (here t at s r e)
 
 calls-laid : (t : List ℕ) (at : ℕ) (cs : List (CallOf (List ℕ))) → drop at t ≡ call_texts cs → map (map_call (bytes_at t)) (laid_calls at cs) ≡ cs
 unfolding laid_calls call_texts
@@ -143,10 +138,10 @@ module _ (x : Pbn) (sound : bad_pbn x ≡ false) where
           go true k = absurd (false≢true (sym k ∙ e))
           go false k = refl
 
-  claim_most : (r : MaybeResult) → Present (λ (n : ℕ). n ≤ 255) (claim_from r)
-  claim_most NoResult = tt
-  claim_most (Tricks (pos n)) = picked (Present (λ (m : ℕ). m ≤ 255)) (leb n 255) (λ e. leb-true n 255 e) (λ _. tt)
-  claim_most (Tricks (negsuc n)) = tt
+  claim_most : (r : Option ℤ) → Present (λ (n : ℕ). n ≤ 255) (claim_from r)
+  claim_most None = tt
+  claim_most (Some (pos n)) = picked (Present (λ (m : ℕ). m ≤ 255)) (leb n 255) (λ e. leb-true n 255 e) (λ _. tt)
+  claim_most (Some (negsuc n)) = tt
 
   pub made_valid : (p q : ℕ) → PbnTyped x → Valid (from_board p q x)
   unfolding from_board
@@ -195,13 +190,13 @@ module _ (p q : ℕ) (P : List ℕ → Type 0) (seen : (t : List ℕ) → All Vi
   kept-each (c ∷ cs) h a = go (bid_of c) (bid_visible c h.0) (kept-each cs h.1 a.1)
     where
       note : (o : Option (List ℕ)) → Present (λ (t : List ℕ). P (clean p q t)) o → Present P (map_option (clean p q) o)
-      note none k = tt
-      note (some t) k = k
+      note None k = tt
+      note (Some t) k = k
 
       go : (o : Option (List ℕ)) → Present (All Visible) o → All (λ (d : CallOf (List ℕ)). P d.bid × Present P d.annotation) (kept_calls p q s notes cs)
           → All (λ (d : CallOf (List ℕ)). P d.bid × Present P d.annotation) (kept_by p q s notes o c (kept_calls p q s notes cs))
-      go none k ih = ih
-      go (some b) k ih = ((seen b k, note (annotation_by s notes (raw_of c)) a.0), ih)
+      go None k ih = ih
+      go (Some b) k ih = ((seen b k, note (annotation_by s notes (raw_of c)) a.0), ih)
 
 -- No text holds a pipe or a line break
 
@@ -214,16 +209,16 @@ visible_free (b ∷ t) h = (
 
 -- what an option's text is made into
 option_each : {A : Type 0} (P : List ℕ → Type 0) (g : A → List ℕ) → ((a : A) → P (g a)) → (o : Option A) → Present P (map_option g o)
-option_each P g h none = tt
-option_each P g h (some a) = h a
+option_each P g h None = tt
+option_each P g h (Some a) = h a
 
 map_each : {A : Type 0} (P : List ℕ → Type 0) (g : A → List ℕ) → ((a : A) → P (g a)) → (xs : List A) → All P (map g xs)
 map_each P g h [] = tt
 map_each P g h (x ∷ xs) = (h x, map_each P g h xs)
 
 present-each : (P : List ℕ → Type 0) → ((t : List ℕ) → P t) → (o : Option (List ℕ)) → Present P o
-present-each P h none = tt
-present-each P h (some t) = h t
+present-each P h None = tt
+present-each P h (Some t) = h t
 
 pub made_free : (p q : ℕ) → Fit p q → (x : Pbn) → bad_pbn x ≡ false → EachText (All Free) (from_board p q x)
 unfolding from_board
@@ -261,61 +256,61 @@ module _ (p q : ℕ) (f : Fit p q) (x : Pbn) (well : All (λ (y : Span). Utf8 (b
   abbrev raws : List Span
   raws = raw_spans x.calls ++ note_spans x.notes
 
-  w₁ : All W (span_in (option_of x.board.event) ++ (span_in (option_of x.board.date) ++ (span_in (option_of x.board.id) ++ raws)))
+  w₁ : All W (span_in x.board.event ++ (span_in x.board.date ++ (span_in x.board.id ++ raws)))
   unfolding pbn_spans
   w₁ = all_right W (name_spans (pbn_names x.board)) _ well
 
-  w₂ : All W (span_in (option_of x.board.date) ++ (span_in (option_of x.board.id) ++ raws))
-  w₂ = all_right W (span_in (option_of x.board.event)) _ w₁
+  w₂ : All W (span_in x.board.date ++ (span_in x.board.id ++ raws))
+  w₂ = all_right W (span_in x.board.event) _ w₁
 
-  w₃ : All W (span_in (option_of x.board.id) ++ raws)
-  w₃ = all_right W (span_in (option_of x.board.date)) _ w₂
+  w₃ : All W (span_in x.board.id ++ raws)
+  w₃ = all_right W (span_in x.board.date) _ w₂
 
   w₄ : All W raws
-  w₄ = all_right W (span_in (option_of x.board.id)) _ w₃
+  w₄ = all_right W (span_in x.board.id) _ w₃
 
-  text-utf8 : (y : MaybeSpan) → All W (span_in (option_of y)) → Present Utf8 (text_by x.text y)
-  text-utf8 y h = go (option_of y) h
+  text-utf8 : (y : Option Span) → All W (span_in y) → Present Utf8 (text_by x.text y)
+  text-utf8 y h = go y h
     where
       go : (o : Option Span) → All W (span_in o) → Present Utf8 (map_option (bytes_at x.text) o)
-      go none k = tt
-      go (some z) k = k.0
+      go None k = tt
+      go (Some z) k = k.0
 
-  filled_utf8 : (y : MaybeSpan) → All W (span_in (option_of y)) → Present Utf8 (filled_by x.text y)
+  filled_utf8 : (y : Option Span) → All W (span_in y) → Present Utf8 (filled_by x.text y)
   filled_utf8 y h = go (text_by x.text y) (text-utf8 y h)
     where
       go : (o : Option (List ℕ)) → Present Utf8 o → Present Utf8 (present o)
-      go none k = tt
-      go (some t) k = picked (Present Utf8) (null t) (λ _. tt) (λ _. k)
+      go None k = tt
+      go (Some t) k = picked (Present Utf8) (null t) (λ _. tt) (λ _. k)
 
-  names-utf8 : (ys : List MaybeSpan) → All W (name_spans ys) → All Utf8 (map (name_by p q x.text) ys)
+  names-utf8 : (ys : List (Option Span)) → All W (name_spans ys) → All Utf8 (map (name_by p q x.text) ys)
   unfolding concat
   names-utf8 [] h = tt
   names-utf8 (y ∷ ys) h = (
-    utf8_name p q f (or_empty (text_by x.text y)) (go (text_by x.text y) (text-utf8 y (all_left W (span_in (option_of y)) _ h))),
-    names-utf8 ys (all_right W (span_in (option_of y)) _ h),
+    utf8_name p q f (or_empty (text_by x.text y)) (go (text_by x.text y) (text-utf8 y (all_left W (span_in y) _ h))),
+    names-utf8 ys (all_right W (span_in y) _ h),
   )
     where
       go : (o : Option (List ℕ)) → Present Utf8 o → Utf8 (or_empty o)
-      go none k = utf8-ascii [] tt
-      go (some t) k = k
+      go None k = utf8-ascii [] tt
+      go (Some t) k = k
 
   dash : Utf8 (ascii " - ")
   dash = utf8-ascii (ascii " - ") (omega arith, (omega arith, (omega arith, tt)))
 
   title-utf8 : (e d : Option (List ℕ)) → Present Utf8 e → Present Utf8 d → Present Utf8 (title_of e d)
-  title-utf8 e none h k = h
-  title-utf8 none (some d) h k = utf8_append (ascii " - ") d dash k
-  title-utf8 (some e) (some d) h k = utf8_append e _ h (utf8_append (ascii " - ") d dash k)
+  title-utf8 e None h k = h
+  title-utf8 None (Some d) h k = utf8_append (ascii " - ") d dash k
+  title-utf8 (Some e) (Some d) h k = utf8_append e _ h (utf8_append (ascii " - ") d dash k)
 
-  label-utf8 : (o : Option (List ℕ)) (n : MaybeNumber) → Present Utf8 o → Present Utf8 (label_of o n)
-  label-utf8 (some t) n h = h
-  label-utf8 none (Number n) h = visible_utf8 (decimal n) (decimal_visible n)
-  label-utf8 none NoNumber h = tt
+  label-utf8 : (o : Option (List ℕ)) (n : Option ℕ) → Present Utf8 o → Present Utf8 (label_of o n)
+  label-utf8 (Some t) n h = h
+  label-utf8 None (Some n) h = visible_utf8 (decimal n) (decimal_visible n)
+  label-utf8 None None h = tt
 
   cleaned-utf8 : (g : List ℕ → List ℕ) → ((t : List ℕ) → Utf8 t → Utf8 (g t)) → (o : Option (List ℕ)) → Present Utf8 o → Present Utf8 (map_option (λ t. clean p q (g t)) o)
-  cleaned-utf8 g k none h = tt
-  cleaned-utf8 g k (some t) h = utf8-clean p q f (g t) (k t h)
+  cleaned-utf8 g k None h = tt
+  cleaned-utf8 g k (Some t) h = utf8-clean p q f (g t) (k t h)
 
   room-utf8 : (l : List ℕ) → Utf8 l → Utf8 (ascii "o" ++ (l ++ (ascii ",BOARD " ++ l)))
   unfolding all_ascii
@@ -327,12 +322,12 @@ module _ (p q : ℕ) (f : Fit p q) (x : Pbn) (well : All (λ (y : Span). Utf8 (b
   raw-utf8 (c ∷ cs) h = (go (raw_of c) (all_left W (span_in (raw_of c)) _ h), raw-utf8 cs (all_right W (span_in (raw_of c)) _ h))
     where
       clean-present : (o : Option (List ℕ)) → Present Utf8 o → Present (λ (t : List ℕ). Utf8 (clean p q t)) o
-      clean-present none k = tt
-      clean-present (some t) k = utf8-clean p q f t k
+      clean-present None k = tt
+      clean-present (Some t) k = utf8-clean p q f t k
 
       go : (o : Option Span) → All W (span_in o) → Present (λ (t : List ℕ). Utf8 (clean p q t)) (annotation_by x.text x.notes o)
-      go none k = tt
-      go (some y) k =
+      go None k = tt
+      go (Some y) k =
           clean-present (annotation_text x.text x.notes (bytes_at x.text y))
           (annotation-utf8 x.text x.notes (all_right W (raw_spans x.calls) _ w₄) (bytes_at x.text y) k.0)
 
@@ -340,12 +335,12 @@ module _ (p q : ℕ) (f : Fit p q) (x : Pbn) (well : All (λ (y : Span). Utf8 (b
   unfolding from_board
   made-utf8 h =
       let b = x.board in
-      let label = label-utf8 (filled_by x.text b.id) b.number (filled_utf8 b.id (all_left W (span_in (option_of b.id)) _ w₃)) in
+      let label = label-utf8 (filled_by x.text b.id) b.number (filled_utf8 b.id (all_left W (span_in b.id) _ w₃)) in
       record {
         names = names-utf8 (pbn_names b) (unfold pbn_spans in all_left W (name_spans (pbn_names b)) _ well);
         title =
             cleaned-utf8 (λ t. t) (λ t k. k) (title_of (filled_by x.text b.event) (filled_by x.text b.date))
-            (title-utf8 (filled_by x.text b.event) (filled_by x.text b.date) (filled_utf8 b.event (all_left W (span_in (option_of b.event)) _ w₁)) (filled_utf8 b.date (all_left W (span_in (option_of b.date)) _ w₂)));
+            (title-utf8 (filled_by x.text b.event) (filled_by x.text b.date) (filled_utf8 b.event (all_left W (span_in b.event) _ w₁)) (filled_utf8 b.date (all_left W (span_in b.date) _ w₂)));
         room = cleaned-utf8 (λ l. ascii "o" ++ (l ++ (ascii ",BOARD " ++ l))) room-utf8 (label_of (filled_by x.text b.id) b.number) label;
         header = cleaned-utf8 (λ l. ascii "Board " ++ l) (λ l k. utf8_append (ascii "Board ") l (by-ascii (ascii "Board ") (unfold all_ascii in refl)) k) (label_of (filled_by x.text b.id) b.number) label;
         calls = kept-each p q Utf8 visible_utf8 x.text x.notes x.calls (calls-sound x h) (raw-utf8 x.calls (all_left W (raw_spans x.calls) _ w₄));
@@ -362,8 +357,8 @@ names-fine t at (n ∷ ns) r e h u =
     (fine t at n (concat ns ++ r) d h u.0, names-fine t (at + length n) ns r (after t at n (concat ns ++ r) d) (ends t at n (concat ns ++ r) d h) u.1)
 
 option_fine : (t : List ℕ) (at : ℕ) (o : Option (List ℕ)) (r : List ℕ) → drop at t ≡ or_empty o ++ r → at ≤ length t → Present Utf8 o → Present (Fine t) (laid_option at o)
-option_fine t at none r e h u = tt
-option_fine t at (some s) r e h u = fine t at s r e h u
+option_fine t at None r e h u = tt
+option_fine t at (Some s) r e h u = fine t at s r e h u
 
 calls-fine : (t : List ℕ) (at : ℕ) (cs : List (CallOf (List ℕ))) → drop at t ≡ call_texts cs → at ≤ length t → All (λ (c : CallOf (List ℕ)). Utf8 c.bid × Present Utf8 c.annotation) cs
     → All (λ (c : CallOf Span). Fine t c.bid × Present (Fine t) c.annotation) (laid_calls at cs)
@@ -410,30 +405,36 @@ laid_legal b u c =
     }
 
 module _ (p q : ℕ) (f : Fit p q) (x : Pbn) (o rows cards : List ℕ) where
-  abbrev stays : Conversion → Reading
-  stays c = record { heading = c.heading; rows = c.rows; cards = c.cards }
+  abbrev stays : Conversion → Heading → Reading
+  stays c h = record { heading = Ok h; rows = c.rows; cards = c.cards }
+
+  abbrev BackBy : Conversion → Answer Converted → Type 0
+  BackBy c (Err r) = Unit
+  BackBy c (Ok y) = Gives (take y.len c.output) (from_board p q x) (stays c y.heading)
 
   abbrev Back : Conversion → Type 0
-  Back c = c.heading.verdict ≡ Accepted → Gives (take c.len c.output) (from_board p q x) (stays c)
+  Back c = (y : Converted) → c.answer ≡ Ok y → Gives (take y.len c.output) (from_board p q x) (stays c y.heading)
 
   -- of a call that neither 8 nor 6 meets
   made_legal : bad_pbn x ≡ false → any (ill_span x.text) (pbn_spans x) ≡ false → Legal (board_texts (from_board p q x)) (laid (from_board p q x))
   unfolding from_board
   made_legal h k = laid_legal (from_board p q x) (made-utf8 p q f x (none-ill x.text (pbn_spans x) k) h) (kept-cards x h x.plays (plays-sound x h))
 
-  back : (a : Answer (BoardOf Span)) → ((b : BoardOf Span) → a ≡ accepted b → (laid (from_board p q x) ≡ b) × Legal (board_texts (from_board p q x)) (laid (from_board p q x)))
+  back : (a : Answer (BoardOf Span)) → ((b : BoardOf Span) → a ≡ Ok b → (laid (from_board p q x) ≡ b) × Legal (board_texts (from_board p q x)) (laid (from_board p q x)))
       → Back (converted a (board_texts (from_board p q x)) rows cards o)
-  back (refused r) h k = let z : ◌≡◌ {A = ℕ} 0 1 = cc in absurd (omega arith)
-  back (accepted b) h k =
+  back (Err r) h y k = let z : ◌≡◌ {A = ℕ} 0 1 = cc in absurd (omega arith)
+  back (Ok b) h y k =
       let t = board_texts (from_board p q x) in
       let e = front_of o t (length t) refl in
       let l = h b refl in
       let m : map_board (bytes_at t) b ≡ from_board p q x = ap (map_board (bytes_at t)) (sym l.0) ∙ laid_out (from_board p q x) in
-      rw e (subst (λ (y : BoardOf (List ℕ)). Gives t y (stored (accepted b) rows cards)) m (stored_gives t b (subst (Legal t) l.0 l.1) rows cards))
+      let g : BackBy (converted (Ok b) t rows cards o) (Ok (record { heading = heading_of b; len = length t })) =
+      rw e (subst (λ (y : BoardOf (List ℕ)). Gives t y (stored (Ok b) rows cards)) m (stored_gives t b (subst (Legal t) l.0 l.1) rows cards)) in
+      subst (BackBy (converted (Ok b) t rows cards o)) k g
 
   -- what passed the checks, whichever follow them
   made-passed : (other : Bool) (cs : List (Option Refusal)) (b : BoardOf Span)
-      → unless (too_long x.text ∷ refuse_if (other || bad_pbn x) OutOfRange ∷ past_end x.text (pbn_spans x) ∷ span_not_utf8 x.text (pbn_spans x) ∷ cs) (laid (from_board p q x)) ≡ accepted b
+      → unless (too_long x.text ∷ refuse_if (other || bad_pbn x) OutOfRange ∷ past_end x.text (pbn_spans x) ∷ span_not_utf8 x.text (pbn_spans x) ∷ cs) (laid (from_board p q x)) ≡ Ok b
       → (laid (from_board p q x) ≡ b) × Legal (board_texts (from_board p q x)) (laid (from_board p q x))
   made-passed other cs b e =
       let y = laid (from_board p q x) in

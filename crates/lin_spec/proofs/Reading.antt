@@ -1,11 +1,11 @@
 -- The spans of an answer: taken out of the text they are the bytes of the meaning, and they lie within the text; a refusal stores nothing. (01: Board)
 -- Assumes nothing.
+use Rattle.std.specs.Prelude.{Option, None, Some, Err, Ok}
 use Prim.Native.Nat.{ℕ, zero, suc, ◌+◌, ◌-◌, ◌≤◌}
 use native.Mathlib.Omega.{arith}
 use mathlib.Core.Path.{◌≡◌, refl, ap, sym, subst, ◌∙◌}
 use mathlib.Core.Bool.{Bool, true, false}
 use mathlib.Core.List.{List, [], ◌∷◌, ◌++◌, map}
-use mathlib.Core.Option.{Option, none, some}
 use lib.ListN.{length, take, drop, length-append, length-drop, length-take, drop_of_length-le}
 use lib.Seq.{take-take, take-append_seam, drop-drop}
 use Rattle.lin_spec.specs.Base.{pick, All, null, ascii}
@@ -19,9 +19,7 @@ use Rattle.lin_spec.specs.Cursor.Step.{found, ended}
 use Rattle.lin_spec.specs.Board.{CallOf, BoardOf, Text, named, without_end, only, annotated, over, on, non_empty, on_names, on_dealt, on_vulnerability, on_title, on_room, on_header, on_calls, on_play, on_claim, call_of, board_from, map_option, map_call, map_board, Present, EachText}
 use Rattle.lin_spec.specs.Reading.{bytes_text, span_text, placed, stream, parse_lin, parse_spans, stored}
 use Rattle.lin_spec.specs.Refusals.{Answer}
-use Rattle.lin_spec.specs.Refusals.Answer.{refused, accepted}
 use Rattle.lin_spec.specs.declared.Refusal.{Refusal}
-use Rattle.lin_spec.specs.declared.Verdict.TheVariants.{Refused}
 use Rattle.lin_spec.specs.declared.Span.{Span}
 use Rattle.lin_spec.proofs.Base.{picked, split, all_append}
 use Rattle.lin_spec.proofs.Tokens.{joined, Whole, joined-cut, whole-cut, cut-joined}
@@ -103,7 +101,7 @@ pub part_most : (s : List ℕ) (a n : ℕ) → length (part s a n) ≤ n
 unfolding part
 part_most s a n = rw (length-take n (drop a s)) (omega arith)
 
-option_out : {A B : Type 0} (f : A → B) (t : Bool) (v : A) → map_option f (pick t none (some v)) ≡ pick t none (some (f v))
+option_out : {A B : Type 0} (f : A → B) (t : Bool) (v : A) → map_option f (pick t None (Some v)) ≡ pick t None (Some (f v))
 option_out f true v = refl
 option_out f false v = refl
 
@@ -265,9 +263,9 @@ spans-within s =
           over-all W (All W) (on_names (span_text s))
           (λ c v b w h. picked (All W) (is_command c (ascii "pn")) (λ _. names-within s v w 0 (cut 0x2C (bytes_at s v)) b (rw (joined-cut 0x2C (bytes_at s v)) (omega arith)) h) (λ _. h))
           _ a _ (omega arith, (omega arith, (omega arith, (omega arith, tt))));
-      title = over-all W (Present W) (on_title (span_text s)) (value-within s (ascii "mn")) _ a none tt;
-      room = over-all W (Present W) (on_room (span_text s)) (value-within s (ascii "qx")) _ a none tt;
-      header = over-all W (Present W) (on_header (span_text s)) (λ c v b w h. picked (Present W) (is_command c (ascii "ah")) (λ _. w) (λ _. h)) _ a none tt;
+      title = over-all W (Present W) (on_title (span_text s)) (value-within s (ascii "mn")) _ a None tt;
+      room = over-all W (Present W) (on_room (span_text s)) (value-within s (ascii "qx")) _ a None tt;
+      header = over-all W (Present W) (on_header (span_text s)) (λ c v b w h. picked (Present W) (is_command c (ascii "ah")) (λ _. w) (λ _. h)) _ a None tt;
       calls =
           over-all W (All (CallWithin s)) (on_calls (span_text s))
           (λ c v b w h. picked (All (CallWithin s)) (is_command c (ascii "mb")) (λ _. all_append (CallWithin s) b _ h (call-within s v w, tt))
@@ -276,7 +274,7 @@ spans-within s =
     }
 
 -- "All lent memory stays": a reading that is refused changes neither rows nor cards.
-pub reading_stays : (a : Answer (BoardOf Span)) (rows cards : List ℕ) (r : Refusal) → (stored a rows cards).heading.verdict ≡ Refused r
+pub reading_stays : (a : Answer (BoardOf Span)) (rows cards : List ℕ) (r : Refusal) → (stored a rows cards).heading ≡ Err r
     → ((stored a rows cards).rows ≡ rows) × ((stored a rows cards).cards ≡ cards)
-reading_stays (refused q) rows cards r h = (refl, refl)
-reading_stays (accepted b) rows cards r h = let z : ◌≡◌ {A = ℕ} 0 1 = cc in absurd (omega arith)
+reading_stays (Err q) rows cards r h = (refl, refl)
+reading_stays (Ok b) rows cards r h = let z : ◌≡◌ {A = ℕ} 0 1 = cc in absurd (omega arith)

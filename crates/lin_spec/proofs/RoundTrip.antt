@@ -1,12 +1,12 @@
 -- The round trip of any list of boards: the file reader finds, in their written forms back to back, their settled forms. (01: Writer and settled form;
 -- File)
 -- Assumes nothing.
+use Rattle.std.specs.Prelude.{Option, None, Some}
 use Prim.Native.Nat.{ℕ, ◌+◌, ◌-◌, ◌<◌}
 use native.Mathlib.Omega.{arith}
 use mathlib.Core.Path.{◌≡◌, refl, ap, sym, ◌∙◌}
 use mathlib.Core.Bool.{Bool, true, false, ◌||◌}
 use mathlib.Core.List.{List, [], ◌∷◌, ◌++◌, map, append-nil}
-use mathlib.Core.Option.{Option, none, some}
 use lib.ListN.{length, take, drop, length-append}
 use lib.Seq.{take-append_seam}
 use lib.Dec.{ltb}
@@ -205,8 +205,8 @@ unfolding board_tokens body_tokens any is_command same_word lower trim trim_end 
 md-held p q lead b = ap (λ (t : Bool). is_command (lead ++ ascii "mn") (ascii "md") || t) (go b.header _) ∙ or-true (is_command (lead ++ ascii "mn") (ascii "md"))
   where
     go : (o : Option (List ℕ)) (ts : List Token) → holds (ascii "md") (header_tokens p q o ++ token (ascii "md") (md_text b.dealt) ∷ ts) ≡ true
-    go none ts = refl
-    go (some s) ts = refl
+    go None ts = refl
+    go (Some s) ts = refl
 
 module _ (p q : ℕ) (f : Fit p q) (b : BoardOf (List ℕ)) (v : Valid b) (lead : List ℕ) (l : Lead lead) where
   tokens-part : tokens (write (board_tokens p q lead b) []) ≡ board_tokens p q lead b

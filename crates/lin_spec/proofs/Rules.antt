@@ -1,10 +1,10 @@
 -- Laws of a board's rules: folds over tokens, md, and the digit rule. (01: Board)
 -- Assumes nothing.
+use Rattle.std.specs.Prelude.{Option, None, Some}
 use Prim.Native.Nat.{ℕ, ◌+◌, ◌-◌, ◌*◌, ◌≤◌}
 use mathlib.Core.Path.{◌≡◌, refl, ap, subst, ◌∙◌}
 use mathlib.Core.Bool.{Bool, true, false, ◌&&◌, not, false≢true}
 use mathlib.Core.List.{List, [], ◌∷◌, ◌++◌}
-use mathlib.Core.Option.{Option, none, some}
 use lib.Dec.{eqb, leb}
 use native.Mathlib.Omega.{arith}
 use borrow.Author.Tests.{leb-true, le-leb, eqb-true}
@@ -33,17 +33,17 @@ over-append f b (token c v ∷ ts) us = over-append f (f c v b) ts us
 
 -- md: "otherwise the token is skipped"; one that is accepted gives dealer and deal whole, whatever an earlier one gave
 
-pub md_skipped : (b : ℕ) (s : List ℕ) (d : Dealt) → dealer_of b ≡ none → read_md (b ∷ s) d ≡ d
+pub md_skipped : (b : ℕ) (s : List ℕ) (d : Dealt) → dealer_of b ≡ None → read_md (b ∷ s) d ≡ d
 unfolding read_md
 md_skipped b s d e = simp e
 
-pub md-whole : (b : ℕ) (s : List ℕ) (d : Dealt) (x : Seat) → dealer_of b ≡ some x → read_md (b ∷ s) d ≡ record { dealer = x; deal = deal_of (cut 0x2C s) }
+pub md-whole : (b : ℕ) (s : List ℕ) (d : Dealt) (x : Seat) → dealer_of b ≡ Some x → read_md (b ∷ s) d ≡ record { dealer = x; deal = deal_of (cut 0x2C s) }
 unfolding read_md
 md-whole b s d x e = simp e
 
 -- so a later accepted md replaces both
 pub md-later : {A : Type 0} (T : Text A) (ts : List (TokenOf A)) (c : List ℕ) (v : A) (b : ℕ) (s : List ℕ) (x : Seat)
-    → is_command c (ascii "md") ≡ true → trim (T.bytes v) ≡ b ∷ s → dealer_of b ≡ some x
+    → is_command c (ascii "md") ≡ true → trim (T.bytes v) ≡ b ∷ s → dealer_of b ≡ Some x
     → (board_from T (ts ++ (token c v ∷ []))).dealt ≡ record { dealer = x; deal = deal_of (cut 0x2C s) }
 unfolding board_from over
 md-later T ts c v b s x h e k = over-append (on_dealt T) _ ts (token c v ∷ []) ∙ simp (h, e) (md-whole b s _ x k)
@@ -66,7 +66,7 @@ unfolding value_from
 value-last n [] b = refl
 value-last n (a ∷ t) b = value-last (n * 10 + (a - 0x30)) t b
 
-number-plain : (bound : ℕ) (s t : List ℕ) (n : ℕ) → after_plus s ≡ t → null t ≡ false → all_digits t ≡ true → n ≡ value_from 0 t → n ≤ bound → number_in bound s ≡ some n
+number-plain : (bound : ℕ) (s t : List ℕ) (n : ℕ) → after_plus s ≡ t → null t ≡ false → all_digits t ≡ true → n ≡ value_from 0 t → n ≤ bound → number_in bound s ≡ Some n
 unfolding number_in
 number-plain bound s t n a z d e w =
     let l : leb (value_from 0 t) bound ≡ true = le-leb (value_from 0 t) bound (rw e at w) in
@@ -84,7 +84,7 @@ digit_no_plus (b ∷ t) h = go (eqb b 0x2B) refl
         let z = eqb-true b 0x2B e in
         absurd (let w : ⊥ = omega arith in w)
 
-pub number_is : (bound : ℕ) (s : List ℕ) (n : ℕ) → Number bound s n → number_in bound s ≡ some n
+pub number_is : (bound : ℕ) (s : List ℕ) (n : ℕ) → Number bound s n → number_in bound s ≡ Some n
 number_is bound s n d = number-plain bound s d.digits n (go d.plus d.text) d.some-digit d.all_digits d.value d.within
   where
     go : (p : Bool) → s ≡ pick p (0x2B ∷ d.digits) d.digits → after_plus s ≡ d.digits
@@ -104,8 +104,8 @@ plus_of (b ∷ s) = go (eqb b 0x2B) refl
     go false e = record { plus = false; text = simp e }
 
 abbrev NumberOr : (bound : ℕ) (s : List ℕ) → Option ℕ → Type 0
-NumberOr bound s none = Unit
-NumberOr bound s (some n) = Number bound s n
+NumberOr bound s None = Unit
+NumberOr bound s (Some n) = Number bound s n
 
 number_or : (bound : ℕ) (s : List ℕ) → NumberOr bound s (number_in bound s)
 unfolding number_in
@@ -128,5 +128,5 @@ number_or bound s =
     not-false true h = absurd (false≢true h)
     not-false false h = refl
 
-pub number-only : (bound : ℕ) (s : List ℕ) (n : ℕ) → number_in bound s ≡ some n → Number bound s n
+pub number-only : (bound : ℕ) (s : List ℕ) (n : ℕ) → number_in bound s ≡ Some n → Number bound s n
 number-only bound s n e = subst (NumberOr bound s) e (number_or bound s)

@@ -1,11 +1,11 @@
 -- Settling a settled board changes nothing. (01: Writer and settled form)
 -- Assumes nothing.
+use Rattle.std.specs.Prelude.{Option, None, Some}
 use Prim.Native.Nat.{ℕ, ◌*◌, ◌≤◌}
 use native.Mathlib.Omega.{arith}
 use mathlib.Core.Path.{◌≡◌, refl, ap, sym, subst, ◌∙◌}
 use mathlib.Core.Bool.{Bool, true, false, ◌&&◌, ◌||◌, not, or-false}
 use mathlib.Core.List.{List, [], ◌∷◌, ◌++◌, map, append_assoc}
-use mathlib.Core.Option.{Option, none, some}
 use lib.ListN.{length, take, drop, length-append, length-take, length-drop}
 use lib.Seq.{take_at, drop_at, take-length}
 use lib.Dec.{eqb}
@@ -120,16 +120,16 @@ module _ (p q : ℕ) (f : Fit p q) where
   names_twice (n ∷ ns) = simp (name_name p q f n, names_twice ns)
 
   option_twice : (o : Option (List ℕ)) → map_option (clean p q) (map_option (clean p q) o) ≡ map_option (clean p q) o
-  option_twice none = refl
-  option_twice (some s) = ap (λ (t : List ℕ). some t) (clean-clean p q f s)
+  option_twice None = refl
+  option_twice (Some s) = ap (λ (t : List ℕ). Some t) (clean-clean p q f s)
 
   present_twice : (o : Option (List ℕ)) → present (map_option (clean p q) (present (map_option (clean p q) o))) ≡ present (map_option (clean p q) o)
-  present_twice none = refl
-  present_twice (some s) = go (clean p q s) (clean-clean p q f s)
+  present_twice None = refl
+  present_twice (Some s) = go (clean p q s) (clean-clean p q f s)
     where
-      go : (t : List ℕ) → clean p q t ≡ t → present (map_option (clean p q) (present (some t))) ≡ present (some t)
+      go : (t : List ℕ) → clean p q t ≡ t → present (map_option (clean p q) (present (Some t))) ≡ present (Some t)
       go [] e = refl
-      go (b ∷ t) e = ap (λ (x : List ℕ). present (some x)) e
+      go (b ∷ t) e = ap (λ (x : List ℕ). present (Some x)) e
 
   abbrev one : CallOf (List ℕ) → CallOf (List ℕ)
   one c = settled_call (map_call (clean p q) c)

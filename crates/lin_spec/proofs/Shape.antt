@@ -1,9 +1,9 @@
 -- "Every written board has one md and one qx token, before the qx none but mn and pn", and its trailing text is one LF. (01: Writer and settled form)
 -- Assumes nothing.
+use Rattle.std.specs.Prelude.{Option, None, Some}
 use Prim.Native.Nat.{ℕ, suc}
 use mathlib.Core.Path.{◌≡◌, refl, ap, ◌∙◌}
 use mathlib.Core.List.{List, [], ◌∷◌, ◌++◌}
-use mathlib.Core.Option.{Option, none, some}
 use Rattle.lin_spec.specs.Base.{All, keep, count_if, eq_all, starts, ascii}
 use Rattle.lin_spec.specs.Utf8.{encode}
 use Rattle.lin_spec.specs.White.{is_command, same_word, lower, trim, trim_end, trim_start, skip_white, blank, white_at, front, white_space}
@@ -40,8 +40,8 @@ module _ (p q : ℕ) (b : BoardOf (List ℕ)) where
     where
       go : (o : Option (List ℕ)) (x y : List ℕ) (ts : List Token) → how_many (ascii "md") ts ≡ 0
           → how_many (ascii "md") (header_tokens p q o ++ token (ascii "md") (md_text b.dealt) ∷ token (ascii "sv") x ∷ token (ascii "\nsa") y ∷ ts) ≡ 1
-      go none x y ts e = ap (λ (n : ℕ). suc n) e
-      go (some s) x y ts e = ap (λ (n : ℕ). suc n) e
+      go None x y ts e = ap (λ (n : ℕ). suc n) e
+      go (Some s) x y ts e = ap (λ (n : ℕ). suc n) e
 
   qxs : how_many (ascii "qx") (board_tokens p q [] b) ≡ 1
   unfolding board_tokens keep is_command same_word lower trim trim_end trim_start skip_white blank white_at front white_space encode starts eq_all

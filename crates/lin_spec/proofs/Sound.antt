@@ -1,12 +1,12 @@
 -- A written board reads back as its tokens: no command or value holds a pipe; there is one md and one qx, before the qx stand mn and pn alone, and the
 -- trailing text is one LF. And it is UTF-8 if its texts are. (01: Writer and settled form)
 -- Assumes nothing.
+use Rattle.std.specs.Prelude.{Option, Some, None}
 use Prim.Native.Nat.{ℕ, ◌≤◌, ◌<◌}
 use native.Mathlib.Omega.{arith}
 use mathlib.Core.Path.{◌≡◌, refl, sym, subst, ◌∙◌}
 use mathlib.Core.Bool.{Bool, true, ◌&&◌}
 use mathlib.Core.List.{List, [], ◌∷◌, ◌++◌, map}
-use mathlib.Core.Option.{Option, none, some}
 use lib.ListN.{length}
 use lib.Dec.{leb}
 use borrow.Author.Tests.{leb-true}
@@ -18,7 +18,7 @@ use Rattle.lin_spec.specs.Letters.{sv_letter}
 use Rattle.lin_spec.specs.Board.{CallOf, BoardOf, Present, all_digits, is_digit}
 use Rattle.lin_spec.specs.Writer.{clean, clean_name, or_empty, card_letters, md_text, written}
 use Rattle.lin_spec.specs.declared.Vulnerability.{Vulnerability}
-use Rattle.lin_spec.specs.declared.Vulnerability.TheVariants.{None, NorthSouth, EastWest, Both}
+use Rattle.lin_spec.specs.declared.Vulnerability.TheVariants.{NorthSouth, EastWest, Both}
 use Rattle.lin_spec.proofs.Base.{picked, and_left, and_right, all_below, below}
 use Rattle.lin_spec.proofs.White.{Visible}
 use Rattle.lin_spec.proofs.Tokens.{count-append, ReadsBack, read-written}
@@ -65,7 +65,7 @@ pub decimal_visible : (n : ℕ) → All Visible (decimal n)
 decimal_visible n = digits_visible (decimal n) (decimal_digits n)
 
 pub sv_visible : (v : Vulnerability) → All Visible (sv_letter v ∷ [])
-sv_visible None = ((omega arith, omega arith), tt)
+sv_visible Vulnerability.None = ((omega arith, omega arith), tt)
 sv_visible NorthSouth = ((omega arith, omega arith), tt)
 sv_visible EastWest = ((omega arith, omega arith), tt)
 sv_visible Both = ((omega arith, omega arith), tt)
@@ -96,8 +96,8 @@ module _ (p q : ℕ) (P : List ℕ → Type 0) (seen : (s : List ℕ) → All Vi
       all-cards (c ∷ cs) h = (seen (card_letters c) (card_visible c h.0), all-cards cs h.1)
 
       claimed : (o : Option ℕ) → Present (λ (n : ℕ). P (decimal n)) o
-      claimed none = tt
-      claimed (some n) = seen (decimal n) (decimal_visible n)
+      claimed None = tt
+      claimed (Some n) = seen (decimal n) (decimal_visible n)
 
 -- No pipe
 
@@ -122,8 +122,8 @@ module _ (p q : ℕ) (f : Fit p q) where
   pipeless_names (n ∷ ns) = (free_pipe (clean_name p q n) (free_name p q f n), pipeless_names ns)
 
   pipeless_option : (o : Option (List ℕ)) → Present (λ (s : List ℕ). Pipeless (clean p q s)) o
-  pipeless_option none = tt
-  pipeless_option (some s) = pipeless_clean s
+  pipeless_option None = tt
+  pipeless_option (Some s) = pipeless_clean s
 
   pipeless_calls : (cs : List (CallOf (List ℕ))) → All (λ (c : CallOf (List ℕ)). Pipeless (bid_text p q c) × Present (λ (s : List ℕ). Pipeless (clean p q s)) c.annotation) cs
   unfolding keep

@@ -1,13 +1,13 @@
 -- The third demand: what any list of append calls leaves in the output is what the plain book holds, and the file reader finds its boards in it.
 -- (01: Writer, "For the third demand ..")
 -- Assumes nothing.
+use Rattle.std.specs.Prelude.{Option, Err, Ok}
 use Prim.Native.Nat.{ℕ, zero, suc, ◌+◌, ◌*◌, ◌/◌, ◌≤◌, ◌<◌, min}
 use native.Mathlib.Nat.{le_of_suc-le-suc}
 use native.Mathlib.Omega.{arith}
 use mathlib.Core.Path.{◌≡◌, refl, ap, sym, subst, ◌∙◌}
 use mathlib.Core.Bool.{Bool, true, false, ◌||◌, not, false≢true, or-false}
 use mathlib.Core.List.{List, [], ◌∷◌, ◌++◌, map, append_assoc, append-nil}
-use mathlib.Core.Option.{Option}
 use lib.ListN.{length, take, drop, get_or, length-append, length-take, length-drop, length-map, get_or-map}
 use lib.Seq.{take_at}
 use lib.Dec.{ltb, leb}
@@ -16,7 +16,6 @@ use Rattle.lin_spec.specs.Writer.{pipe_mark, line_mark}
 use Rattle.lin_spec.specs.Base.{pick, All, any, keep, count_if, concat}
 use Rattle.lin_spec.specs.Records.{bytes_at, limit}
 use Rattle.lin_spec.specs.Refusals.{Answer, refuse_if, unless, passes_end, ill_span, sat}
-use Rattle.lin_spec.specs.Refusals.Answer.{refused, accepted}
 use Rattle.lin_spec.specs.Utf8.{utf8}
 use Rattle.lin_spec.specs.Output.{overlay, room}
 use Rattle.lin_spec.specs.Board.{BoardOf, map_call, map_board, EachText}
@@ -117,8 +116,8 @@ module _ (rm : ℕ) (st : State) (k : Log) (h : Same rm st k) (a : Asked) where
   refuses e = leaves ∙ go answer (sym answers ∙ e)
     where
       go : (r : Answer ℕ) → accepts r ≡ false → left r ≡ st
-      go (refused r) k = refl
-      go (accepted n) k = absurd (false≢true (sym k))
+      go (Err r) k = refl
+      go (Ok n) k = absurd (false≢true (sym k))
 
   -- of a call that none meets
   record Unmet : Type 0 where
@@ -165,17 +164,17 @@ module _ (rm : ℕ) (st : State) (k : Log) (h : Same rm st k) (a : Asked) where
         within = omega arith;
       }
 
-  accepted-is : (n : ℕ) → answer ≡ accepted n → n ≡ u + length s
+  accepted-is : (n : ℕ) → answer ≡ Ok n → n ≡ u + length s
   accepted-is n e = sym (unless-same checks (u + length s) n e)
 
   kept : Same rm (event st a).next (entered rm k a)
   kept = go (meets rm k a) refl answer refl
     where
       go : (t : Bool) → meets rm k a ≡ t → (r : Answer ℕ) → answer ≡ r → Same rm (event st a).next (entered rm k a)
-      go true e (refused r) d = rw (leaves ∙ ap left d, stays-entered e) h
-      go true e (accepted n) d = absurd (false≢true (sym (sym (ap accepts d) ∙ decides ∙ ap not e)))
-      go false e (refused r) d = absurd (false≢true (sym (ap accepts d) ∙ decides ∙ ap not e))
-      go false e (accepted n) d =
+      go true e (Err r) d = rw (leaves ∙ ap left d, stays-entered e) h
+      go true e (Ok n) d = absurd (false≢true (sym (sym (ap accepts d) ∙ decides ∙ ap not e)))
+      go false e (Err r) d = absurd (false≢true (sym (ap accepts d) ∙ decides ∙ ap not e))
+      go false e (Ok n) d =
           rw (leaves ∙ ap left d ∙ ap (λ (m : ℕ). record { output = overlay o u s; used = m }) (accepted-is n d), grows e) (same-grown e)
 
 -- The log holds the written forms and the settled forms of boards that read back
@@ -286,14 +285,15 @@ unfolding meaning
 meaning_back t b = ap (map_board (bytes_at t)) (lent_back t b)
 
 -- what was stored of a board over the text t, lent again, is its meaning
-pub stored_gives : (t : List ℕ) (b : BoardOf Span) → Legal t b → (rows cards : List ℕ) → Gives t (map_board (bytes_at t) b) (stored (accepted b) rows cards)
+pub stored_gives : (t : List ℕ) (b : BoardOf Span) → Legal t b → (rows cards : List ℕ) → Gives t (map_board (bytes_at t) b) (stored (Ok b) rows cards)
 unfolding map_board
 stored_gives t b h rows cards =
-    let e : again t (stored (accepted b) rows cards) ≡ stored_again t b =
+    let e : again t (heading_of b) (overlay rows 0 (call_words b.calls)) (overlay cards 0 b.play) ≡ stored_again t b =
     ap (λ (ws : List ℕ). lent t (heading_of b).board ws (take (length b.play) (overlay cards 0 b.play))) (front_of rows (call_words b.calls) (length b.calls * 6) (words-length b.calls))
     ∙ ap (λ (cs : List ℕ). lent t (heading_of b).board (call_words b.calls) cs) (front_of cards b.play (length b.play) refl) in
     record {
-      verdict = refl;
+      heading = heading_of b;
+      given = refl;
       calls = sym (length-map b.calls (map_call (bytes_at t)));
       cards = refl;
       board = ap meaning e ∙ meaning_back t b;
@@ -316,9 +316,9 @@ module _ (t : List ℕ) (short : length t ≤ limit) (good : Utf8 t) (L : List (
   as_many : length (file_spans t) ≡ length L
   as_many = boards-many t ∙ ap length means
 
-  read_count : count_boards t ≡ accepted (length L)
+  read_count : count_boards t ≡ Ok (length L)
   unfolding count_boards unless
-  read_count = simp (le-ltb limit (length t) short, good) (ap (λ (n : ℕ). accepted n) as_many)
+  read_count = simp (le-ltb limit (length t) short, good) (ap (λ (n : ℕ). Ok n) as_many)
 
   module _ (n : ℕ) (below : n < length L) (d : BoardOf (List ℕ)) (rows cards : List ℕ) (r : length (get_or L n d).calls ≤ length rows / 6) (c : length (get_or L n d).play ≤ length cards) where
     abbrev b : BoardOf Span
@@ -337,7 +337,7 @@ module _ (t : List ℕ) (short : length t ≤ limit) (good : Utf8 t) (L : List (
     unfolding map_board
     cards-many = ap (λ (x : BoardOf (List ℕ)). length x.play) board_means
 
-    reads : file_board t n rows cards ≡ stored (accepted b) rows cards
+    reads : file_board t n rows cards ≡ stored (Ok b) rows cards
     unfolding file_board unless
     reads =
         let m = as_many in

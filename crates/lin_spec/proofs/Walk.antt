@@ -1,13 +1,14 @@
 -- Steps over a file from its first byte: they give each board once, by its number, and end; a step that reads gives what reading by that number gives;
 -- and the first refusal by 2 carries the text's own longest well-formed start. (01: File; Eight refusals, 2)
 -- Assumes nothing.
+use Rattle.lin_spec.specs.declared.Heading.{Heading}
+use Rattle.std.specs.Prelude.{Option, None, Some, Err, Ok}
 use Prim.Native.Nat.{ℕ, zero, suc, ◌+◌, ◌-◌, ◌/◌, ◌≤◌, ◌<◌}
 use native.Mathlib.Nat.{not-suc-le-zero, le_of_suc-le-suc}
 use native.Mathlib.Omega.{arith}
 use mathlib.Core.Path.{◌≡◌, refl, ap, sym, subst, ◌∙◌}
 use mathlib.Core.Bool.{Bool, true, false, not, false≢true}
 use mathlib.Core.List.{List, [], ◌∷◌}
-use mathlib.Core.Option.{Option, none, some}
 use lib.ListN.{length, drop, get_or, length-drop, length-map, drop_of_length-le}
 use lib.Seq.{get_or-drop, drop-drop, take-length}
 use lib.Dec.{ltb}
@@ -16,7 +17,6 @@ use Rattle.lin_spec.specs.Base.{pick, ascii}
 use Rattle.lin_spec.specs.Records.{limit, part}
 use Rattle.lin_spec.specs.Utf8.{utf8, longest}
 use Rattle.lin_spec.specs.Refusals.{Answer, refuse_if, unless, too_long, not_utf8, sat}
-use Rattle.lin_spec.specs.Refusals.Answer.{refused, accepted}
 use Rattle.lin_spec.specs.Reading.{stream, Reading, few_rows, stored}
 use Rattle.lin_spec.specs.File.{Section, section, holds, sections, boards_of, board_in, file_spans, no_board, numbered, file_board, Standing, Visit, remaining, first_of, after, visit, next_board, open_boards}
 use Rattle.lin_spec.specs.File.{looked_at, not_utf8_from, few_in, ReadStep, unread, read_by, read_step}
@@ -24,8 +24,6 @@ use Rattle.lin_spec.specs.File.Visit.{found, ended}
 use Rattle.lin_spec.specs.declared.Refusal.{Refusal}
 use Rattle.lin_spec.specs.declared.Refusal.TheVariants.{TextTooLong, NotUtf8, TooFewRows}
 use Rattle.lin_spec.specs.declared.RowKind.TheVariants.{Calls, Cards}
-use Rattle.lin_spec.specs.declared.Verdict.{Verdict}
-use Rattle.lin_spec.specs.declared.Verdict.TheVariants.{Accepted, Refused}
 use Rattle.lin_spec.proofs.Base.{split}
 use Rattle.lin_spec.proofs.Checks.{unmet, unless-same}
 use Rattle.lin_spec.proofs.Utf8.{utf8-ascii, longest_most, whole-text}
@@ -93,20 +91,20 @@ module _ (s : List ℕ) (o : Opened s) where
 
 -- What a step that reads gives, as a reading
 
-abbrev pub verdict_of : {A : Type 0} → Answer A → Verdict
-verdict_of (refused r) = Refused r
-verdict_of (accepted x) = Accepted
+abbrev pub heading_by : {A : Type 0} → Answer A → Heading → Answer Heading
+heading_by (Err r) h = Err r
+heading_by (Ok x) h = Ok h
 
 abbrev pub reading_of : ReadStep → Reading
-reading_of t = record { heading = record { verdict = verdict_of t.answer; board = t.board; calls = t.calls; cards = t.play }; rows = t.rows; cards = t.cards }
+reading_of t = record { heading = heading_by t.answer (record { board = t.board; calls = t.calls; cards = t.play }); rows = t.rows; cards = t.cards }
 
 -- by the checks that are left
 read_is : (s : List ℕ) (c : Standing) (n : ℕ) (p : Section) (d : Standing) (rows cards : List ℕ) (cs : List (Option Refusal))
     → reading_of (read_by s c (unless cs (found n p d)) rows cards) ≡ stored (unless cs (board_in s p)) rows cards
 unfolding unless
 read_is s c n p d rows cards [] = refl
-read_is s c n p d rows cards (none ∷ cs) = read_is s c n p d rows cards cs
-read_is s c n p d rows cards (some r ∷ cs) = refl
+read_is s c n p d rows cards (None ∷ cs) = read_is s c n p d rows cards cs
+read_is s c n p d rows cards (Some r ∷ cs) = refl
 
 front_at : {A : Type 0} (l : List A) (k : ℕ) (x : A) (r : List A) (d : A) → drop k l ≡ x ∷ r → (k < length l) × (get_or l k d ≡ x)
 front_at {A} l k x r d e =
@@ -122,7 +120,7 @@ pub data Reached (s : List ℕ) (a : Standing) : Standing → Type 0 where
   by-board : {c d : Standing} {n : ℕ} {p : Section} → Reached s a c → next_board s c ≡ found n p d → Reached s a d
 
 -- what opening says
-opened-at : (s : List ℕ) (a : Standing) → open_boards s ≡ accepted a → Opened s
+opened-at : (s : List ℕ) (a : Standing) → open_boards s ≡ Ok a → Opened s
 unfolding open_boards
 opened-at s a e =
     let c : Standing = record { at = 0; number = 0; lines = not (holds (ascii "qx") (stream s 0)) } in
@@ -130,11 +128,11 @@ opened-at s a e =
     let q = unmet (not (utf8 s)) _ [] c a p.1 in
     record { short = ltb-false limit (length s) p.0; good = not-false (utf8 s) q.0 }
 
-first-at : (s : List ℕ) (a : Standing) → open_boards s ≡ accepted a → a ≡ record { at = 0; number = 0; lines = not (holds (ascii "qx") (stream s 0)) }
+first-at : (s : List ℕ) (a : Standing) → open_boards s ≡ Ok a → a ≡ record { at = 0; number = 0; lines = not (holds (ascii "qx") (stream s 0)) }
 unfolding open_boards
 first-at s a e = sym (unless-same (too_long s ∷ not_utf8 s ∷ []) _ a e)
 
-module _ (s : List ℕ) (a : Standing) (e : open_boards s ≡ accepted a) where
+module _ (s : List ℕ) (a : Standing) (e : open_boards s ≡ Ok a) where
   o : Opened s
   o = opened-at s a e
 
@@ -159,19 +157,19 @@ module _ (s : List ℕ) (a : Standing) (e : open_boards s ≡ accepted a) where
       let w = on_way c r in
       let f = next-is s c (found n p d) v in
       let b : numbered s n ≡ board_in s p = get_d_map (board_in s) (boards_of (sections s)) n (section 0 0 false) ∙ ap (board_in s) is.1 in
-      let k : no_board n (length (file_spans s)) ≡ none = simp (lt-leb (length (file_spans s)) n (let i = is.0 in let z = length-map (boards_of (sections s)) (board_in s) in omega arith)) in
-      let l : too_long s ≡ none = simp (le-ltb limit (length s) o.short) in
+      let k : no_board n (length (file_spans s)) ≡ None = simp (lt-leb (length (file_spans s)) n (let i = is.0 in let z = length-map (boards_of (sections s)) (board_in s) in omega arith)) in
+      let l : too_long s ≡ None = simp (le-ltb limit (length s) o.short) in
       let g : utf8 (part s c.at (p.stop - c.at)) ≡ true = (bounded-utf8 s c.at _ d.at (bounded s c n p d f) w.good).0 in
-      let u : not_utf8_from c.at (part s c.at (p.stop - c.at)) ≡ none = simp g in
-      let y : not_utf8 s ≡ none = simp o.good in
+      let u : not_utf8_from c.at (part s c.at (p.stop - c.at)) ≡ None = simp g in
+      let y : not_utf8 s ≡ None = simp o.good in
       rw (v, b, k, l, u, y) (read_is s c n p d rows cards (few_rows (board_in s p) rows cards))
 
   -- At the end there is none, which is no refusal, and the cursor stays.
-  pub read-end : (c : Standing) → Reached s a c → next_board s c ≡ ended c → (rows cards : List ℕ) → read_step s c rows cards ≡ unread (accepted (ended c)) c rows cards
+  pub read-end : (c : Standing) → Reached s a c → next_board s c ≡ ended c → (rows cards : List ℕ) → read_step s c rows cards ≡ unread (Ok (ended c)) c rows cards
   unfolding read_step unless
   read-end c r v rows cards =
-      let l : too_long s ≡ none = simp (le-ltb limit (length s) o.short) in
-      let u : not_utf8_from c.at (drop c.at s) ≡ none = simp (on_way c r).good in
+      let l : too_long s ≡ None = simp (le-ltb limit (length s) o.short) in
+      let u : not_utf8_from c.at (drop c.at s) ≡ None = simp (on_way c r).good in
       rw (v, l, u) refl
 
 -- Steps to the next board from a cursor on, the first of which says the number n: they give these boards, each with a number one higher, and then none.
@@ -195,7 +193,7 @@ pub record StepAt (s : List ℕ) (a : Standing) (n : ℕ) : Type 0 where
   pub reached : Reached s a cursor
   pub says : next_board s cursor ≡ found n place next
 
-module _ (s : List ℕ) (a : Standing) (e : open_boards s ≡ accepted a) where
+module _ (s : List ℕ) (a : Standing) (e : open_boards s ≡ Ok a) where
   walk-by : (ps : List Section) (c : Standing) → Reached s a c → boards_of (remaining s c) ≡ ps → Walk s c.number c ps
   unfolding next_board
   walk-by [] c r f = stop (ap (first_of c) f)
@@ -247,7 +245,7 @@ module _ (s : List ℕ) (a : Standing) (e : open_boards s ≡ accepted a) where
 
 pub data Read (s : List ℕ) : Standing → Type 0 where
   begin : (number : ℕ) (lines : Bool) → Read s (record { at = 0; number = number; lines = lines })
-  on : {c d : Standing} {n : ℕ} {p : Section} (rows cards : List ℕ) → Read s c → (read_step s c rows cards).answer ≡ accepted (found n p d) → Read s d
+  on : {c d : Standing} {n : ℕ} {p : Section} (rows cards : List ℕ) → Read s c → (read_step s c rows cards).answer ≡ Ok (found n p d) → Read s d
 
 module _ (s : List ℕ) (c : Standing) (rows cards : List ℕ) where
   abbrev pub checked : Answer Visit
@@ -258,12 +256,12 @@ module _ (s : List ℕ) (c : Standing) (rows cards : List ℕ) where
   answer-is = go checked
     where
       go : (x : Answer Visit) → (read_by s c x rows cards).answer ≡ x
-      go (refused r) = refl
-      go (accepted (found n p d)) = refl
-      go (accepted (ended d)) = refl
+      go (Err r) = refl
+      go (Ok (found n p d)) = refl
+      go (Ok (ended d)) = refl
 
   -- an accepted step gives the next board, and the bytes that it looked at are UTF-8
-  pub accepted_step : (v : Visit) → (read_step s c rows cards).answer ≡ accepted v → (next_board s c ≡ v) × (utf8 (looked_at s c v) ≡ true)
+  pub accepted_step : (v : Visit) → (read_step s c rows cards).answer ≡ Ok v → (next_board s c ≡ v) × (utf8 (looked_at s c v) ≡ true)
   accepted_step v e =
       let h = sym answer-is ∙ e in
       let p = unmet (ltb limit (length s)) _ _ (next_board s c) v h in
@@ -272,22 +270,22 @@ module _ (s : List ℕ) (c : Standing) (rows cards : List ℕ) where
       (n, subst (λ (x : Visit). utf8 (looked_at s c x) ≡ true) n (not-false _ q.0))
 
   -- a step that 2 refuses looked at bytes that are not UTF-8
-  pub ill_step : (k : ℕ) → (read_step s c rows cards).answer ≡ refused (NotUtf8 k)
+  pub ill_step : (k : ℕ) → (read_step s c rows cards).answer ≡ Err (NotUtf8 k)
       → (utf8 (looked_at s c (next_board s c)) ≡ false) × (k ≡ c.at + longest (looked_at s c (next_board s c)))
   unfolding unless
   ill_step k e = go (ltb limit (length s)) (utf8 (looked_at s c (next_board s c))) refl (next_board s c) (sym answer-is ∙ e)
     where
-      few : (v w : Visit) → unless (few_in s v rows cards) w ≡ refused (NotUtf8 k) → ⊥
+      few : (v w : Visit) → unless (few_in s v rows cards) w ≡ Err (NotUtf8 k) → ⊥
       few (found n p d) w h = two (ltb (length rows / 6) (length (board_in s p).calls)) (ltb (length cards) (length (board_in s p).play)) h
         where
-          two : (t u : Bool) → unless (refuse_if t (TooFewRows Calls (length (board_in s p).calls)) ∷ refuse_if u (TooFewRows Cards (length (board_in s p).play)) ∷ []) w ≡ refused (NotUtf8 k) → ⊥
+          two : (t u : Bool) → unless (refuse_if t (TooFewRows Calls (length (board_in s p).calls)) ∷ refuse_if u (TooFewRows Cards (length (board_in s p).play)) ∷ []) w ≡ Err (NotUtf8 k) → ⊥
           two true u h = let z : ◌≡◌ {A = ℕ} 0 1 = cc in omega arith
           two false true h = let z : ◌≡◌ {A = ℕ} 0 1 = cc in omega arith
           two false false h = let z : ◌≡◌ {A = ℕ} 0 1 = cc in omega arith
       few (ended d) w h = let z : ◌≡◌ {A = ℕ} 0 1 = cc in omega arith
 
       go : (t g : Bool) → utf8 (looked_at s c (next_board s c)) ≡ g → (w : Visit)
-          → unless (refuse_if t TextTooLong ∷ refuse_if (not g) (NotUtf8 (c.at + longest (looked_at s c (next_board s c)))) ∷ few_in s (next_board s c) rows cards) w ≡ refused (NotUtf8 k)
+          → unless (refuse_if t TextTooLong ∷ refuse_if (not g) (NotUtf8 (c.at + longest (looked_at s c (next_board s c)))) ∷ few_in s (next_board s c) rows cards) w ≡ Err (NotUtf8 k)
           → (utf8 (looked_at s c (next_board s c)) ≡ false) × (k ≡ c.at + longest (looked_at s c (next_board s c)))
       go true g f w h = let z : ◌≡◌ {A = ℕ} 0 1 = cc in absurd (omega arith)
       go false false f w h = (f, cc)
@@ -304,7 +302,7 @@ read_past s d (on {c = c} {n = n} {p = p} rows cards r e) h =
     let m = bounded-past s c.at _ d.at (bounded s c n p d f) v.1 l h in
     omega arith
 
-pub first-ill : (s : List ℕ) (c : Standing) → Read s c → (rows cards : List ℕ) (k : ℕ) → (read_step s c rows cards).answer ≡ refused (NotUtf8 k) → k ≡ longest s
+pub first-ill : (s : List ℕ) (c : Standing) → Read s c → (rows cards : List ℕ) (k : ℕ) → (read_step s c rows cards).answer ≡ Err (NotUtf8 k) → k ≡ longest s
 first-ill s c r rows cards k e =
     let i = ill_step s c rows cards k e in
     i.1 ∙ go (next_board s c) refl i.0
@@ -321,7 +319,7 @@ first-ill s c r rows cards k e =
         (λ l. absurd (false≢true (sym g ∙ ap utf8 (drop_of_length-le s l) ∙ utf8-ascii [] tt)))
 
 -- A refused step stores nothing, and hands the cursor back where it stood.
-pub refused_step : (s : List ℕ) (c : Standing) (rows cards : List ℕ) (r : Refusal) → (read_step s c rows cards).answer ≡ refused r → read_step s c rows cards ≡ unread (refused r) c rows cards
+pub refused_step : (s : List ℕ) (c : Standing) (rows cards : List ℕ) (r : Refusal) → (read_step s c rows cards).answer ≡ Err r → read_step s c rows cards ≡ unread (Err r) c rows cards
 unfolding read_step
 refused_step s c rows cards r e = ap (λ (x : Answer Visit). read_by s c x rows cards) (sym (answer-is s c rows cards) ∙ e)
 
@@ -346,21 +344,21 @@ module _ (s : List ℕ) where
       let q : length s ≤ d.at = omega arith in
       whole_from c.at (omega arith) (read_past s c r (omega arith)) (bounded-whole s c.at _ d.at (bounded s c n p d f) v.1 (drop_of_length-le s q))
 
-  pub walk-whole : (c : Standing) → Read s c → (rows cards : List ℕ) (d : Standing) → (read_step s c rows cards).answer ≡ accepted (ended d) → utf8 s ≡ true
+  pub walk-whole : (c : Standing) → Read s c → (rows cards : List ℕ) (d : Standing) → (read_step s c rows cards).answer ≡ Ok (ended d) → utf8 s ≡ true
   walk-whole c r rows cards d e =
       split (length s) c.at (λ h. read_whole c r h) (λ h. whole_from c.at h (read_past s c r h) (accepted_step s c rows cards (ended d) e).1)
 
 -- A step that reads, with rows and places enough, gives what the step to the next board gives.
 
-pub read-accepted : (s : List ℕ) (a : Standing) (e : open_boards s ≡ accepted a) (c : Standing) → Reached s a c → (n : ℕ) (p : Section) (d : Standing) → next_board s c ≡ found n p d
-    → (rows cards : List ℕ) → length (board_in s p).calls ≤ length rows / 6 → length (board_in s p).play ≤ length cards → (read_step s c rows cards).answer ≡ accepted (found n p d)
+pub read-accepted : (s : List ℕ) (a : Standing) (e : open_boards s ≡ Ok a) (c : Standing) → Reached s a c → (n : ℕ) (p : Section) (d : Standing) → next_board s c ≡ found n p d
+    → (rows cards : List ℕ) → length (board_in s p).calls ≤ length rows / 6 → length (board_in s p).play ≤ length cards → (read_step s c rows cards).answer ≡ Ok (found n p d)
 unfolding unless
 read-accepted s a e c r n p d v rows cards k m =
     let w = on_way s a e c r in
     let f = next-is s c (found n p d) v in
-    let l : too_long s ≡ none = simp (le-ltb limit (length s) (o s a e).short) in
+    let l : too_long s ≡ None = simp (le-ltb limit (length s) (o s a e).short) in
     let g : utf8 (part s c.at (p.stop - c.at)) ≡ true = (bounded-utf8 s c.at _ d.at (bounded s c n p d f) w.good).0 in
-    let u : not_utf8_from c.at (part s c.at (p.stop - c.at)) ≡ none = simp g in
+    let u : not_utf8_from c.at (part s c.at (p.stop - c.at)) ≡ None = simp g in
     answer-is s c rows cards ∙ rw (v, l, u) (simp (le-ltb (length rows / 6) (length (board_in s p).calls) k, le-ltb (length cards) (length (board_in s p).play) m))
 
 -- For every number below the count: a step that says it, from a cursor that steps lead to, and that reads what is read by that number, whatever is lent.
@@ -369,9 +367,9 @@ pub record ReadAt (s : List ℕ) (a : Standing) (n : ℕ) : Type 0 where
   pub step : StepAt s a n
   pub reads : (rows cards : List ℕ) → reading_of (read_step s step.cursor rows cards) ≡ file_board s n rows cards
   pub enough : (rows cards : List ℕ) → length (board_in s step.place).calls ≤ length rows / 6 → length (board_in s step.place).play ≤ length cards
-      → (read_step s step.cursor rows cards).answer ≡ accepted (found n step.place step.next)
+      → (read_step s step.cursor rows cards).answer ≡ Ok (found n step.place step.next)
 
-pub reads_each : (s : List ℕ) (a : Standing) → open_boards s ≡ accepted a → (n : ℕ) → n < length (boards_of (sections s)) → ReadAt s a n
+pub reads_each : (s : List ℕ) (a : Standing) → open_boards s ≡ Ok a → (n : ℕ) → n < length (boards_of (sections s)) → ReadAt s a n
 reads_each s a e n h =
     let t = each_number s a e n h in
     record {

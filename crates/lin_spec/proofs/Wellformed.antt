@@ -1,11 +1,11 @@
 -- What is written is UTF-8 if the texts are. (01: "UTF-8 (RFC 3629)"; Writer)
 -- Assumes nothing.
+use Rattle.std.specs.Prelude.{Option, None, Some}
 use Prim.Native.Nat.{ℕ}
 use native.Mathlib.Omega.{arith}
 use mathlib.Core.Path.{◌≡◌, refl, ap, sym, ◌∙◌}
 use mathlib.Core.Bool.{Bool, true, false, ◌&&◌, ◌||◌, not}
 use mathlib.Core.List.{List, [], ◌∷◌, ◌++◌, map, append_assoc}
-use mathlib.Core.Option.{Option, none, some}
 use lib.Dec.{eqb}
 use borrow.Author.Tests.{eqb-true, not-false}
 use Rattle.lin_spec.specs.Base.{All, join_by, concat, ascii, keep}
@@ -85,12 +85,12 @@ module _ (p q : ℕ) (f : Fit p q) where
   utf8-names (n ∷ m ∷ ns) h = around (clean_name p q n) 0x2C _ (omega arith) (utf8_name n h.0) (utf8-names (m ∷ ns) h.1)
 
   utf8_option : (o : Option (List ℕ)) → Present Utf8 o → Present (λ (s : List ℕ). Utf8 (clean p q s)) o
-  utf8_option none h = tt
-  utf8_option (some s) h = utf8-clean s h
+  utf8_option None h = tt
+  utf8_option (Some s) h = utf8-clean s h
 
   utf8-text : (o : Option (List ℕ)) → Present Utf8 o → Utf8 (clean p q (or_empty o))
-  utf8-text none h = utf8-clean [] (utf8-ascii [] tt)
-  utf8-text (some s) h = utf8-clean s h
+  utf8-text None h = utf8-clean [] (utf8-ascii [] tt)
+  utf8-text (Some s) h = utf8-clean s h
 
   utf8-calls : (cs : List (CallOf (List ℕ))) → All (λ (c : CallOf (List ℕ)). Utf8 c.bid × Present Utf8 c.annotation) cs
       → All (λ (c : CallOf (List ℕ)). Utf8 (bid_text p q c) × Present (λ (s : List ℕ). Utf8 (clean p q s)) c.annotation) cs

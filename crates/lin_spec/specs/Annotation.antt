@@ -1,23 +1,19 @@
 -- A raw PBN annotation as text. (01: From PBN, "Annotation parts ..")
-use Rattle.std.specs.Prelude.{ℕ, zero, suc, ◌+◌, ◌-◌, ◌*◌, min, Bool, ◌&&◌, ◌||◌, not, List, [], ◌∷◌, map, length, take, drop, get_or, eqb}
+use Rattle.std.specs.Prelude.{ℕ, zero, suc, ◌+◌, ◌-◌, ◌*◌, min, Bool, ◌&&◌, ◌||◌, not, List, [], ◌∷◌, map, length, take, drop, get_or, eqb, Option, None, Some}
 use Prim.Native.Char.{code}
-use Rattle.std.proofs.Math.Option.{Option, none, some}
 use Rattle.lin_spec.specs.Base.{pick, keep, null, eq_list, starts, join_by, ascii}
 use Rattle.lin_spec.specs.Records.{span, bytes_at}
 use Rattle.lin_spec.specs.Utf8.{Utf, first}
 use Rattle.lin_spec.specs.Utf8.Utf.{whole, needs, ill}
 use Rattle.lin_spec.specs.Refusals.{Answer, unless, too_long, past_end, span_not_utf8, too_small}
-use Rattle.lin_spec.specs.Refusals.Answer.{refused, accepted}
 use Rattle.lin_spec.specs.Output.{room, output_after}
 use Rattle.lin_spec.specs.Board.{ends_in, is_digit, number_in, map_option}
 use Rattle.lin_spec.specs.Writer.{or_empty}
 use Rattle.lin_spec.specs.declared.Span.{Span}
-use Rattle.lin_spec.specs.declared.AnnotationWritten.{AnnotationWritten}
-use Rattle.lin_spec.specs.declared.AnnotationWritten.TheVariants.{Absent, Length, Refused}
 
 -- "a note span or absent for each of the 256 note numbers": three words to a number; the first is 0 where there is none
 unfoldable pub note_of : (notes : List ℕ) (number : ℕ) → Option Span
-note_of ws n = pick (eqb (get_or ws (n * 3) 0) 0) none (some (span (get_or ws (n * 3 + 1) 0) (get_or ws (n * 3 + 2) 0)))
+note_of ws n = pick (eqb (get_or ws (n * 3) 0) 0) None (Some (span (get_or ws (n * 3 + 1) 0) (get_or ws (n * 3 + 2) 0)))
 
 -- the spans of all notes
 unfoldable pub note_spans : (notes : List ℕ) → List Span
@@ -66,12 +62,12 @@ nag_word p =
 
 -- "`=n=` gives note n, read as mc's digits but untrimmed, or stays as written"
 abbrev pub note_text : (s part : List ℕ) → Option Span → List ℕ
-note_text s p none = p
-note_text s p (some x) = bytes_at s x
+note_text s p None = p
+note_text s p (Some x) = bytes_at s x
 
 abbrev pub note_word : (s notes part : List ℕ) → (number : Option ℕ) → List ℕ
-note_word s ws p none = p
-note_word s ws p (some n) = note_text s p (note_of ws n)
+note_word s ws p None = p
+note_word s ws p (Some n) = note_text s p (note_of ws n)
 
 -- a part between two `=`, and what stands between them
 abbrev pub is_closed : List ℕ → Bool
@@ -90,19 +86,13 @@ words_of s ws ps = keep (λ (w : List ℕ). not (null w)) (map (part_word s ws) 
 
 -- "Words join with a space, none means absent."
 abbrev pub joined_words : List (List ℕ) → Option (List ℕ)
-joined_words [] = none
-joined_words (w ∷ ws) = some (join_by (ascii " ") (w ∷ ws))
+joined_words [] = None
+joined_words (w ∷ ws) = Some (join_by (ascii " ") (w ∷ ws))
 
 unfoldable pub annotation_text : (s notes raw : List ℕ) → Option (List ℕ)
 annotation_text s ws raw = joined_words (words_of s ws (annotation_parts raw))
 
 -- The entry
-
--- the answer as a number of bytes or none, or a refusal
-abbrev pub annotation_answer : AnnotationWritten → Answer (Option ℕ)
-annotation_answer Absent = accepted none
-annotation_answer (Length n) = accepted (some n)
-annotation_answer (Refused r) = refused r
 
 pub record Annotated : Type 0 where
   pub answer : Answer (Option ℕ)

@@ -1,8 +1,6 @@
 -- The entries that write a board: `write_lin`, and append. (01: Writer and settled form)
-use Rattle.std.specs.Prelude.{ℕ, ◌+◌, Bool, false, ◌||◌, List, [], ◌∷◌, ◌++◌, length, ltb}
-use Rattle.std.proofs.Math.Option.{Option}
+use Rattle.std.specs.Prelude.{ℕ, ◌+◌, Bool, false, ◌||◌, List, [], ◌∷◌, ◌++◌, length, ltb, Option, Err, Ok}
 use Rattle.lin_spec.specs.Refusals.{Answer, refuse_if, unless, sat}
-use Rattle.lin_spec.specs.Refusals.Answer.{refused, accepted}
 use Rattle.lin_spec.specs.Output.{overlay, room, Outcome}
 use Rattle.lin_spec.specs.Board.{BoardOf}
 use Rattle.lin_spec.specs.Writer.{written, settled, pipe_mark, line_mark}
@@ -33,8 +31,8 @@ too_small_after room used need = refuse_if (ltb room (used + need)) (OutputTooSm
 
 -- the output after an answer to write s after the used bytes: a refusal leaves it
 abbrev pub extended : Answer ℕ → (o : List ℕ) (used : ℕ) (s : List ℕ) → List ℕ
-extended (refused r) o used s = o
-extended (accepted n) o used s = overlay o used s
+extended (Err r) o used s = o
+extended (Ok n) o used s = overlay o used s
 
 -- "An append call adds one board after the used bytes and returns the new used count." 8: "or used bytes beyond the room"; `other` as in lent_checks
 unfoldable pub appended : (other : Bool) → Filing → (o : List ℕ) (used : ℕ) → Outcome

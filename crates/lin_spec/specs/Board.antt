@@ -1,6 +1,5 @@
 -- A board, and what each command gives to it. (01: Records; Board)
-use Rattle.std.specs.Prelude.{ℕ, ◌+◌, ◌-◌, ◌*◌, Bool, false, ◌&&◌, ◌||◌, not, List, [], ◌∷◌, ◌++◌, map, length, replicate, eqb, leb}
-use Rattle.std.proofs.Math.Option.{Option, none, some}
+use Rattle.std.specs.Prelude.{ℕ, ◌+◌, ◌-◌, ◌*◌, Bool, false, ◌&&◌, ◌||◌, not, List, [], ◌∷◌, ◌++◌, map, length, replicate, eqb, leb, Option, Some, None}
 use Rattle.lin_spec.specs.Base.{pick, All, all, null, ascii}
 use Rattle.lin_spec.specs.White.{trim, same_word, is_command}
 use Rattle.lin_spec.specs.Tokens.{Pieces, cut, TokenOf}
@@ -10,7 +9,7 @@ use Rattle.lin_spec.specs.Cards.{deal_of, read_card}
 use Rattle.lin_spec.specs.declared.Seat.{Seat}
 use Rattle.lin_spec.specs.declared.Seat.TheVariants.{South, West, North, East}
 use Rattle.lin_spec.specs.declared.Vulnerability.{Vulnerability}
-use Rattle.lin_spec.specs.declared.Vulnerability.TheVariants.{None, NorthSouth, EastWest, Both}
+use Rattle.lin_spec.specs.declared.Vulnerability.TheVariants.{NorthSouth, EastWest, Both}
 
 -- "bid span, alerted or not, annotation span or absent"; A is the type of its texts: spans, or their bytes
 pub record CallOf (A : Type 0) : Type 0 where
@@ -50,13 +49,13 @@ named T v k (piece x r) (n ∷ ns) = T.within v k (length x) ∷ named T v (k + 
 -- "first character 1 2 3 4 is dealer S W N E"
 unfoldable pub dealer_of : ℕ → Option Seat
 dealer_of b =
-    pick (eqb b 0x31) (some South)
-    (pick (eqb b 0x32) (some West) (pick (eqb b 0x33) (some North) (pick (eqb b 0x34) (some East) none)))
+    pick (eqb b 0x31) (Some South)
+    (pick (eqb b 0x32) (Some West) (pick (eqb b 0x33) (Some North) (pick (eqb b 0x34) (Some East) None)))
 
 -- "otherwise the token is skipped. The rest splits at commas into hands"
 abbrev pub dealt_by : Option Seat → (rest : List ℕ) → Dealt → Dealt
-dealt_by none s d = d
-dealt_by (some x) s d = record { dealer = x; deal = deal_of (cut 0x2C s) }
+dealt_by None s d = d
+dealt_by (Some x) s d = record { dealer = x; deal = deal_of (cut 0x2C s) }
 
 unfoldable pub read_md : List ℕ → Dealt → Dealt
 read_md [] d = d
@@ -67,11 +66,11 @@ unfoldable pub read_sv : List ℕ → Vulnerability
 read_sv s =
     pick (same_word s (ascii "n") || same_word s (ascii "ns")) NorthSouth
     (pick (same_word s (ascii "e") || same_word s (ascii "ew")) EastWest
-    (pick (same_word s (ascii "b") || (same_word s (ascii "both") || same_word s (ascii "all"))) Both None))
+    (pick (same_word s (ascii "b") || (same_word s (ascii "both") || same_word s (ascii "all"))) Both Vulnerability.None))
 
 -- mn, qx: "the value; empty makes it absent"
 abbrev pub non_empty : {A : Type 0} → Text A → A → Option A
-non_empty T v = pick (null (T.bytes v)) none (some v)
+non_empty T v = pick (null (T.bytes v)) None (Some v)
 
 -- "ends in `!`"
 unfoldable pub ends_in : (c : ℕ) → List ℕ → Bool
@@ -93,19 +92,19 @@ call_of T v =
     record {
       bid = T.within v 0 (length (without_end 0x21 (T.bytes v)));
       alerted = ends_in 0x21 (T.bytes v);
-      annotation = none;
+      annotation = None;
     }
 
 -- an: "annotation of the last call; ignored before the first"
 unfoldable pub annotated : {A : Type 0} → A → List (CallOf A) → List (CallOf A)
 annotated v [] = []
-annotated v (c ∷ []) = record { bid = c.bid; alerted = c.alerted; annotation = some v } ∷ []
+annotated v (c ∷ []) = record { bid = c.bid; alerted = c.alerted; annotation = Some v } ∷ []
 annotated v (c ∷ d ∷ cs) = c ∷ annotated v (d ∷ cs)
 
 -- pc: "exactly a suit and a rank, else skipped"
 abbrev pub played : Option ℕ → List ℕ → List ℕ
-played none cs = cs
-played (some c) cs = cs ++ (c ∷ [])
+played None cs = cs
+played (Some c) cs = cs ++ (c ∷ [])
 
 -- mc: "an optional `+`, then one or more digits, value at most 255"; the bound is a parameter
 abbrev pub is_digit : ℕ → Bool
@@ -126,7 +125,7 @@ after_plus (b ∷ s) = pick (eqb b 0x2B) s (b ∷ s)
 unfoldable pub number_in : (bound : ℕ) → List ℕ → Option ℕ
 number_in bound s =
     let t = after_plus s in
-    pick (not (null t) && (all_digits t && leb (value_from 0 t) bound)) (some (value_from 0 t)) none
+    pick (not (null t) && (all_digits t && leb (value_from 0 t) bound)) (Some (value_from 0 t)) None
 
 -- "Per token, in order": f with each token's command and value
 unfoldable pub over : {A B : Type 0} → (List ℕ → A → B → B) → B → List (TokenOf A) → B
@@ -159,7 +158,7 @@ module _ {A : Type 0} (T : Text A) where
   on_room c v b = on c (ascii "qx") (non_empty T v) b
 
   abbrev pub on_header : List ℕ → A → Option A → Option A
-  on_header c v b = on c (ascii "ah") (some v) b
+  on_header c v b = on c (ascii "ah") (Some v) b
 
   abbrev pub on_calls : List ℕ → A → List (CallOf A) → List (CallOf A)
   on_calls c v b = on c (ascii "mb") (b ++ (call_of T v ∷ [])) (on c (ascii "an") (annotated v b) b)
@@ -176,20 +175,20 @@ module _ {A : Type 0} (T : Text A) where
       record {
         names = over on_names (replicate 4 T.nil) ts;
         dealt = over on_dealt undealt ts;
-        vulnerability = over on_vulnerability None ts;
-        title = over on_title none ts;
-        room = over on_room none ts;
-        header = over on_header none ts;
+        vulnerability = over on_vulnerability Vulnerability.None ts;
+        title = over on_title None ts;
+        room = over on_room None ts;
+        header = over on_header None ts;
         calls = over on_calls [] ts;
         play = over on_play [] ts;
-        claim = over on_claim none ts;
+        claim = over on_claim None ts;
       }
 
 -- A board with each of its texts changed by f
 
 abbrev pub map_option : {A B : Type 0} → (A → B) → Option A → Option B
-map_option f none = none
-map_option f (some a) = some (f a)
+map_option f None = None
+map_option f (Some a) = Some (f a)
 
 abbrev pub map_call : {A B : Type 0} → (A → B) → CallOf A → CallOf B
 map_call f c = record { bid = f c.bid; alerted = c.alerted; annotation = map_option f c.annotation }
@@ -210,8 +209,8 @@ map_board f b =
 
 -- P holds of each of its texts
 abbrev pub Present : {A : Type 0} → (A → Type 0) → Option A → Type 0
-Present P none = Unit
-Present P (some a) = P a
+Present P None = Unit
+Present P (Some a) = P a
 
 pub record EachText {A : Type 0} (P : A → Type 0) (b : BoardOf A) : Type 0 where
   pub names : All P b.names

@@ -1,6 +1,5 @@
 -- Cards, hands and deals, and how a text gives them. (01: Records; Board, md and pc)
-use Rattle.std.specs.Prelude.{ℕ, zero, suc, ◌+◌, ◌*◌, Bool, ◌&&◌, List, [], ◌∷◌, ◌++◌, get_or, set, replicate, eqb}
-use Rattle.std.proofs.Math.Option.{Option, none, some}
+use Rattle.std.specs.Prelude.{ℕ, zero, suc, ◌+◌, ◌*◌, Bool, ◌&&◌, List, [], ◌∷◌, ◌++◌, get_or, set, replicate, eqb, Option, None, Some}
 use Rattle.lin_spec.specs.Base.{pick, ascii}
 use Rattle.lin_spec.specs.White.{lower, blank}
 use Rattle.lin_spec.specs.Tokens.{Pieces}
@@ -8,8 +7,8 @@ use Rattle.lin_spec.specs.Tokens.Pieces.{end, piece}
 
 -- the place of b in a list, counted from n
 unfoldable pub index_of : (n b : ℕ) → List ℕ → Option ℕ
-index_of n b [] = none
-index_of n b (c ∷ cs) = pick (eqb b c) (some n) (index_of (suc n) b cs)
+index_of n b [] = None
+index_of n b (c ∷ cs) = pick (eqb b c) (Some n) (index_of (suc n) b cs)
 
 -- "suits S H D C as 0 to 3", "either case"
 unfoldable pub suit_of : ℕ → Option ℕ
@@ -21,24 +20,24 @@ rank_of b = index_of 0 (lower b) (ascii "23456789tjqka")
 
 -- "A card is 0 to 51: suit times 13 plus rank"
 abbrev pub card_of : (suit rank : Option ℕ) → Option ℕ
-card_of none r = none
-card_of (some u) none = none
-card_of (some u) (some r) = some (u * 13 + r)
+card_of None r = None
+card_of (Some u) None = None
+card_of (Some u) (Some r) = Some (u * 13 + r)
 
 -- "exactly a suit and a rank"
 unfoldable pub read_card : List ℕ → Option ℕ
-read_card [] = none
-read_card (a ∷ []) = none
+read_card [] = None
+read_card (a ∷ []) = None
 read_card (a ∷ b ∷ []) = card_of (suit_of a) (rank_of b)
-read_card (a ∷ b ∷ c ∷ s) = none
+read_card (a ∷ b ∷ c ∷ s) = None
 
 -- "A hand is 52 counts of 32 bits; a repeated card counts again"
 abbrev pub no_cards : List ℕ
 no_cards = replicate 52 0
 
 abbrev pub with_card : Option ℕ → (hand : List ℕ) → List ℕ
-with_card none h = h
-with_card (some c) h = set h c (get_or h c 0 + 1)
+with_card None h = h
+with_card (Some c) h = set h c (get_or h c 0 + 1)
 
 -- "and the length is the sum"
 unfoldable pub sum : List ℕ → ℕ
@@ -47,15 +46,15 @@ sum (n ∷ h) = n + sum h
 
 -- "In a hand a suit letter sets the suit; a rank after one adds a card; other characters are skipped."
 abbrev pub hand_by : (letter : Option ℕ) (b : ℕ) (suit : Option ℕ) (hand : List ℕ) → (Option ℕ → List ℕ → List ℕ) → List ℕ
-hand_by (some u) b suit h rest = rest (some u) h
-hand_by none b suit h rest = rest suit (with_card (card_of suit (rank_of b)) h)
+hand_by (Some u) b suit h rest = rest (Some u) h
+hand_by None b suit h rest = rest suit (with_card (card_of suit (rank_of b)) h)
 
 unfoldable pub hand_from : (suit : Option ℕ) (hand : List ℕ) → List ℕ → List ℕ
 hand_from suit h [] = h
 hand_from suit h (b ∷ s) = hand_by (suit_of b) b suit h (λ u k. hand_from u k s)
 
 unfoldable pub read_hand : List ℕ → List ℕ
-read_hand s = hand_from none no_cards s
+read_hand s = hand_from None no_cards s
 
 -- field k of those that commas separate; "a missing field is an empty hand"
 unfoldable pub field : ℕ → Pieces → List ℕ

@@ -1,30 +1,20 @@
 -- `LinData`'s equality. (01: equality, "lopsided for repeated cards as in `same_cards`")
-use Rattle.std.specs.Prelude.{ℕ, Bool, true, false, ◌&&◌, ◌||◌, List, [], ◌∷◌, eqb}
-use Rattle.std.proofs.Math.Option.{Option, none, some}
+use Rattle.std.specs.Prelude.{ℕ, Bool, true, false, ◌&&◌, ◌||◌, List, [], ◌∷◌, eqb, Option, None, Some}
 use Rattle.lin_spec.specs.Base.{eq_all, eq_list}
 use Rattle.lin_spec.specs.Refusals.{Answer, refuse_if, unless, too_long, past_end, span_not_utf8}
-use Rattle.lin_spec.specs.Refusals.Answer.{refused, accepted}
 use Rattle.lin_spec.specs.Letters.{seat_number, sv_letter, hand_at}
 use Rattle.lin_spec.specs.Board.{CallOf, BoardOf}
 use Rattle.lin_spec.specs.Writer.{same_cards}
 use Rattle.lin_spec.specs.Lent.{Lent, lent_spans, meaning, bad_number}
 use Rattle.lin_spec.specs.declared.Seat.TheVariants.{South, West, North, East}
-use Rattle.lin_spec.specs.declared.Equality.{Equality}
-use Rattle.lin_spec.specs.declared.Equality.TheVariants.{Equal, Different, Refused}
 use Rattle.lin_spec.specs.declared.Refusal.TheVariants.{OutOfRange}
-
--- the answer as whether they are equal, or a refusal
-abbrev pub equality_of : Equality → Answer Bool
-equality_of Equal = accepted true
-equality_of Different = accepted false
-equality_of (Refused r) = refused r
 
 -- options are equal when their elements are
 abbrev pub eq_option : {A : Type 0} → (A → A → Bool) → Option A → Option A → Bool
-eq_option f none none = true
-eq_option f none (some b) = false
-eq_option f (some a) none = false
-eq_option f (some a) (some b) = f a b
+eq_option f None None = true
+eq_option f None (Some b) = false
+eq_option f (Some a) None = false
+eq_option f (Some a) (Some b) = f a b
 
 abbrev pub eq_flag : Bool → Bool → Bool
 eq_flag true true = true

@@ -1,6 +1,5 @@
 -- The boards of a file: its parts or its lines, and a board by its number. (01: File)
-use Rattle.std.specs.Prelude.{ℕ, ◌+◌, ◌-◌, Bool, false, ◌||◌, not, List, [], ◌∷◌, map, length, take, drop, get_or, ltb, leb}
-use Rattle.std.proofs.Math.Option.{Option}
+use Rattle.std.specs.Prelude.{ℕ, ◌+◌, ◌-◌, Bool, false, ◌||◌, not, List, [], ◌∷◌, map, length, take, drop, get_or, ltb, leb, Option, Err, Ok}
 use Rattle.lin_spec.specs.Base.{pick, any, keep, null, ascii}
 use Rattle.lin_spec.specs.Records.{end_of, part}
 use Rattle.lin_spec.specs.White.{blank, is_command}
@@ -9,10 +8,9 @@ use Rattle.lin_spec.specs.Tokens.Pieces.{end, piece}
 use Rattle.lin_spec.specs.Tokens.TokenOf.{token}
 use Rattle.lin_spec.specs.Utf8.{utf8, longest}
 use Rattle.lin_spec.specs.Refusals.{Answer, refuse_if, unless, too_long, not_utf8, sat}
-use Rattle.lin_spec.specs.Refusals.Answer.{refused, accepted}
 use Rattle.lin_spec.specs.Board.{BoardOf, board_from}
 use Rattle.lin_spec.specs.Fresh.{fresh_board}
-use Rattle.lin_spec.specs.Reading.{span_text, stream, parse_lin, headed, few_rows, Reading, stored}
+use Rattle.lin_spec.specs.Reading.{span_text, stream, parse_lin, heading_of, headed, few_rows, Reading, stored}
 use Rattle.lin_spec.specs.declared.Span.{Span}
 use Rattle.lin_spec.specs.declared.Refusal.{Refusal}
 use Rattle.lin_spec.specs.declared.Refusal.TheVariants.{NotUtf8, NoBoard}
@@ -140,11 +138,12 @@ unread a c rows cards = record { answer = a; cursor = c; board = fresh_board; ca
 
 -- a refusal hands the cursor back where it stood
 abbrev pub read_by : (s : List ℕ) → Standing → Answer Visit → (rows cards : List ℕ) → ReadStep
-read_by s c (refused r) rows cards = unread (refused r) c rows cards
-read_by s c (accepted (ended d)) rows cards = unread (accepted (ended d)) d rows cards
-read_by s c (accepted (found n p d)) rows cards =
-    let r = stored (accepted (board_in s p)) rows cards in
-    record { answer = accepted (found n p d); cursor = d; board = r.heading.board; calls = r.heading.calls; play = r.heading.cards; rows = r.rows; cards = r.cards }
+read_by s c (Err r) rows cards = unread (Err r) c rows cards
+read_by s c (Ok (ended d)) rows cards = unread (Ok (ended d)) d rows cards
+read_by s c (Ok (found n p d)) rows cards =
+    let h = heading_of (board_in s p) in
+    let r = stored (Ok (board_in s p)) rows cards in
+    record { answer = Ok (found n p d); cursor = d; board = h.board; calls = h.calls; play = h.cards; rows = r.rows; cards = r.cards }
 
 -- "Reading: 1, 2, 4, 3."
 unfoldable pub read_step : (s : List ℕ) → Standing → (rows cards : List ℕ) → ReadStep
@@ -175,7 +174,7 @@ no_board n count = refuse_if (leb count n) (NoBoard count)
 abbrev pub numbered : List ℕ → (number : ℕ) → BoardOf Span
 numbered s n = get_or (file_spans s) n (board_in s (section 0 0 false))
 
-unfoldable pub file_heading : (s : List ℕ) (number : ℕ) → Heading
+unfoldable pub file_heading : (s : List ℕ) (number : ℕ) → Answer Heading
 file_heading s n = headed (unless (too_long s ∷ not_utf8 s ∷ no_board n (length (file_spans s)) ∷ []) (numbered s n))
 
 -- "Reading: 1, 2, 4, 3."

@@ -1,15 +1,10 @@
--- A deal and a board before the first token, and what a refused call gives for a heading, as the declared types hold them. (01: Records; Board, "Start ..")
-use Rattle.std.specs.Prelude.{[], ◌∷◌, replicate}
+-- A deal and a board before the first token, as the declared types hold them. (01: Records; Board, "Start ..")
+use Rattle.std.specs.Prelude.{[], ◌∷◌, replicate, None}
 use Rattle.lin_spec.specs.Records.{span}
 use Rattle.lin_spec.specs.declared.Seat.TheVariants.{North}
-use Rattle.lin_spec.specs.declared.Vulnerability.TheVariants.{None}
-use Rattle.lin_spec.specs.declared.MaybeSpan.TheVariants.{Absent}
-use Rattle.lin_spec.specs.declared.MaybeClaim.TheVariants.{Absent as NoClaim}
+use Rattle.lin_spec.specs.declared.Vulnerability.{Vulnerability}
 use Rattle.lin_spec.specs.declared.Deal.{Deal}
 use Rattle.lin_spec.specs.declared.Board.{Board}
-use Rattle.lin_spec.specs.declared.Refusal.{Refusal}
-use Rattle.lin_spec.specs.declared.Verdict.TheVariants.{Refused}
-use Rattle.lin_spec.specs.declared.Heading.{Heading}
 
 -- "a fresh one holds 208 zeros"
 abbrev pub fresh_deal : Deal
@@ -22,12 +17,9 @@ fresh_board =
       names = span 0 0 ∷ span 0 0 ∷ span 0 0 ∷ span 0 0 ∷ [];
       dealer = North;
       deal = fresh_deal;
-      vulnerability = None;
-      title = Absent;
-      room_board = Absent;
-      board_header = Absent;
-      claim = NoClaim;
+      vulnerability = Vulnerability.None;
+      title = None;
+      room_board = None;
+      board_header = None;
+      claim = None;
     }
-
-abbrev pub refused_heading : Refusal → Heading
-refused_heading r = record { verdict = Refused r; board = fresh_board; calls = 0; cards = 0 }

@@ -1,15 +1,12 @@
 -- A board that is lent to a call: its text, its record, its rows and its cards; what it means, and the checks that it is put to. (01: Records;
 -- Eight refusals)
-use Rattle.std.specs.Prelude.{ℕ, ◌≡◌, Bool, false, ◌||◌, not, List, [], ◌∷◌, ◌++◌, map, eqb, ltb}
-use Rattle.std.proofs.Math.Option.{Option, none, some}
+use Rattle.std.specs.Prelude.{ℕ, ◌≡◌, Bool, false, ◌||◌, not, List, [], ◌∷◌, ◌++◌, map, eqb, ltb, Option, None, Some}
 use Rattle.lin_spec.specs.Base.{pick, any}
-use Rattle.lin_spec.specs.Records.{span, bytes_at, option_of}
+use Rattle.lin_spec.specs.Records.{span, bytes_at}
 use Rattle.lin_spec.specs.Refusals.{refuse_if, too_long, passes_end, ill_span, past_end, span_not_utf8}
 use Rattle.lin_spec.specs.Board.{CallOf, BoardOf, map_board}
 use Rattle.lin_spec.specs.Reading.{flag}
 use Rattle.lin_spec.specs.declared.Span.{Span}
-use Rattle.lin_spec.specs.declared.MaybeClaim.{MaybeClaim}
-use Rattle.lin_spec.specs.declared.MaybeClaim.TheVariants.{Absent, Claimed}
 use Rattle.lin_spec.specs.declared.Call.{Call}
 use Rattle.lin_spec.specs.declared.Board.{Board}
 use Rattle.lin_spec.specs.declared.Refusal.{Refusal}
@@ -34,16 +31,16 @@ call_rows ws = rows_of call_row ws
 
 -- "bid span, alerted or not, annotation span or absent"
 abbrev pub call_in : Call → CallOf Span
-call_in c = record { bid = c.bid; alerted = not (eqb c.alerted 0); annotation = pick (eqb c.annotated 0) none (some c.annotation) }
+call_in c = record { bid = c.bid; alerted = not (eqb c.alerted 0); annotation = pick (eqb c.annotated 0) None (Some c.annotation) }
 
 -- and such a call as six numbers: an annotation that is absent has no place
 abbrev pub is_present : Option Span → ℕ
-is_present none = 0
-is_present (some x) = 1
+is_present None = 0
+is_present (Some x) = 1
 
 abbrev pub place_of : Option Span → Span
-place_of none = span 0 0
-place_of (some x) = x
+place_of None = span 0 0
+place_of (Some x) = x
 
 abbrev pub row_of : CallOf Span → Call
 row_of c = record { bid = c.bid; alerted = flag c.alerted; annotated = is_present c.annotation; annotation = place_of c.annotation }
@@ -57,11 +54,6 @@ pub record Lent : Type 0 where
 abbrev pub lent : (text : List ℕ) → Board → (words cards : List ℕ) → Lent
 lent s b ws cs = record { text = s; board = b; calls = call_rows ws; cards = cs }
 
--- "claim 0 to 255 or absent"
-abbrev pub claim_of : MaybeClaim → Option ℕ
-claim_of Absent = none
-claim_of (Claimed n) = some n
-
 -- the board with its texts as spans, and with their bytes
 unfoldable pub lent_board : Lent → BoardOf Span
 lent_board x =
@@ -70,12 +62,12 @@ lent_board x =
       names = b.names;
       dealt = record { dealer = b.dealer; deal = b.deal.counts };
       vulnerability = b.vulnerability;
-      title = option_of b.title;
-      room = option_of b.room_board;
-      header = option_of b.board_header;
+      title = b.title;
+      room = b.room_board;
+      header = b.board_header;
       calls = map call_in x.calls;
       play = x.cards;
-      claim = claim_of b.claim;
+      claim = b.claim;
     }
 
 unfoldable pub meaning : Lent → BoardOf (List ℕ)
@@ -83,8 +75,8 @@ meaning x = map_board (bytes_at x.text) (lent_board x)
 
 -- the spans that it names
 abbrev pub span_in : Option Span → List Span
-span_in none = []
-span_in (some x) = x ∷ []
+span_in None = []
+span_in (Some x) = x ∷ []
 
 unfoldable pub call_spans : List (CallOf Span) → List Span
 call_spans [] = []

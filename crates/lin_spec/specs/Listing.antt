@@ -1,23 +1,17 @@
 -- The lines that the program linlist prints, and all that it prints for an input. (01: Program linlist)
-use Rattle.std.specs.Prelude.{ℕ, ◌+◌, List, [], ◌∷◌, ◌++◌, length, ltb}
-use Rattle.std.proofs.Math.Option.{Option}
+use Rattle.std.specs.Prelude.{ℕ, ◌+◌, List, [], ◌∷◌, ◌++◌, length, ltb, Option, Err, Ok, None, Some}
 use Rattle.lin_spec.specs.Base.{ascii, join_by}
 use Rattle.lin_spec.specs.Decimal.{decimal}
 use Rattle.lin_spec.specs.Letters.{seat_letter, sv_letter, hand_length}
 use Rattle.lin_spec.specs.Refusals.{Answer, refuse_if, unless, number_of, not_utf8, too_small}
-use Rattle.lin_spec.specs.Refusals.Answer.{refused, accepted}
 use Rattle.lin_spec.specs.Output.{Outcome, room, fill}
 use Rattle.lin_spec.specs.Board.{BoardOf}
 use Rattle.lin_spec.specs.Reading.{heading_of}
 use Rattle.lin_spec.specs.File.{file_spans}
 use Rattle.lin_spec.specs.declared.Seat.TheVariants.{South, West, North, East}
-use Rattle.lin_spec.specs.declared.MaybeClaim.{MaybeClaim}
-use Rattle.lin_spec.specs.declared.MaybeClaim.TheVariants.{Absent, Claimed}
 use Rattle.lin_spec.specs.declared.Span.{Span}
 use Rattle.lin_spec.specs.declared.Refusal.{Refusal}
 use Rattle.lin_spec.specs.declared.Refusal.TheVariants.{TextTooLong}
-use Rattle.lin_spec.specs.declared.Verdict.{Verdict}
-use Rattle.lin_spec.specs.declared.Verdict.TheVariants.{Accepted, Refused}
 use Rattle.lin_spec.specs.declared.Heading.{Heading}
 
 -- "Every line ends in LF."
@@ -29,9 +23,9 @@ unfoldable pub header : List ℕ
 header = line (ascii "board dealer vul S W N E calls cards claim")
 
 -- "claim or `-`"
-abbrev pub claim_word : MaybeClaim → List ℕ
-claim_word Absent = ascii "-"
-claim_word (Claimed n) = decimal n
+abbrev pub claim_word : Option ℕ → List ℕ
+claim_word None = ascii "-"
+claim_word (Some n) = decimal n
 
 -- "being number, dealer letter, written sv letter, hand lengths, counts, claim or `-`"
 unfoldable pub board_line : (number : ℕ) → Heading → List ℕ
@@ -57,12 +51,9 @@ unfoldable pub refusal_line : Refusal → List ℕ
 refusal_line r = line (join_by (ascii " ") (ascii "refused" ∷ decimal (number_of r) ∷ []))
 
 -- a heading's line: a board's, or where the heading was refused the refusal's
-abbrev pub line_by : Verdict → (number : ℕ) → Heading → List ℕ
-line_by Accepted k h = board_line k h
-line_by (Refused r) k h = refusal_line r
-
-abbrev pub heading_line : (number : ℕ) → Heading → List ℕ
-heading_line k h = line_by h.verdict k h
+abbrev pub heading_line : (number : ℕ) → Answer Heading → List ℕ
+heading_line k (Ok h) = board_line k h
+heading_line k (Err r) = refusal_line r
 
 -- a line as an entry's answer: refused by 7, or from the first byte of the output on
 unfoldable pub write_line : (text out : List ℕ) → Outcome
@@ -83,8 +74,8 @@ over_limit s = refuse_if (ltb list_limit (length s)) TextTooLong
 
 -- "A refusal prints one line, .. alone"; else it is the header and the boards, "numbered from 0"
 abbrev pub printed : Answer (List (BoardOf Span)) → List ℕ
-printed (refused r) = refusal_line r
-printed (accepted bs) = header ++ board_lines 0 bs
+printed (Err r) = refusal_line r
+printed (Ok bs) = header ++ board_lines 0 bs
 
 -- what linlist prints for an input
 unfoldable pub listing : (input : List ℕ) → List ℕ

@@ -1,10 +1,9 @@
 -- A list of append calls on one output, and the plain book that is kept of it. (01: Writer, "For the third demand the list of appends is kept by a plain
 -- book ..")
-use Rattle.std.specs.Prelude.{ℕ, ◌+◌, Bool, true, false, ◌||◌, not, List, [], ◌∷◌, ◌++◌, length, take, ltb}
+use Rattle.std.specs.Prelude.{ℕ, ◌+◌, Bool, true, false, ◌||◌, not, List, [], ◌∷◌, ◌++◌, length, take, ltb, Err, Ok}
 use Rattle.lin_spec.specs.Base.{pick, any}
 use Rattle.lin_spec.specs.Records.{limit}
 use Rattle.lin_spec.specs.Refusals.{Answer, passes_end, ill_span}
-use Rattle.lin_spec.specs.Refusals.Answer.{refused, accepted}
 use Rattle.lin_spec.specs.Board.{BoardOf}
 use Rattle.lin_spec.specs.Lent.{Lent, lent_spans, bad_number}
 use Rattle.lin_spec.specs.Append.{Filing, plain, written_form, settled_form, appended}
@@ -34,12 +33,12 @@ pub record Event : Type 0 where
 -- append's own definition, call after call
 
 abbrev pub accepts : {A : Type 0} → Answer A → Bool
-accepts (refused r) = false
-accepts (accepted a) = true
+accepts (Err r) = false
+accepts (Ok a) = true
 
 abbrev pub used_after : Answer ℕ → (used : ℕ) → ℕ
-used_after (refused r) used = used
-used_after (accepted n) used = n
+used_after (Err r) used = used
+used_after (Ok n) used = n
 
 unfoldable pub event : State → Asked → Event
 event st a =

@@ -1,31 +1,22 @@
 -- A board made from a PBN record. (01: From PBN, `from_board`)
-use Rattle.std.specs.Prelude.{ℕ, ◌+◌, ◌%◌, Bool, false, ◌&&◌, ◌||◌, not, List, [], ◌∷◌, ◌++◌, map, length, get_or, eqb, ltb, leb}
-use Rattle.std.proofs.Math.Option.{Option, none, some}
+use Rattle.std.specs.Prelude.{ℕ, ◌+◌, ◌%◌, Bool, false, ◌&&◌, ◌||◌, not, List, [], ◌∷◌, ◌++◌, map, length, get_or, eqb, ltb, leb, Option, None, Some, Err, Ok, ℤ}
 use Rattle.std.proofs.Math.IntN.ℤ.{pos, negsuc}
 use Rattle.lin_spec.specs.Base.{pick, any, keep, concat, ascii}
-use Rattle.lin_spec.specs.Records.{span, bytes_at, option_of}
+use Rattle.lin_spec.specs.Records.{span, bytes_at}
 use Rattle.lin_spec.specs.Refusals.{Answer, refuse_if, unless, too_long, past_end, span_not_utf8, too_small}
-use Rattle.lin_spec.specs.Refusals.Answer.{refused, accepted}
 use Rattle.lin_spec.specs.Output.{overlay, room}
 use Rattle.lin_spec.specs.Decimal.{digit, decimal}
 use Rattle.lin_spec.specs.Board.{CallOf, BoardOf, map_option}
-use Rattle.lin_spec.specs.Reading.{headed, call_words, few_rows}
+use Rattle.lin_spec.specs.Reading.{heading_of, call_words, few_rows}
 use Rattle.lin_spec.specs.Writer.{clean, clean_name, or_empty, present, pipe_mark, line_mark}
 use Rattle.lin_spec.specs.Lent.{rows_of, span_in}
 use Rattle.lin_spec.specs.Annotation.{note_spans, annotation_text}
 use Rattle.lin_spec.specs.declared.Span.{Span}
-use Rattle.lin_spec.specs.declared.MaybeSpan.{MaybeSpan}
 use Rattle.lin_spec.specs.declared.Seat.{Seat}
 use Rattle.lin_spec.specs.declared.Seat.TheVariants.{South, West, North, East}
-use Rattle.lin_spec.specs.declared.MaybeSeat.{MaybeSeat}
-use Rattle.lin_spec.specs.declared.MaybeSeat.TheVariants.{Absent as NoSeat, Given}
-use Rattle.lin_spec.specs.declared.MaybeNumber.{MaybeNumber}
-use Rattle.lin_spec.specs.declared.MaybeNumber.TheVariants.{Absent as NoNumber, Number}
-use Rattle.lin_spec.specs.declared.MaybeResult.{MaybeResult}
-use Rattle.lin_spec.specs.declared.MaybeResult.TheVariants.{Absent as NoResult, Tricks}
 use Rattle.lin_spec.specs.declared.PbnCall.{PbnCall}
 use Rattle.lin_spec.specs.declared.PbnBoard.{PbnBoard}
-use Rattle.lin_spec.specs.declared.Heading.{Heading}
+use Rattle.lin_spec.specs.declared.Converted.{Converted}
 use Rattle.lin_spec.specs.declared.Refusal.TheVariants.{OutOfRange}
 
 -- "calls (pass, double, redouble, bid 1 to 7 with strain C D H S N, continue, blank) with raw annotation": six words to a row
@@ -51,67 +42,67 @@ abbrev pub pbn : (text : List ℕ) → PbnBoard → (calls plays notes : List �
 pbn s b ws ps ns = record { text = s; board = b; calls = pbn_rows ws; plays = ps; notes = ns }
 
 -- its names, in the order S, W, N, E
-abbrev pub pbn_names : PbnBoard → List MaybeSpan
+abbrev pub pbn_names : PbnBoard → List (Option Span)
 pbn_names b = b.south ∷ b.west ∷ b.north ∷ b.east ∷ []
 
 -- "A result outside 0 to 255 gives no claim"
-abbrev pub claim_from : MaybeResult → Option ℕ
-claim_from NoResult = none
-claim_from (Tricks (pos n)) = pick (leb n 255) (some n) none
-claim_from (Tricks (negsuc n)) = none
+abbrev pub claim_from : Option ℤ → Option ℕ
+claim_from None = None
+claim_from (Some (pos n)) = pick (leb n 255) (Some n) None
+claim_from (Some (negsuc n)) = None
 
 -- "`dealer_from_board_number` gives N, E, S, W for remainders 1, 2, 3, 0 by 4"
 abbrev pub dealer_from : (remainder : ℕ) → Seat
 dealer_from r = pick (eqb r 1) North (pick (eqb r 2) East (pick (eqb r 3) South West))
 
 -- the dealer that is given, or that of the number, or North
-abbrev pub dealer_by : MaybeSeat → MaybeNumber → Seat
-dealer_by (Given x) n = x
-dealer_by NoSeat (Number n) = dealer_from (n % 4)
-dealer_by NoSeat NoNumber = North
+abbrev pub dealer_by : Option Seat → Option ℕ → Seat
+dealer_by (Some x) n = x
+dealer_by None (Some n) = dealer_from (n % 4)
+dealer_by None None = North
 
 -- a bid's text, if the call is kept: "continue, blank .. are dropped"
 abbrev pub bid_of : PbnCall → Option (List ℕ)
 bid_of c =
-    pick (eqb c.kind 0) (some (ascii "p"))
-    (pick (eqb c.kind 1) (some (ascii "d"))
-    (pick (eqb c.kind 2) (some (ascii "r")) (pick (eqb c.kind 3) (some (digit c.level ∷ get_or (ascii "CDHSN") c.strain 0 ∷ [])) none)))
+    pick (eqb c.kind 0) (Some (ascii "p"))
+    (pick (eqb c.kind 1) (Some (ascii "d"))
+    (pick (eqb c.kind 2) (Some (ascii "r")) (pick (eqb c.kind 3) (Some (digit c.level ∷ get_or (ascii "CDHSN") c.strain 0 ∷ [])) None)))
 
 abbrev pub raw_of : PbnCall → Option Span
-raw_of c = pick (eqb c.annotated 0) none (some c.annotation)
+raw_of c = pick (eqb c.annotated 0) None (Some c.annotation)
 
 -- `Event - Date`, `Event`, or ` - Date`
 abbrev pub title_of : (event date : Option (List ℕ)) → Option (List ℕ)
-title_of e none = e
-title_of none (some d) = some (ascii " - " ++ d)
-title_of (some e) (some d) = some (e ++ (ascii " - " ++ d))
+title_of e None = e
+title_of None (Some d) = Some (ascii " - " ++ d)
+title_of (Some e) (Some d) = Some (e ++ (ascii " - " ++ d))
 
 -- the board id as written, or else the number
-abbrev pub label_of : (id : Option (List ℕ)) → MaybeNumber → Option (List ℕ)
-label_of (some s) n = some s
-label_of none (Number n) = some (decimal n)
-label_of none NoNumber = none
+abbrev pub label_of : (id : Option (List ℕ)) → Option ℕ → Option (List ℕ)
+label_of (Some s) n = Some s
+label_of None (Some n) = Some (decimal n)
+label_of None None = None
 
 -- the text of a raw annotation, if there is one and it has words
 abbrev pub annotation_by : (s notes : List ℕ) → Option Span → Option (List ℕ)
-annotation_by s ws none = none
-annotation_by s ws (some x) = annotation_text s ws (bytes_at s x)
+annotation_by s ws None = None
+annotation_by s ws (Some x) = annotation_text s ws (bytes_at s x)
 
 -- the bytes of a text, or none; an empty event, date or id acts as absent
-abbrev pub text_by : (s : List ℕ) → MaybeSpan → Option (List ℕ)
-text_by s x = map_option (bytes_at s) (option_of x)
+abbrev pub text_by : (s : List ℕ) → Option Span → Option (List ℕ)
+text_by s x = map_option (bytes_at s) x
 
-abbrev pub filled_by : (s : List ℕ) → MaybeSpan → Option (List ℕ)
+abbrev pub filled_by : (s : List ℕ) → Option Span → Option (List ℕ)
 filled_by s x = present (text_by s x)
 
 -- "names .. and annotations are cleaned"
-abbrev pub name_by : (p q : ℕ) (s : List ℕ) → MaybeSpan → List ℕ
+abbrev pub name_by : (p q : ℕ) (s : List ℕ) → Option Span → List ℕ
 name_by p q s x = clean_name p q (or_empty (text_by s x))
 
 module _ (p q : ℕ) (s notes : List ℕ) where
   abbrev pub kept_by : Option (List ℕ) → PbnCall → List (CallOf (List ℕ)) → List (CallOf (List ℕ))
-  kept_by none c cs = cs
-  kept_by (some b) c cs = record { bid = b; alerted = false; annotation = map_option (clean p q) (annotation_by s notes (raw_of c)) } ∷ cs
+  kept_by None c cs = cs
+  kept_by (Some b) c cs = record { bid = b; alerted = false; annotation = map_option (clean p q) (annotation_by s notes (raw_of c)) } ∷ cs
 
   unfoldable pub kept_calls : List PbnCall → List (CallOf (List ℕ))
   kept_calls [] = []
@@ -155,8 +146,8 @@ laid_names at [] = []
 laid_names at (n ∷ ns) = span at (length n) ∷ laid_names (at + length n) ns
 
 abbrev pub laid_option : (at : ℕ) → Option (List ℕ) → Option Span
-laid_option at none = none
-laid_option at (some s) = some (span at (length s))
+laid_option at None = None
+laid_option at (Some s) = Some (span at (length s))
 
 unfoldable pub laid_calls : (at : ℕ) → List (CallOf (List ℕ)) → List (CallOf Span)
 laid_calls at [] = []
@@ -190,9 +181,9 @@ bad_entry c = ltb 51 c && not (eqb c gap)
 abbrev pub bad_call : PbnCall → Bool
 bad_call c = ltb 5 c.kind || ((eqb c.kind 3 && (eqb c.level 0 || (ltb 7 c.level || ltb 4 c.strain))) || ltb 1 c.annotated)
 
-abbrev pub bad_board_number : MaybeNumber → Bool
-bad_board_number NoNumber = false
-bad_board_number (Number n) = eqb n 0 || ltb 65535 n
+abbrev pub bad_board_number : Option ℕ → Bool
+bad_board_number None = false
+bad_board_number (Some n) = eqb n 0 || ltb 65535 n
 
 unfoldable pub bad_pbn : Pbn → Bool
 bad_pbn x = bad_board_number x.board.number || (any bad_call x.calls || any bad_entry x.plays)
@@ -201,29 +192,27 @@ bad_pbn x = bad_board_number x.board.number || (any bad_call x.calls || any bad_
 abbrev pub raw_spans : List PbnCall → List Span
 raw_spans cs = concat (map (λ (c : PbnCall). span_in (raw_of c)) cs)
 
-abbrev pub name_spans : List MaybeSpan → List Span
-name_spans xs = concat (map (λ (x : MaybeSpan). span_in (option_of x)) xs)
+abbrev pub name_spans : List (Option Span) → List Span
+name_spans xs = concat (map (λ (x : Option Span). span_in x) xs)
 
 unfoldable pub pbn_spans : Pbn → List Span
 pbn_spans x =
     let b = x.board in
     name_spans (pbn_names b)
-    ++ (span_in (option_of b.event) ++ (span_in (option_of b.date) ++ (span_in (option_of b.id) ++ (raw_spans x.calls ++ note_spans x.notes))))
+    ++ (span_in b.event ++ (span_in b.date ++ (span_in b.id ++ (raw_spans x.calls ++ note_spans x.notes))))
 
--- what `from_board` gives: the heading with its length, and the rows, the cards and the output afterwards
+-- what `from_board` gives: the heading and how many bytes the texts have, or the refusal; and the rows, the cards and the output afterwards
 pub record Conversion : Type 0 where
-  pub heading : Heading
-  pub len : ℕ
+  pub answer : Answer Converted
   pub rows : List ℕ
   pub cards : List ℕ
   pub output : List ℕ
 
 abbrev pub converted : Answer (BoardOf Span) → (texts rows cards o : List ℕ) → Conversion
-converted (refused r) t rows cards o = record { heading = headed (refused r); len = 0; rows = rows; cards = cards; output = o }
-converted (accepted b) t rows cards o =
+converted (Err r) t rows cards o = record { answer = Err r; rows = rows; cards = cards; output = o }
+converted (Ok b) t rows cards o =
     record {
-      heading = headed (accepted b);
-      len = length t;
+      answer = Ok (record { heading = heading_of b; len = length t });
       rows = overlay rows 0 (call_words b.calls);
       cards = overlay cards 0 b.play;
       output = overlay o 0 t;

@@ -1,25 +1,17 @@
 -- One board from a text: the entries of `parse_lin`. (01: Board, `parse_lin`; Records, "The calls stand in a list of rows ..")
-use Rattle.std.specs.Prelude.{ℕ, ◌+◌, ◌/◌, Bool, true, false, List, [], ◌∷◌, ◌++◌, length, drop, ltb}
-use Rattle.std.proofs.Math.Option.{Option, none, some}
+use Rattle.std.specs.Prelude.{ℕ, ◌+◌, ◌/◌, Bool, true, false, List, [], ◌∷◌, ◌++◌, length, drop, ltb, Option, None, Some, Err, Ok}
 use Rattle.lin_spec.specs.Records.{span, part, bytes_at}
 use Rattle.lin_spec.specs.Tokens.{Pieces, cut, pipe, TokenOf, tokens}
 use Rattle.lin_spec.specs.Tokens.Pieces.{end, piece}
 use Rattle.lin_spec.specs.Tokens.TokenOf.{token}
 use Rattle.lin_spec.specs.Refusals.{Answer, refuse_if, unless, too_long, not_utf8}
-use Rattle.lin_spec.specs.Refusals.Answer.{refused, accepted}
 use Rattle.lin_spec.specs.Output.{overlay}
 use Rattle.lin_spec.specs.Board.{CallOf, BoardOf, Text, board_from}
-use Rattle.lin_spec.specs.Fresh.{refused_heading}
 use Rattle.lin_spec.specs.declared.Span.{Span}
 use Rattle.lin_spec.specs.declared.RowKind.{RowKind}
 use Rattle.lin_spec.specs.declared.RowKind.TheVariants.{Calls, Cards}
 use Rattle.lin_spec.specs.declared.Refusal.{Refusal}
 use Rattle.lin_spec.specs.declared.Refusal.TheVariants.{TooFewRows}
-use Rattle.lin_spec.specs.declared.MaybeSpan.{MaybeSpan}
-use Rattle.lin_spec.specs.declared.MaybeSpan.TheVariants.{Absent, Present}
-use Rattle.lin_spec.specs.declared.MaybeClaim.{MaybeClaim}
-use Rattle.lin_spec.specs.declared.MaybeClaim.TheVariants.{Absent as NoClaim, Claimed}
-use Rattle.lin_spec.specs.declared.Verdict.TheVariants.{Accepted}
 use Rattle.lin_spec.specs.declared.Heading.{Heading}
 
 -- texts as bytes, for what a board means; and as spans into s, for what an entry answers
@@ -48,40 +40,30 @@ parse_lin s = board_from bytes_text (tokens s)
 unfoldable pub parse_spans : List ℕ → BoardOf Span
 parse_spans s = board_from (span_text s) (stream s 0)
 
--- a span or a claim "or absent", as the declared types hold it
-abbrev pub maybe_of : Option Span → MaybeSpan
-maybe_of none = Absent
-maybe_of (some x) = Present x
-
-abbrev pub claimed_of : Option ℕ → MaybeClaim
-claimed_of none = NoClaim
-claimed_of (some n) = Claimed n
-
 -- "A heading call gives everything but rows, with the numbers of calls and cards."
 abbrev pub heading_of : BoardOf Span → Heading
 heading_of b =
     record {
-      verdict = Accepted;
       board =
           record {
             names = b.names;
             dealer = b.dealt.dealer;
             deal = record { counts = b.dealt.deal };
             vulnerability = b.vulnerability;
-            title = maybe_of b.title;
-            room_board = maybe_of b.room;
-            board_header = maybe_of b.header;
-            claim = claimed_of b.claim;
+            title = b.title;
+            room_board = b.room;
+            board_header = b.header;
+            claim = b.claim;
           };
       calls = length b.calls;
       cards = length b.play;
     }
 
-abbrev pub headed : Answer (BoardOf Span) → Heading
-headed (refused r) = refused_heading r
-headed (accepted b) = heading_of b
+abbrev pub headed : Answer (BoardOf Span) → Answer Heading
+headed (Err r) = Err r
+headed (Ok b) = Ok (heading_of b)
 
-unfoldable pub read_heading : List ℕ → Heading
+unfoldable pub read_heading : List ℕ → Answer Heading
 read_heading s = headed (unless (too_long s ∷ not_utf8 s ∷ []) (parse_spans s))
 
 -- a call row as six words: bid start and length, alerted, annotated, annotation start and length
@@ -90,8 +72,8 @@ flag true = 1
 flag false = 0
 
 abbrev pub annotation_words : Option Span → List ℕ
-annotation_words none = 0 ∷ 0 ∷ 0 ∷ []
-annotation_words (some x) = 1 ∷ x.start ∷ x.len ∷ []
+annotation_words None = 0 ∷ 0 ∷ 0 ∷ []
+annotation_words (Some x) = 1 ∷ x.start ∷ x.len ∷ []
 
 unfoldable pub call_words : List (CallOf Span) → List ℕ
 call_words [] = []
@@ -104,16 +86,16 @@ too_few k rows needed = refuse_if (ltb rows needed) (TooFewRows k needed)
 abbrev pub few_rows : BoardOf Span → (rows cards : List ℕ) → List (Option Refusal)
 few_rows b rows cards = too_few Calls (length rows / 6) (length b.calls) ∷ too_few Cards (length cards) (length b.play) ∷ []
 
--- the heading, and the rows and cards afterwards
+-- the heading or the refusal, and the rows and cards afterwards
 pub record Reading : Type 0 where
-  pub heading : Heading
+  pub heading : Answer Heading
   pub rows : List ℕ
   pub cards : List ℕ
 
 -- "All lent memory stays. Rows and bytes not named by a success stay too."
 abbrev pub stored : Answer (BoardOf Span) → (rows cards : List ℕ) → Reading
-stored (refused r) rows cards = record { heading = refused_heading r; rows = rows; cards = cards }
-stored (accepted b) rows cards = record { heading = heading_of b; rows = overlay rows 0 (call_words b.calls); cards = overlay cards 0 b.play }
+stored (Err r) rows cards = record { heading = Err r; rows = rows; cards = cards }
+stored (Ok b) rows cards = record { heading = Ok (heading_of b); rows = overlay rows 0 (call_words b.calls); cards = overlay cards 0 b.play }
 
 unfoldable pub read_board : (s rows cards : List ℕ) → Reading
 read_board s rows cards =

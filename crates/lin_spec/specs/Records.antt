@@ -1,9 +1,6 @@
 -- Texts and spans. (01: Records)
 use Rattle.std.specs.Prelude.{ℕ, ◌+◌, List, take, drop}
-use Rattle.std.proofs.Math.Option.{Option, none, some}
 use Rattle.lin_spec.specs.declared.Span.{Span}
-use Rattle.lin_spec.specs.declared.MaybeSpan.{MaybeSpan}
-use Rattle.lin_spec.specs.declared.MaybeSpan.TheVariants.{Absent, Present}
 
 -- "A text has at most 1,048,576 bytes."
 abbrev pub limit : ℕ
@@ -24,8 +21,3 @@ part s a n = take n (drop a s)
 -- the bytes that a span names
 abbrev pub bytes_at : List ℕ → Span → List ℕ
 bytes_at s x = part s x.start x.len
-
--- "a span or absent"
-abbrev pub option_of : MaybeSpan → Option Span
-option_of Absent = none
-option_of (Present x) = some x

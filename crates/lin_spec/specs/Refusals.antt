@@ -1,6 +1,5 @@
 -- The refusals, what each carries, and the order of the checks. (01: Eight refusals; 02: N1, "it joins demand 1's eight, 01's table and its order of checks")
-use Rattle.std.specs.Prelude.{ℕ, ◌-◌, ◌^◌, min, Bool, not, List, [], ◌∷◌, length, ltb}
-use Rattle.std.proofs.Math.Option.{Option, none, some}
+use Rattle.std.specs.Prelude.{ℕ, ◌-◌, ◌^◌, min, Bool, not, List, [], ◌∷◌, length, ltb, Option, None, Some, Result, Ok, Err}
 use Rattle.lin_spec.specs.Base.{pick, any}
 use Rattle.lin_spec.specs.Records.{limit, end_of, bytes_at}
 use Rattle.lin_spec.specs.Utf8.{utf8, longest}
@@ -52,19 +51,18 @@ carried_of OutOfRange = 0
 carried_of (BidUnknown n) = n
 
 -- what a call answers: one of the refusals, or its result
-pub data Answer (A : Type 0) : Type 0 where
-  refused : Refusal → Answer A
-  accepted : A → Answer A
+abbrev pub Answer : Type 0 → Type 0
+Answer A = Result A Refusal
 
 -- the refusal, where its condition holds
 abbrev pub refuse_if : Bool → Refusal → Option Refusal
-refuse_if t r = pick t (some r) none
+refuse_if t r = pick t (Some r) None
 
 -- "Each is checked over the whole input before the next": the first of the checks that meets the call, or the result
 unfoldable pub unless : {A : Type 0} → List (Option Refusal) → A → Answer A
-unless [] a = accepted a
-unless (none ∷ cs) a = unless cs a
-unless (some r ∷ cs) a = refused r
+unless [] a = Ok a
+unless (None ∷ cs) a = unless cs a
+unless (Some r ∷ cs) a = Err r
 
 -- 1: "a lent text is too long"
 abbrev pub too_long : List ℕ → Option Refusal

@@ -1,7 +1,6 @@
 -- The bytes that a board is written as, and its settled form. (01: Writer and settled form)
-use Rattle.std.specs.Prelude.{ℕ, zero, suc, ◌+◌, ◌*◌, ◌/◌, ◌%◌, Bool, true, ◌&&◌, ◌||◌, not, List, [], ◌∷◌, ◌++◌, map, get_or, replicate, eqb}
+use Rattle.std.specs.Prelude.{ℕ, zero, suc, ◌+◌, ◌*◌, ◌/◌, ◌%◌, Bool, true, ◌&&◌, ◌||◌, not, List, [], ◌∷◌, ◌++◌, map, get_or, replicate, eqb, Option, None, Some}
 use Prim.Native.Char.{code}
-use Rattle.std.proofs.Math.Option.{Option, none, some}
 use Rattle.lin_spec.specs.Base.{pick, keep, null, concat, join_by, ascii}
 use Rattle.lin_spec.specs.Tokens.{pipe}
 use Rattle.lin_spec.specs.Cards.{sum, unheld_cards, thirteens}
@@ -80,12 +79,12 @@ md_text x =
 -- The written form: "Bytes are those of `write_lin`"
 
 abbrev pub or_empty : Option (List ℕ) → List ℕ
-or_empty none = []
-or_empty (some s) = s
+or_empty None = []
+or_empty (Some s) = s
 
 abbrev pub optional : (before : List ℕ) → Option (List ℕ) → List ℕ
-optional w none = []
-optional w (some s) = w ++ (s ++ ascii "|")
+optional w None = []
+optional w (Some s) = w ++ (s ++ ascii "|")
 
 -- `mb`, with an exclamation mark where it is alerted, and `an` where it is annotated
 unfoldable pub call_text : (p q : ℕ) → CallOf (List ℕ) → List ℕ
@@ -118,8 +117,8 @@ unfoldable pub tricks_text : List ℕ → List ℕ
 tricks_text cs = concat (map trick_text (tricks cs))
 
 abbrev pub claim_text : Option ℕ → List ℕ
-claim_text none = []
-claim_text (some n) = ascii "mc|" ++ (decimal n ++ ascii "|pg||\n")
+claim_text None = []
+claim_text (Some n) = ascii "mc|" ++ (decimal n ++ ascii "|pg||\n")
 
 unfoldable pub written : (p q : ℕ) → BoardOf (List ℕ) → List ℕ
 written p q b =
@@ -141,8 +140,8 @@ written p q b =
 
 -- "empty title and room absent"
 abbrev pub present : Option (List ℕ) → Option (List ℕ)
-present none = none
-present (some s) = pick (null s) none (some s)
+present None = None
+present (Some s) = pick (null s) None (Some s)
 
 -- "an implied East beside three 13s replaced by the remainder"
 unfoldable pub settled_deal : List ℕ → List ℕ

@@ -1,9 +1,9 @@
 #![tactic(auto)]
 
-// The types that the entries share: spans, boards, refusals and what a writer answers. (01: Records, Eight refusals; 02: N1)
+// The types that the entries share: spans, boards and refusals. What can be absent is an Option, and what can be refused a Result with a Refusal. (01: Records, Eight refusals; 02: N1)
 ghost use Rattle.std.specs.Prelude.{◌≡◌, ◌<◌, min};
-ghost use Rattle.lin_spec.specs.Fresh.{fresh_deal, fresh_board, refused_heading};
-ghost use Rattle.lin_spec.specs.Records.{limit, option_of};
+ghost use Rattle.lin_spec.specs.Fresh.{fresh_deal, fresh_board};
+ghost use Rattle.lin_spec.specs.Records.{limit};
 ghost use Rattle.lin_spec.specs.Reading.{flag};
 ghost use Rattle.lin_spec.specs.Lent.{row_of};
 ghost use Rattle.lin_spec.specs.Refusals.{number_of, kind_of, carried_of};
@@ -13,27 +13,21 @@ ghost use Rattle.lin_spec.specs.Letters.{seat_number, seat_at, seat_letter, sv_l
 pub const LIMIT: usize = 1_048_576;
 
 // A start and a length in bytes, into a text lent beside the record.
-#[derive(Clone, Copy)]
+#[derive(Clone, Copy, Debug, PartialEq, Eq)]
 pub struct Span {
     pub start: u32,
     pub len: u32,
 }
 
-#[derive(Clone, Copy)]
-pub enum MaybeSpan {
-    Absent,
-    Present(Span),
-}
-
 // The rows that refusal 3 speaks of.
-#[derive(Clone, Copy)]
+#[derive(Clone, Copy, Debug, PartialEq, Eq)]
 pub enum RowKind {
     Calls,
     Cards,
 }
 
 // The refusals, with what each carries: the eight of 01, and those that the requests of 02 add.
-#[derive(Clone, Copy)]
+#[derive(Clone, Copy, Debug, PartialEq, Eq)]
 pub enum Refusal {
     TextTooLong,
     NotUtf8(u64),
@@ -69,18 +63,8 @@ impl Refusal {
         ensures { result ≡ kind_of self }
     {
         match self {
-            Refusal::TooFewRows(k, _) => match k {
-                RowKind::Calls => 0,
-                RowKind::Cards => 1,
-            },
-            Refusal::TextTooLong => 0,
-            Refusal::NotUtf8(_) => 0,
-            Refusal::NoBoard(_) => 0,
-            Refusal::SpanPastEnd => 0,
-            Refusal::SpanNotUtf8 => 0,
-            Refusal::OutputTooSmall(_) => 0,
-            Refusal::OutOfRange => 0,
-            Refusal::BidUnknown(_) => 0,
+            Refusal::TooFewRows(RowKind::Cards, _) => 1,
+            _ => 0,
         }
     }
 
@@ -89,34 +73,24 @@ impl Refusal {
         ensures { result ≡ carried_of self }
     {
         match self {
-            Refusal::NotUtf8(n) => n,
-            Refusal::TooFewRows(_, n) => n,
-            Refusal::NoBoard(n) => n,
-            Refusal::OutputTooSmall(n) => n,
-            Refusal::BidUnknown(n) => n,
-            Refusal::TextTooLong => 0,
-            Refusal::SpanPastEnd => 0,
-            Refusal::SpanNotUtf8 => 0,
-            Refusal::OutOfRange => 0,
+            Refusal::NotUtf8(n)
+            | Refusal::TooFewRows(_, n)
+            | Refusal::NoBoard(n)
+            | Refusal::OutputTooSmall(n)
+            | Refusal::BidUnknown(n) => n,
+            _ => 0,
         }
     }
-}
-
-// What a writer answers: how many bytes it wrote, or why it wrote none.
-#[derive(Clone, Copy)]
-pub enum Written {
-    Length(usize),
-    Refused(Refusal),
 }
 
 // The most of an output of this length that is ever filled.
 pub fn room(len: usize) -> usize
     ensures { result ≡ min len limit }
 {
-    if len < LIMIT { len } else { LIMIT }
+    len.min(LIMIT)
 }
 
-#[derive(Clone, Copy)]
+#[derive(Clone, Copy, Debug, PartialEq, Eq)]
 pub enum Seat {
     South,
     West,
@@ -161,7 +135,7 @@ impl Seat {
     }
 }
 
-#[derive(Clone, Copy)]
+#[derive(Clone, Copy, Debug, PartialEq, Eq)]
 pub enum Vulnerability {
     None,
     NorthSouth,
@@ -181,13 +155,6 @@ impl Vulnerability {
             Vulnerability::Both => b'b',
         }
     }
-}
-
-// The tricks claimed.
-#[derive(Clone, Copy)]
-pub enum MaybeClaim {
-    Absent,
-    Claimed(u8),
 }
 
 // Four hands of 52 counts each, in the order of the seats: the count of a card is at seat times 52 plus card.
@@ -215,10 +182,10 @@ pub struct Board {
     pub dealer: Seat,
     pub deal: Deal,
     pub vulnerability: Vulnerability,
-    pub title: MaybeSpan,
-    pub room_board: MaybeSpan,
-    pub board_header: MaybeSpan,
-    pub claim: MaybeClaim,
+    pub title: Option<Span>,
+    pub room_board: Option<Span>,
+    pub board_header: Option<Span>,
+    pub claim: Option<u8>,
 }
 
 impl Board {
@@ -230,22 +197,21 @@ impl Board {
         ensures { result ≡ fresh_board }
     {
         let none = Span { start: 0, len: 0 };
-        let deal = Deal::new();
         Board {
             names: [none, none, none, none],
             dealer: Seat::North,
-            deal,
+            deal: Deal { counts: [0; 208] },
             vulnerability: Vulnerability::None,
-            title: MaybeSpan::Absent,
-            room_board: MaybeSpan::Absent,
-            board_header: MaybeSpan::Absent,
-            claim: MaybeClaim::Absent,
+            title: None,
+            room_board: None,
+            board_header: None,
+            claim: None,
         }
     }
 }
 
 // A call as six numbers: alerted and annotated are 0 or 1, and an absent annotation is at 0, 0.
-#[derive(Clone, Copy)]
+#[derive(Clone, Copy, Debug, PartialEq, Eq)]
 pub struct Call {
     pub bid: Span,
     pub alerted: u32,
@@ -253,93 +219,26 @@ pub struct Call {
     pub annotation: Span,
 }
 
-// 1 or 0.
-fn flag_of(b: bool) -> u32
-    ensures { result ≡ flag b }
-{
-    if b { 1 } else { 0 }
-}
-
 impl Call {
     // A call by its bid, whether it is alerted, and its annotation.
-    pub fn new(bid: Span, alerted: bool, annotation: MaybeSpan) -> Call
-        ensures { result ≡ row_of (record { bid = bid; alerted = alerted; annotation = option_of annotation }) }
+    pub fn new(bid: Span, alerted: bool, annotation: Option<Span>) -> Call
+        ensures { result ≡ row_of (record { bid = bid; alerted = alerted; annotation = annotation }) }
     {
-        let alerted = flag_of(alerted);
-        match annotation {
-            MaybeSpan::Absent => Call {
-                bid,
-                alerted,
-                annotated: 0,
-                annotation: Span { start: 0, len: 0 },
-            },
-            MaybeSpan::Present(x) => Call {
-                bid,
-                alerted,
-                annotated: 1,
-                annotation: x,
-            },
+        Call {
+            bid,
+            alerted: u32::from(alerted),
+            annotated: u32::from(annotation.is_some()),
+            annotation: annotation.unwrap_or(Span { start: 0, len: 0 }),
         }
     }
 }
 
-// Whether a call was accepted, or the refusal that met it.
-#[derive(Clone, Copy)]
-pub enum Verdict {
-    Accepted,
-    Refused(Refusal),
-}
-
-// A board without its rows, and how many calls and cards it has. A refusal gives a fresh board, and none.
+// A board without its rows, and how many calls and cards it has.
 #[derive(Clone, Copy)]
 pub struct Heading {
-    pub verdict: Verdict,
     pub board: Board,
     pub calls: usize,
     pub cards: usize,
-}
-
-impl Heading {
-    // What a refused call gives.
-    pub fn refused(r: Refusal) -> Self
-        ensures { result ≡ refused_heading r }
-    {
-        let verdict = Verdict::Refused(r);
-        let board = Board::new();
-        Heading {
-            verdict,
-            board,
-            calls: 0,
-            cards: 0,
-        }
-    }
-}
-
-// Whether a board equals another, or why the call was refused.
-#[derive(Clone, Copy)]
-pub enum Equality {
-    Equal,
-    Different,
-    Refused(Refusal),
-}
-
-// A dealer, a board number and a result of a PBN record, each or none.
-#[derive(Clone, Copy)]
-pub enum MaybeSeat {
-    Absent,
-    Given(Seat),
-}
-
-#[derive(Clone, Copy)]
-pub enum MaybeNumber {
-    Absent,
-    Number(u32),
-}
-
-#[derive(Clone, Copy)]
-pub enum MaybeResult {
-    Absent,
-    Tricks(i32),
 }
 
 // A call of a PBN record as six numbers. kind is 0 to 5: pass, double, redouble, bid, continue, blank; level is 1 to 7 and strain 0 to 4 for
@@ -356,26 +255,18 @@ pub struct PbnCall {
 // A PBN record. Its calls, its play and its notes stand in lists lent beside it. The first four are the names, in the order of LIN.
 #[derive(Clone, Copy)]
 pub struct PbnBoard {
-    pub south: MaybeSpan,
-    pub west: MaybeSpan,
-    pub north: MaybeSpan,
-    pub east: MaybeSpan,
-    pub event: MaybeSpan,
-    pub date: MaybeSpan,
-    pub id: MaybeSpan,
-    pub number: MaybeNumber,
-    pub dealer: MaybeSeat,
+    pub south: Option<Span>,
+    pub west: Option<Span>,
+    pub north: Option<Span>,
+    pub east: Option<Span>,
+    pub event: Option<Span>,
+    pub date: Option<Span>,
+    pub id: Option<Span>,
+    pub number: Option<u32>,
+    pub dealer: Option<Seat>,
     pub deal: Deal,
     pub vulnerability: Vulnerability,
-    pub result: MaybeResult,
-}
-
-// What an annotation's writer answers: no word, how many bytes it wrote, or why it wrote none.
-#[derive(Clone, Copy)]
-pub enum AnnotationWritten {
-    Absent,
-    Length(usize),
-    Refused(Refusal),
+    pub result: Option<i32>,
 }
 
 // A board made from a PBN record, and how many bytes its texts have.

@@ -1,17 +1,16 @@
 -- Laws of the whole listing: what is left to list from a cursor on, measured and put, and which listing an input has. (01: Program linlist)
 -- Assumes nothing.
+use Rattle.std.specs.Prelude.{Option, Err, Ok, Result}
 use Prim.Native.Nat.{ℕ, ◌+◌, ◌^◌, ◌≤◌, ◌<◌}
 use native.Mathlib.Omega.{arith}
 use mathlib.Core.Path.{◌≡◌, refl, ap, sym, ◌∙◌}
 use mathlib.Core.Bool.{Bool, true, false, not, false≢true}
 use mathlib.Core.List.{List, [], ◌∷◌, ◌++◌, map}
-use mathlib.Core.Option.{Option}
 use lib.ListN.{length, take, length-append}
 use borrow.Author.Tests.{le-ltb, lt-ltb}
 use Rattle.lin_spec.specs.Base.{keep}
 use Rattle.lin_spec.specs.Records.{limit}
 use Rattle.lin_spec.specs.Refusals.{unless, too_long, not_utf8, sat}
-use Rattle.lin_spec.specs.Refusals.Answer.{refused, accepted}
 use Rattle.lin_spec.specs.Output.{Outcome, room}
 use Rattle.lin_spec.specs.Reading.{heading_of}
 use Rattle.lin_spec.specs.File.{Section as Part, Standing, open_boards, boards_of, board_in, file_spans, remaining}
@@ -25,8 +24,6 @@ use Rattle.board_loop.specs.Head.{board_at}
 use Rattle.file_sections.specs.Sections.{section_of, standing_of, opened_of, AtFirst}
 use Rattle.file_sections.specs.declared.sections.Section.{Section}
 use Rattle.file_sections.specs.declared.sections.BoardCursor.{BoardCursor}
-use Rattle.file_sections.specs.declared.sections.OpenedBoards.{OpenedBoards}
-use Rattle.file_sections.specs.declared.sections.OpenedBoards.TheVariants.{At, Refused}
 use Rattle.file_sections.proofs.WayLaws.{Way, way_begin, way_on, number-board, number-other}
 use Rattle.output.specs.Put.{Room, Put}
 use Rattle.output.proofs.Laws.{Left, start, roomy, step, finish, overlay-nil}
@@ -143,7 +140,7 @@ whole_long : (s : List ℕ) (x n : ℕ) → x ≡ sat (length (board_lines 0 (fi
 whole_long s x n e f = let l = length-append header (board_lines 0 (file_spans s)) in let h = header-long in omega arith
 
 module _ (s o : List ℕ) (x need : ℕ) (ex : x ≡ sat (length (board_lines 0 (file_spans s)))) (en : need ≡ sat (43 + x)) (r : ℕ) (er : r ≡ room o) where
-  pub whole-small : r < need → ◌≡◌ {A = Outcome} (record { answer = refused (OutputTooSmall need); output = o }) (write_line (header ++ board_lines 0 (file_spans s)) o)
+  pub whole-small : r < need → ◌≡◌ {A = Outcome} (record { answer = Err (OutputTooSmall need); output = o }) (write_line (header ++ board_lines 0 (file_spans s)) o)
   whole-small h = line_small (header ++ board_lines 0 (file_spans s)) o need (whole_long s x need ex en) r er h
 
   module _ (h : need ≤ r) where
@@ -158,7 +155,7 @@ module _ (s o : List ℕ) (x need : ℕ) (ex : x ≡ sat (length (board_lines 0 
       lines-room = record { room = (step {s = header} begun p).room }
 
       pub whole-done : {o₂ : List ℕ} {n₂ : ℕ} → Put o₁ n₁ (board_lines 0 (file_spans s)) o₂ n₂
-          → ◌≡◌ {A = Outcome} (record { answer = accepted n₂; output = o₂ }) (write_line (header ++ board_lines 0 (file_spans s)) o)
+          → ◌≡◌ {A = Outcome} (record { answer = Ok n₂; output = o₂ }) (write_line (header ++ board_lines 0 (file_spans s)) o)
       whole-done q =
           let l = step {s = header} begun p in
           line-done (header ++ board_lines 0 (file_spans s)) o need (whole_long s x need ex en) r er h (record { next = omega (arith, q.next, l.ends); text = q.text ∙ l.same })
@@ -179,13 +176,13 @@ module _ (s : List ℕ) where
     unfolding unless
     same-checks ds a = simp (le-ltb 65536 (length s) h, le-ltb limit (length s) (let k : length s ≤ limit = omega arith in k))
 
-    module _ (o : OpenedBoards) (e : opened_of o ≡ open_boards s) where
-      pub list_refused : (r : Refusal) → o ≡ Refused r → refusal_line r ≡ listing s
+    module _ (o : Result BoardCursor Refusal) (e : opened_of o ≡ open_boards s) where
+      pub list_refused : (r : Refusal) → o ≡ Err r → refusal_line r ≡ listing s
       unfolding listing open_boards
       list_refused r f = sym (ap printed (same-checks (not_utf8 s ∷ []) (file_spans s) ∙ unless-refused (too_long s ∷ not_utf8 s ∷ []) [] _ (file_spans s) r (sym e ∙ ap opened_of f)))
 
-      pub list_boards : (c : BoardCursor) → o ≡ At c → header ++ board_lines 0 (file_spans s) ≡ listing s
+      pub list_boards : (c : BoardCursor) → o ≡ Ok c → header ++ board_lines 0 (file_spans s) ≡ listing s
       unfolding listing open_boards
       list_boards c f =
-          let z : unless [] (file_spans s) ≡ accepted (file_spans s) = unfold unless in refl in
+          let z : unless [] (file_spans s) ≡ Ok (file_spans s) = unfold unless in refl in
           sym (ap printed (same-checks (not_utf8 s ∷ []) (file_spans s) ∙ unless-passed (too_long s ∷ not_utf8 s ∷ []) [] _ (standing_of c) (file_spans s) (sym e ∙ ap opened_of f) ∙ z))

@@ -1,12 +1,13 @@
 -- The listing of any input fits the largest room of an output: a line has at most 15 bytes for each byte that its board takes. (01: Program
 -- linlist; Writer, "Every output's room ..")
 -- Assumes nothing.
+use Rattle.std.specs.Result.{result_unwrap_or}
+use Rattle.std.specs.Prelude.{Option, None, Some, Ok, Result}
 use Prim.Native.Nat.{ℕ, zero, suc, ◌+◌, ◌-◌, ◌*◌, ◌≤◌, ◌<◌}
 use native.Mathlib.Omega.{arith}
 use mathlib.Core.Path.{◌≡◌, refl, ap, sym, subst, ◌∙◌}
 use mathlib.Core.Bool.{Bool, true, false, ◌&&◌, not, false≢true}
 use mathlib.Core.List.{List, [], ◌∷◌, ◌++◌}
-use mathlib.Core.Option.{Option, none, some}
 use lib.ListN.{length, take, drop, length-append, length-take, length-drop}
 use lib.Dec.{eqb, ltb}
 use borrow.Author.Tests.{le-ltb}
@@ -21,9 +22,8 @@ use Rattle.lin_spec.specs.Board.{CallOf, Dealt, dealer_of, dealt_by, read_md, ca
 use Rattle.lin_spec.specs.Decimal.{decimal}
 use Rattle.lin_spec.specs.Letters.{seat_number, hand_length}
 use Rattle.lin_spec.specs.Refusals.{number_of, unless}
-use Rattle.lin_spec.specs.Refusals.Answer.{refused, accepted}
-use Rattle.lin_spec.specs.Output.{Outcome, overlay, room, answer_of, fill}
-use Rattle.lin_spec.specs.Reading.{span_text, placed, stream, claimed_of, heading_of}
+use Rattle.lin_spec.specs.Output.{Outcome, overlay, room, fill}
+use Rattle.lin_spec.specs.Reading.{span_text, placed, stream, heading_of}
 use Rattle.lin_spec.specs.File.{Section, holds, tokens_in, Standing, Visit, visit, board_in, file_spans}
 use Rattle.lin_spec.specs.File.Visit.{found, ended}
 use Rattle.lin_spec.specs.Listing.{header, claim_word, board_line, refusal_line, board_lines, listing, write_line}
@@ -32,8 +32,6 @@ use Rattle.lin_spec.specs.declared.Seat.{Seat}
 use Rattle.lin_spec.specs.declared.Seat.TheVariants.{South, West, North, East}
 use Rattle.lin_spec.specs.declared.Refusal.{Refusal}
 use Rattle.lin_spec.specs.declared.Refusal.TheVariants.{TextTooLong, NotUtf8, TooFewRows, NoBoard, SpanPastEnd, SpanNotUtf8, OutputTooSmall, OutOfRange, BidUnknown}
-use Rattle.lin_spec.specs.declared.Written.{Written}
-use Rattle.lin_spec.specs.declared.Written.TheVariants.{Length, Refused}
 use Rattle.lin_spec.proofs.Base.{picked, split}
 use Rattle.lin_spec.proofs.Tokens.{joined, joined-cut}
 use Rattle.lin_spec.proofs.White.{trim_most}
@@ -156,8 +154,8 @@ plays-grow : (t c : List ℕ) (v : Span) (b : List ℕ) → length (on_play (spa
 plays-grow t c v b = picked (λ (x : List ℕ). length x ≤ length b + 1) (is_command c (ascii "pc")) (λ _. go (read_card (trim ((span_text t).bytes v)))) (λ _. omega arith)
   where
     go : (o : Option ℕ) → length (played o b) ≤ length b + 1
-    go none = omega arith
-    go (some k) = rw (length-append b (k ∷ [])) (omega arith)
+    go None = omega arith
+    go (Some k) = rw (length-append b (k ∷ [])) (omega arith)
 
 abbrev Deals : ℕ → Dealt → Type 0
 Deals n d = sum d.deal ≤ 4 * n + 52
@@ -168,8 +166,8 @@ md_keeps n [] d h k = k
 md_keeps n (b ∷ s) d h k = go (dealer_of b)
   where
     go : (o : Option Seat) → Deals n (dealt_by o s d)
-    go none = k
-    go (some x) = deal-sum n (cut 0x2C s) (λ i. let l = field-length 0x2C i s in omega arith)
+    go None = k
+    go (Some x) = deal-sum n (cut 0x2C s) (λ i. let l = field-length 0x2C i s in omega arith)
 
 deal_keeps : (t : List ℕ) (n : ℕ) (c : List ℕ) (v : Span) (d : Dealt) → v.len ≤ n → Deals n d → Deals n (on_dealt (span_text t) c v d)
 deal_keeps t n c v d h k =
@@ -183,15 +181,15 @@ number_under : (s : List ℕ) → Under 256 (number_in 255 s)
 number_under s = go (number_in 255 s) refl
   where
     go : (o : Option ℕ) → number_in 255 s ≡ o → Under 256 o
-    go none e = tt
-    go (some n) e = let l = (number-only 255 s n e).within in omega arith
+    go None e = tt
+    go (Some n) e = let l = (number-only 255 s n e).within in omega arith
 
 claim_keeps : (t : List ℕ) (c : List ℕ) (v : Span) (b : Option ℕ) → Under 256 b → Under 256 (on_claim (span_text t) c v b)
 claim_keeps t c v b k = picked (Under 256) (is_command c (ascii "mc")) (λ _. number_under _) (λ _. k)
 
-claim-word : (o : Option ℕ) → Under 256 o → length (claim_word (claimed_of o)) ≤ 3
-claim-word none u = omega arith
-claim-word (some n) u = digits_3 n (omega arith)
+claim-word : (o : Option ℕ) → Under 256 o → length (claim_word o) ≤ 3
+claim-word None u = omega arith
+claim-word (Some n) u = digits_3 n (omega arith)
 
 -- The line of a board that takes n bytes
 
@@ -205,7 +203,7 @@ module _ (s : List ℕ) (p : Section) (n : ℕ) (l : length (drop p.start (take 
 
   its_claim : Under 256 (board_in s p).claim
   unfolding board_in board_from stream
-  its_claim = over-placed (Under 256) (on_claim (span_text (take p.stop s))) n (λ c v b _ k. claim_keeps (take p.stop s) c v b k) p.start _ cut_most none tt
+  its_claim = over-placed (Under 256) (on_claim (span_text (take p.stop s))) n (λ c v b _ k. claim_keeps (take p.stop s) c v b k) p.start _ cut_most None tt
 
   its_calls : length (board_in s p).calls ≤ n
   unfolding board_in board_from stream
@@ -378,22 +376,15 @@ listing_fits s =
 -- An output with the largest room is filled, and never refused
 
 module _ (s o : List ℕ) (l : length o ≡ 1048576) where
-  whole-written : write_line (listing s) o ≡ record { answer = accepted (length (listing s)); output = overlay o 0 (listing s) }
+  whole-written : write_line (listing s) o ≡ record { answer = Ok (length (listing s)); output = overlay o 0 (listing s) }
   unfolding write_line fill unless
   whole-written = simp (le-ltb (room o) (length (listing s)) (let h = listing_fits s in omega arith))
 
-  module _ (r : Written) (o' : List ℕ) (e : ◌≡◌ {A = Outcome} (record { answer = answer_of r; output = o' }) (write_line (listing s) o)) where
-    answered : answer_of r ≡ accepted (length (listing s))
+  module _ (r : Result ℕ Refusal) (o' : List ℕ) (e : ◌≡◌ {A = Outcome} (record { answer = r; output = o' }) (write_line (listing s) o)) where
+    answered : r ≡ Ok (length (listing s))
     answered = ap (λ (x : Outcome). x.answer) (e ∙ whole-written)
 
-    pub whole_put : (n : ℕ) → r ≡ Length n → Put o 0 (listing s) o' n
+    pub whole_put : (n : ℕ) → n ≡ result_unwrap_or r 0 → Put o 0 (listing s) o' n
     whole_put n f =
-        let a : accepted n ≡ accepted (length (listing s)) = ap answer_of (sym f) ∙ answered in
-        let k : n ≡ length (listing s) = cc in
+        let k : n ≡ length (listing s) = f ∙ ap (λ (x : Result ℕ Refusal). result_unwrap_or x 0) answered in
         record { next = omega arith; text = ap (λ (x : Outcome). x.output) (e ∙ whole-written) }
-
-    pub never_refused : (x : Refusal) → r ≡ Refused x → ⊥
-    never_refused x f =
-        let a : refused x ≡ accepted (length (listing s)) = ap answer_of (sym f) ∙ answered in
-        let z : ◌≡◌ {A = ℕ} 0 1 = cc in
-        omega arith

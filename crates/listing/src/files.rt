@@ -2,7 +2,7 @@
 // put them. (01: Program linlist)
 ghost use Rattle.std.specs.Prelude.{◌≡◌, ◌++◌, length};
 ghost use Rattle.lin_spec.specs.Refusals.{sat};
-ghost use Rattle.lin_spec.specs.Output.{Outcome, answer_of};
+ghost use Rattle.lin_spec.specs.Output.{Outcome};
 ghost use Rattle.lin_spec.specs.Reading.{heading_of};
 ghost use Rattle.lin_spec.specs.File.{board_in, file_spans};
 ghost use Rattle.lin_spec.specs.Listing.{header, board_lines, listing, write_line};
@@ -11,8 +11,8 @@ ghost use Rattle.output.specs.Put.{Room, Put};
 ghost use Rattle.listing.specs.Lines.{section_line};
 
 use board::heading_at;
-use file_sections::{BoardCursor, BoardStep, OpenedBoards, Section, open_boards};
-use lin_spec::{Heading, Refusal, Written, room};
+use file_sections::{BoardCursor, Section, open_boards};
+use lin_spec::{Heading, Refusal, room};
 use listing_lines::{board_line_len, put_board_line, put_header, refusal_line};
 use output::sat_add;
 
@@ -60,15 +60,12 @@ fn lines_len(text: &[u8], cursor: BoardCursor) -> u64
     let mut n = 0;
     let mut c = cursor;
     loop {
-        match c.next(text) {
-            BoardStep::Found(number, p, next) => {
-                n = sat_add(n, section_len(text, number, p));
-                c = next;
-            }
-            BoardStep::Ended(_) => {
-                return n;
-            }
-        }
+        let step = c.next(text);
+        let Some((number, p)) = step.found else {
+            return n;
+        };
+        n = sat_add(n, section_len(text, number, p));
+        c = step.cursor;
     }
 }
 
@@ -80,42 +77,39 @@ fn put_lines(out: &mut [u8], at: usize, text: &[u8], cursor: BoardCursor) -> usi
     let mut n = at;
     let mut c = cursor;
     loop {
-        match c.next(text) {
-            BoardStep::Found(number, p, next) => {
-                n = put_section(out, n, text, number, p);
-                c = next;
-            }
-            BoardStep::Ended(_) => {
-                return n;
-            }
-        }
+        let step = c.next(text);
+        let Some((number, p)) = step.found else {
+            return n;
+        };
+        n = put_section(out, n, text, number, p);
+        c = step.cursor;
     }
 }
 
 // The header and the lines of the boards, from a cursor at the first section.
-fn list_from(text: &[u8], cursor: BoardCursor, out: &mut [u8]) -> Written
+fn list_from(text: &[u8], cursor: BoardCursor, out: &mut [u8]) -> Result<usize, Refusal>
     requires { AtFirst text.now cursor }
-    ensures { ◌≡◌ {A = Outcome} (record { answer = answer_of result; output = out.new }) (write_line (header ++ board_lines 0 (file_spans text.now)) out.old) }
+    ensures { ◌≡◌ {A = Outcome} (record { answer = result; output = out.new }) (write_line (header ++ board_lines 0 (file_spans text.now)) out.old) }
 {
     let need = sat_add(43, lines_len(text, cursor));
     if (room(out.len()) as u64) < need {
-        return Written::Refused(Refusal::OutputTooSmall(need));
+        return Err(Refusal::OutputTooSmall(need));
     }
     let a = put_header(out, 0);
     let n = put_lines(out, a, text, cursor);
-    Written::Length(n)
+    Ok(n)
 }
 
 // What linlist prints for an input: the listing of a file, or the line of a refusal.
-pub fn list_file(text: &[u8], out: &mut [u8]) -> Written
-    ensures { ◌≡◌ {A = Outcome} (record { answer = answer_of result; output = out.new }) (write_line (listing text.now) out.old) }
+pub fn list_file(text: &[u8], out: &mut [u8]) -> Result<usize, Refusal>
+    ensures { ◌≡◌ {A = Outcome} (record { answer = result; output = out.new }) (write_line (listing text.now) out.old) }
 {
     if LIST_LIMIT < text.len() {
         return refusal_line(Refusal::TextTooLong, out);
     }
     match open_boards(text) {
-        OpenedBoards::At(c) => list_from(text, c, out),
-        OpenedBoards::Refused(r) => refusal_line(r, out),
+        Ok(c) => list_from(text, c, out),
+        Err(r) => refusal_line(r, out),
     }
 }
 
@@ -123,8 +117,5 @@ pub fn list_file(text: &[u8], out: &mut [u8]) -> Written
 pub fn list_whole(text: &[u8], out: &mut [u8; LIST_ROOM]) -> usize
     ensures { Put out.old 0 (listing text.now) out.new result }
 {
-    match list_file(text, out) {
-        Written::Length(n) => n,
-        Written::Refused(_) => 0,
-    }
+    list_file(text, out).unwrap_or(0)
 }

@@ -1,22 +1,20 @@
 -- Which answer an entry that writes one line gives, by the test that it made. (01: Eight refusals, 7)
 -- Assumes nothing.
+use Rattle.std.specs.Prelude.{Err, Ok}
 use Prim.Native.Nat.{ℕ, ◌+◌, ◌≤◌, ◌<◌}
 use native.Mathlib.Omega.{arith}
-use mathlib.Core.Path.{◌≡◌, ap}
+use mathlib.Core.Path.{◌≡◌}
 use mathlib.Core.List.{List}
 use lib.ListN.{length}
 use borrow.Author.Tests.{lt-ltb, le-ltb}
 use Rattle.lin_spec.specs.Refusals.{unless, sat}
-use Rattle.lin_spec.specs.Refusals.Answer.{refused, accepted}
 use Rattle.lin_spec.specs.Output.{Outcome, room, fill}
-use Rattle.lin_spec.specs.Listing.{line_by, heading_line, write_line}
-use Rattle.lin_spec.specs.declared.Heading.{Heading}
-use Rattle.lin_spec.specs.declared.Verdict.{Verdict}
+use Rattle.lin_spec.specs.Listing.{write_line}
 use Rattle.lin_spec.specs.declared.Refusal.TheVariants.{OutputTooSmall}
 use Rattle.output.specs.Put.{Room, Put}
 
 module _ (t o : List ℕ) (need : ℕ) (en : need ≡ sat (length t)) (r : ℕ) (er : r ≡ room o) where
-  pub line_small : r < need → ◌≡◌ {A = Outcome} (record { answer = refused (OutputTooSmall need); output = o }) (write_line t o)
+  pub line_small : r < need → ◌≡◌ {A = Outcome} (record { answer = Err (OutputTooSmall need); output = o }) (write_line t o)
   unfolding write_line fill unless
   line_small h =
       let z : room o < length t = omega arith in
@@ -25,13 +23,9 @@ module _ (t o : List ℕ) (need : ℕ) (en : need ≡ sat (length t)) (r : ℕ) 
   pub line-fits : need ≤ r → Room o 0 t
   line-fits h = record { room = omega arith }
 
-  pub line-done : need ≤ r → {o' : List ℕ} {n : ℕ} → Put o 0 t o' n → ◌≡◌ {A = Outcome} (record { answer = accepted n; output = o' }) (write_line t o)
+  pub line-done : need ≤ r → {o' : List ℕ} {n : ℕ} → Put o 0 t o' n → ◌≡◌ {A = Outcome} (record { answer = Ok n; output = o' }) (write_line t o)
   unfolding write_line fill unless
   line-done h p =
       let z : length t ≤ room o = omega arith in
       let e : 0 + length t ≡ length t = omega arith in
       simp (le-ltb (room o) (length t) z, p.next, p.text, e)
-
--- a heading's line, by its verdict
-pub by-verdict : (k : ℕ) (h : Heading) (o : List ℕ) {v : Verdict} → h.verdict ≡ v → write_line (heading_line k h) o ≡ write_line (line_by v k h) o
-by-verdict k h o e = ap (λ (v : Verdict). write_line (line_by v k h) o) e

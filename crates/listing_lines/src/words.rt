@@ -8,15 +8,15 @@ ghost use Rattle.output.specs.Put.{Room, Put};
 ghost use Rattle.listing_lines.specs.Pieces.{letters_text, field_text, lengths_text};
 
 use cards::seat_len;
-use lin_spec::{Deal, MaybeClaim, Refusal, Seat, Vulnerability};
-use output::{decimal_len, put_byte, put_decimal, sat_add};
+use lin_spec::{Deal, Refusal, Seat, Vulnerability};
+use output::{decimal_len, put, put_decimal, sat_add};
 
 // Puts the letter of a seat.
 fn put_seat(out: &mut [u8], at: usize, seat: Seat) -> usize
     requires { Room out.old at (seat_letter seat ∷ []) }
     ensures { Put out.old at (seat_letter seat ∷ []) out.new result }
 {
-    put_byte(out, at, seat.letter())
+    put(out, at, seat.letter())
 }
 
 // Puts the letter of a written sv.
@@ -24,7 +24,7 @@ fn put_vul(out: &mut [u8], at: usize, v: Vulnerability) -> usize
     requires { Room out.old at (sv_letter v ∷ []) }
     ensures { Put out.old at (sv_letter v ∷ []) out.new result }
 {
-    put_byte(out, at, v.letter())
+    put(out, at, v.letter())
 }
 
 // Puts both, each after a space.
@@ -32,9 +32,9 @@ pub fn put_letters(out: &mut [u8], at: usize, dealer: Seat, v: Vulnerability) ->
     requires { Room out.old at (letters_text dealer v) }
     ensures { Put out.old at (letters_text dealer v) out.new result }
 {
-    let a = put_byte(out, at, b' ');
+    let a = put(out, at, b' ');
     let b = put_seat(out, a, dealer);
-    let c = put_byte(out, b, b' ');
+    let c = put(out, b, b' ');
     put_vul(out, c, v)
 }
 
@@ -43,7 +43,7 @@ pub fn put_field(out: &mut [u8], at: usize, n: u64) -> usize
     requires { Room out.old at (field_text n) }
     ensures { Put out.old at (field_text n) out.new result }
 {
-    let a = put_byte(out, at, b' ');
+    let a = put(out, at, b' ');
     put_decimal(out, a, n)
 }
 
@@ -89,22 +89,22 @@ pub fn lengths_len(deal: Deal) -> u64
 }
 
 // Puts a claim, or `-`.
-pub fn put_claim(out: &mut [u8], at: usize, claim: MaybeClaim) -> usize
+pub fn put_claim(out: &mut [u8], at: usize, claim: Option<u8>) -> usize
     requires { Room out.old at (claim_word claim) }
     ensures { Put out.old at (claim_word claim) out.new result }
 {
     match claim {
-        MaybeClaim::Absent => put_byte(out, at, b'-'),
-        MaybeClaim::Claimed(n) => put_decimal(out, at, n as u64),
+        None => put(out, at, b'-'),
+        Some(n) => put_decimal(out, at, n as u64),
     }
 }
 
-pub fn claim_len(claim: MaybeClaim) -> u64
+pub fn claim_len(claim: Option<u8>) -> u64
     ensures { result ≡ length (claim_word claim) }
 {
     match claim {
-        MaybeClaim::Absent => 1,
-        MaybeClaim::Claimed(n) => decimal_len(n as u64),
+        None => 1,
+        Some(n) => decimal_len(n as u64),
     }
 }
 

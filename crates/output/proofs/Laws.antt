@@ -1,12 +1,13 @@
 -- Laws of `overlay`, of a run of puts: what is left to write, and of lengths. (01: Writer)
 -- Assumes nothing.
 use mathlib.Core.Path.{◌≡◌, refl, sym, ap, ◌∙◌}
-use Prim.Native.Nat.{ℕ, zero, suc, ◌+◌, ◌≤◌, ◌<◌}
+use Prim.Native.Nat.{ℕ, zero, suc, ◌+◌, ◌-◌, ◌≤◌, ◌<◌}
+use borrow.Rule.Slice.PartMut.{put_mid, Post-is}
 use native.Mathlib.Nat.{add-zero, zero-add, suc-add}
 use native.Mathlib.Numerals.{add-one}
 use native.Mathlib.Omega.{arith}
 use mathlib.Core.List.{List, [], ◌∷◌, ◌++◌, append_assoc, append-nil}
-use lib.ListN.{length, drop, get_or, set, length-append, length-take, length-drop, take-append-drop, drop_of_length-le}
+use lib.ListN.{length, take, drop, get_or, set, length-append, length-take, length-drop, take-append-drop, drop_of_length-le}
 use lib.Seq.{take-append_seam, drop-append-add, drop-drop, drop-nil, take-nil, take_all, set_split, drop-cons}
 use Rattle.lin_spec.specs.Refusals.{sat}
 use Rattle.lin_spec.specs.Output.{overlay}
@@ -14,20 +15,20 @@ use Rattle.output.specs.Put.{Room, Put}
 
 -- Overlays
 
-pub overlay-nil : (o : List ℕ) (at : ℕ) → overlay o at [] ≡ o
+pub overlay-nil : {A : Type 0} (o : List A) (at : ℕ) → overlay o at [] ≡ o
 unfolding overlay
 overlay-nil o at = simp (add-zero, append-nil, take-append-drop)
 
 -- a list with nothing in it: the text alone
-of_nil : (at : ℕ) (s : List ℕ) → overlay [] at s ≡ s
+of_nil : {A : Type 0} (at : ℕ) (s : List A) → overlay [] at s ≡ s
 unfolding overlay
 of_nil at s = simp (take-nil, drop-nil, append-nil)
 
-later : (x : ℕ) (o : List ℕ) (at : ℕ) (s : List ℕ) → overlay (x ∷ o) (suc at) s ≡ x ∷ overlay o at s
+later : {A : Type 0} (x : A) (o : List A) (at : ℕ) (s : List A) → overlay (x ∷ o) (suc at) s ≡ x ∷ overlay o at s
 unfolding overlay
 later x o at s = simp suc-add
 
-at-end : (at : ℕ) (s t : List ℕ) → overlay s (at + length s) t ≡ s ++ t
+at-end : {A : Type 0} (at : ℕ) (s t : List A) → overlay s (at + length s) t ≡ s ++ t
 unfolding overlay
 at-end at s t =
     let h : length s ≤ at + length s = omega arith in
@@ -35,40 +36,45 @@ at-end at s t =
     simp (take_all (at + length s) s h, drop_of_length-le s k, append-nil)
 
 -- two texts one after the other are one text: at any place, with room or without
-pub overlay-overlay : (o : List ℕ) (at : ℕ) (s t : List ℕ) → overlay (overlay o at s) (at + length s) t ≡ overlay o at (s ++ t)
+pub overlay-overlay : {A : Type 0} (o : List A) (at : ℕ) (s t : List A) → overlay (overlay o at s) (at + length s) t ≡ overlay o at (s ++ t)
 unfolding overlay
-overlay-overlay o zero s t =
-    let d : List ℕ = drop (length s) o in
+overlay-overlay {A} o zero s t =
+    let d : List A = drop (length s) o in
     simp (zero-add, take-append_seam s d, drop-append-add s d (length t), drop-drop (length t) (length s) o, length-append, append_assoc)
 overlay-overlay [] (suc at) s t = simp (of_nil, at-end)
-overlay-overlay (x ∷ o) (suc at) s t = simp (later, suc-add) (ap (λ (l : List ℕ). x ∷ l) (overlay-overlay o at s t))
+overlay-overlay {A} (x ∷ o) (suc at) s t = simp (later, suc-add) (ap (λ (l : List A). x ∷ l) (overlay-overlay o at s t))
 
-pub length-overlay : (o : List ℕ) (at : ℕ) (s : List ℕ) → at + length s ≤ length o → length (overlay o at s) ≡ length o
+pub length-overlay : {A : Type 0} (o : List A) (at : ℕ) (s : List A) → at + length s ≤ length o → length (overlay o at s) ≡ length o
 unfolding overlay
 length-overlay o at s h = simp (length-append, length-take, length-drop) (omega arith)
 
 -- one store is a text of one
-pub set-overlay : (o : List ℕ) (at x : ℕ) → at < length o → set o at x ≡ overlay o at (x ∷ [])
+pub set-overlay : {A : Type 0} (o : List A) (at : ℕ) (x : A) → at < length o → set o at x ≡ overlay o at (x ∷ [])
 unfolding overlay
 set-overlay o at x h = set_split o at x h ∙ simp (add-one, append_assoc)
+
+-- and so is a part that the text is copied to
+pub part-overlay : {A : Type 0} (o : List A) (at : ℕ) (s y : List A) → y ≡ s → put_mid at (at + length s - at) o y ≡ overlay o at s
+unfolding overlay
+part-overlay o at s y e = rw e (rw (Post-is at (at + length s) o (omega arith)) (sym (append_assoc (take at o) s (drop (at + length s) o))))
 
 -- A run of puts
 
 -- into d, from index pos on, the text rest is still to be written, and then d₀ has the text whole from index at on
-pub record Left (d : List ℕ) (pos : ℕ) (rest : List ℕ) (d₀ : List ℕ) (at : ℕ) (whole : List ℕ) : Type 0 where
+pub record Left {A : Type 0} (d : List A) (pos : ℕ) (rest d₀ : List A) (at : ℕ) (whole : List A) : Type 0 where
   pub same : overlay d pos rest ≡ overlay d₀ at whole
   pub ends : pos + length rest ≡ at + length whole
   pub room : pos + length rest ≤ length d
   pub long : length d ≡ length d₀
 
-pub start : {d : List ℕ} {at : ℕ} {s : List ℕ} → Room d at s → Left d at s d at s
+pub start : {A : Type 0} {d : List A} {at : ℕ} {s : List A} → Room d at s → Left d at s d at s
 start r = record { same = refl; ends = refl; room = r.room; long = refl }
 
-pub roomy : {d : List ℕ} {pos : ℕ} (s t : List ℕ) {d₀ : List ℕ} {at : ℕ} {whole : List ℕ} → Left d pos (s ++ t) d₀ at whole → Room d pos s
+pub roomy : {A : Type 0} {d : List A} {pos : ℕ} (s t : List A) {d₀ : List A} {at : ℕ} {whole : List A} → Left d pos (s ++ t) d₀ at whole → Room d pos s
 roomy s t l = record { room = omega (arith, l.room, length-append s t) }
 
-pub step : {d : List ℕ} {pos : ℕ} {s t d₀ : List ℕ} {at : ℕ} {whole d' : List ℕ} {pos' : ℕ} → Left d pos (s ++ t) d₀ at whole → Put d pos s d' pos' → Left d' pos' t d₀ at whole
-step {d} {pos} {s} {t} {d₀} {at} {whole} {d'} {pos'} l p =
+pub step : {A : Type 0} {d : List A} {pos : ℕ} {s t d₀ : List A} {at : ℕ} {whole d' : List A} {pos' : ℕ} → Left d pos (s ++ t) d₀ at whole → Put d pos s d' pos' → Left d' pos' t d₀ at whole
+step {d = d} {pos = pos} {s = s} {t = t} {d' = d'} l p =
     let h : pos + length s ≤ length d = (roomy s t l).room in
     let n : length d' ≡ length d = ap length p.text ∙ length-overlay d pos s h in
     record {
@@ -78,12 +84,12 @@ step {d} {pos} {s} {t} {d₀} {at} {whole} {d'} {pos'} l p =
       long = n ∙ l.long;
     }
 
-pub finish : {d : List ℕ} {pos : ℕ} {d₀ : List ℕ} {at : ℕ} {whole : List ℕ} → Left d pos [] d₀ at whole → Put d₀ at whole d pos
-finish {d} {pos} {d₀} {at} {whole} l = record { next = omega (arith, l.ends); text = sym (overlay-nil d pos) ∙ l.same }
+pub finish : {A : Type 0} {d : List A} {pos : ℕ} {d₀ : List A} {at : ℕ} {whole : List A} → Left d pos [] d₀ at whole → Put d₀ at whole d pos
+finish {d = d} {pos = pos} l = record { next = omega (arith, l.ends); text = sym (overlay-nil d pos) ∙ l.same }
 
--- a store of one byte is a step
-pub store : {d : List ℕ} {pos x : ℕ} {t d₀ : List ℕ} {at : ℕ} {whole : List ℕ} → Left d pos (x ∷ t) d₀ at whole → Left (set d pos x) (pos + 1) t d₀ at whole
-store {d} {pos} {x} {t} l =
+-- a store of one element is a step
+pub store : {A : Type 0} {d : List A} {pos : ℕ} {x : A} {t d₀ : List A} {at : ℕ} {whole : List A} → Left d pos (x ∷ t) d₀ at whole → Left (set d pos x) (pos + 1) t d₀ at whole
+store {d = d} {pos = pos} {x = x} {t = t} l =
     let h : pos < length d = omega (arith, (roomy (x ∷ []) t l).room) in
     step {s = x ∷ []} l (record { next = refl; text = set-overlay d pos x h })
 
@@ -93,12 +99,12 @@ pub turn : (s : List ℕ) (j : ℕ) {d : List ℕ} {pos : ℕ} {d₀ : List ℕ}
 turn s j h l = rw (add-one j) (store (rw (drop-cons s j 0 h) at l))
 
 -- in such a turn the byte is within the list
-pub inside : (s : List ℕ) (j : ℕ) {d : List ℕ} {pos : ℕ} {d₀ : List ℕ} {at : ℕ} {whole : List ℕ} → j < length s
+pub inside : {A : Type 0} (s : List A) (j : ℕ) {d : List A} {pos : ℕ} {d₀ : List A} {at : ℕ} {whole : List A} → j < length s
     → Left d pos (drop j s) d₀ at whole → pos < length d
 inside s j h l = omega (arith, l.room, length-drop j s)
 
 -- past the last byte nothing is left
-pub end_of : (s : List ℕ) (j : ℕ) → length s ≤ j → drop j s ≡ []
+pub end_of : {A : Type 0} (s : List A) (j : ℕ) → length s ≤ j → drop j s ≡ []
 end_of s j h = drop_of_length-le s h
 
 -- Lengths

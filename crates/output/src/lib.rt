@@ -17,34 +17,21 @@ pub use decimal::{decimal_len, put_decimal};
 
 // Each of these puts at a place that has room, and gives the place after it.
 
-pub fn put_byte(out: &mut [u8], at: usize, b: u8) -> usize
-    requires { Room out.old at (b ∷ []) }
-    ensures { Put out.old at (b ∷ []) out.new result }
+pub fn put<T: Copy>(out: &mut [T], at: usize, x: T) -> usize
+    requires { Room out.old at (x ∷ []) }
+    ensures { Put out.old at (x ∷ []) out.new result }
 {
-    out[at] = b;
+    out[at] = x;
     at + 1
 }
 
-pub fn put_word(out: &mut [u32], at: usize, w: u32) -> usize
-    requires { Room out.old at (w ∷ []) }
-    ensures { Put out.old at (w ∷ []) out.new result }
-{
-    out[at] = w;
-    at + 1
-}
-
-pub fn put_bytes(out: &mut [u8], at: usize, s: &[u8]) -> usize
+pub fn put_all<T: Copy>(out: &mut [T], at: usize, s: &[T]) -> usize
     requires { Room out.old at s.now }
     ensures { Put out.old at s.now out.new result }
 {
-    let mut j = 0;
-    let mut o = at;
-    while j < s.len() {
-        out[o] = s[j];
-        o += 1;
-        j += 1;
-    }
-    o
+    let end = at + s.len();
+    out[at..end].copy_from_slice(s);
+    end
 }
 
 // Puts the bytes of a span.
@@ -52,16 +39,12 @@ pub fn put_span(out: &mut [u8], at: usize, text: &[u8], x: Span) -> usize
     requires { Room out.old at (bytes_at text.now x) }
     ensures { Put out.old at (bytes_at text.now x) out.new result }
 {
-    put_bytes(out, at, shown(text, x))
+    put_all(out, at, shown(text, x))
 }
 
 // The sum of two lengths, or 2^64 less 1 where it is more.
 pub fn sat_add(a: u64, b: u64) -> u64
     ensures { result ≡ sat (a + b) }
 {
-    if b <= 18_446_744_073_709_551_615 - a {
-        a + b
-    } else {
-        18_446_744_073_709_551_615
-    }
+    a.saturating_add(b)
 }

@@ -1,3 +1,2 @@
-pub mod DealingLaws
 pub mod MadeLaws
 pub mod StoreLaws

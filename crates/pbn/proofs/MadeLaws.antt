@@ -1,11 +1,11 @@
 -- Laws of the board that is made: its texts are the names and the other texts cleaned, its rows, and its heading by the layout. (01: From PBN)
 -- Assumes nothing.
+use Rattle.std.specs.Prelude.{Option, None, Some}
 use Prim.Native.Nat.{ℕ, ◌+◌, ◌-◌, ◌≤◌, ◌<◌}
 use native.Mathlib.Omega.{arith}
 use mathlib.Core.Path.{◌≡◌, refl, ap, sym, ◌∙◌}
 use mathlib.Core.Bool.{Bool, true, false, ◌||◌}
 use mathlib.Core.List.{List, [], ◌∷◌, ◌++◌, append_assoc, append-nil, map}
-use mathlib.Core.Option.{Option, none, some}
 use lib.ListN.{length, length-append}
 use lib.Dec.{eqb}
 use borrow.Author.Tests.{ne_eqb, eqb-false, ltb-true, ltb-false, lt-ltb, le-ltb}
@@ -13,14 +13,12 @@ use Rattle.lin_spec.specs.Base.{pick, All, any, concat, ascii}
 use Rattle.lin_spec.specs.Records.{span, bytes_at}
 use Rattle.lin_spec.specs.Tokens.{pipe}
 use Rattle.lin_spec.specs.Board.{CallOf, BoardOf, map_option, Present}
-use Rattle.lin_spec.specs.Reading.{maybe_of, claimed_of, heading_of, annotation_words, call_words}
+use Rattle.lin_spec.specs.Reading.{heading_of, annotation_words, call_words}
 use Rattle.lin_spec.specs.Writer.{clean, or_empty, present}
 use Rattle.lin_spec.specs.Decimal.{decimal}
 use Rattle.lin_spec.specs.Annotation.{annotation_text}
 use Rattle.lin_spec.specs.Pbn.{pbn, pbn_names, pbn_rows, bid_of, raw_of, title_of, label_of, annotation_by, text_by, filled_by, name_by, dealer_by, claim_from, kept_by, kept_calls, from_board, call_texts, board_texts, laid_names, laid_option, laid_calls, laid, bad_call}
 use Rattle.lin_spec.specs.declared.Span.{Span}
-use Rattle.lin_spec.specs.declared.MaybeSpan.TheVariants.{Absent as Nowhere, Present as There}
-use Rattle.lin_spec.specs.declared.Verdict.TheVariants.{Accepted}
 use Rattle.lin_spec.specs.declared.PbnCall.{PbnCall}
 use Rattle.lin_spec.specs.declared.PbnBoard.{PbnBoard}
 use Rattle.lin_spec.proofs.Base.{picked}
@@ -31,7 +29,7 @@ use Rattle.lin_spec.proofs.Pbn.{bid_visible, visible_free}
 use Rattle.writer_texts.proofs.TextLaws.{clean-nil, clean-length}
 use Rattle.pbn_annotation.proofs.AnnotationLaws.{absent_is}
 use Rattle.pbn_texts.specs.declared.sources.Label.{Label}
-use Rattle.pbn_texts.specs.declared.sources.Label.TheVariants.{Absent, Id, Number}
+use Rattle.pbn_texts.specs.declared.sources.Label.TheVariants.{Id, Number}
 use Rattle.pbn_texts.specs.declared.sources.Sources.{Sources}
 use Rattle.pbn_texts.specs.declared.layout.Layout.{Layout}
 use Rattle.pbn_texts.specs.Sources.{label_by, SourcesOf}
@@ -52,8 +50,8 @@ clean-append p q (b ∷ x) y = ap (λ (r : List ℕ). pick (eqb b pipe) p (pick 
 
 cleaned_option : (p q : ℕ) (o : Option (List ℕ)) → or_empty (map_option (clean p q) o) ≡ clean p q (or_empty o)
 unfolding clean
-cleaned_option p q none = refl
-cleaned_option p q (some t) = refl
+cleaned_option p q None = refl
+cleaned_option p q (Some t) = refl
 
 -- Texts that are absent or have a byte
 
@@ -61,53 +59,53 @@ abbrev Full : List ℕ → Type 0
 Full t = length t ≡ 0 → ⊥
 
 -- between two places
-pub between_none : (from to : ℕ) → to ≤ from → Nowhere ≡ text_between from to
+pub between_none : (from to : ℕ) → to ≤ from → None ≡ text_between from to
 between_none from to h = sym (simp (le-ltb from to h))
 
-pub between-some : (from to : ℕ) → from < to → There (span from (to - from)) ≡ text_between from to
+pub between-some : (from to : ℕ) → from < to → Some (span from (to - from)) ≡ text_between from to
 between-some from to h = sym (simp (lt-ltb from to h))
 
-between-laid : (from to : ℕ) (o : Option (List ℕ)) → Present Full o → to ≡ from + length (or_empty o) → text_between from to ≡ maybe_of (laid_option from o)
-between-laid from to none h e = sym (between_none from to (omega arith))
-between-laid from to (some t) h e =
+between-laid : (from to : ℕ) (o : Option (List ℕ)) → Present Full o → to ≡ from + length (or_empty o) → text_between from to ≡ (laid_option from o)
+between-laid from to None h e = sym (between_none from to (omega arith))
+between-laid from to (Some t) h e =
     sym (between-some from to (omega (arith, h)))
-    ∙ ap (λ (n : ℕ). There (span from n)) (let z : to - from ≡ length t = omega arith in z)
+    ∙ ap (λ (n : ℕ). Some (span from n)) (let z : to - from ≡ length t = omega arith in z)
 
 noted-words : (at : ℕ) (o : Option (List ℕ)) → Present Full o → noted_text at (length (or_empty o)) ≡ annotation_words (laid_option at o)
 unfolding three_text
-noted-words at none h = refl
-noted-words at (some t) h = simp (ne_eqb (length t) 0 h)
+noted-words at None h = refl
+noted-words at (Some t) h = simp (ne_eqb (length t) 0 h)
 
 full-clean : (p q : ℕ) (o : Option (List ℕ)) → Present Full o → Present Full (map_option (clean p q) o)
-full-clean p q none h = tt
-full-clean p q (some t) h = λ e. h (sym (clean-length p q t) ∙ e)
+full-clean p q None h = tt
+full-clean p q (Some t) h = λ e. h (sym (clean-length p q t) ∙ e)
 
 full-note : (s ns : List ℕ) (o : Option Span) → Present Full (annotation_by s ns o)
-full-note s ns none = tt
-full-note s ns (some x) = go (annotation_text s ns (bytes_at s x)) (absent_is s ns (bytes_at s x))
+full-note s ns None = tt
+full-note s ns (Some x) = go (annotation_text s ns (bytes_at s x)) (absent_is s ns (bytes_at s x))
   where
-    go : (o : Option (List ℕ)) → (length (or_empty o) ≡ 0 → o ≡ none) → Present Full o
-    go none k = tt
-    go (some t) k = λ e. absurd (let h : some t ≡ none = k e in let z : ◌≡◌ {A = ℕ} 0 1 = cc in let f : ⊥ = omega arith in f)
+    go : (o : Option (List ℕ)) → (length (or_empty o) ≡ 0 → o ≡ None) → Present Full o
+    go None k = tt
+    go (Some t) k = λ e. absurd (let h : Some t ≡ None = k e in let z : ◌≡◌ {A = ℕ} 0 1 = cc in let f : ⊥ = omega arith in f)
 
 full-present : (o : Option (List ℕ)) → Present Full (present o)
-full-present none = tt
-full-present (some []) = tt
-full-present (some (b ∷ t)) = λ e. (let f : ⊥ = omega arith in f)
+full-present None = tt
+full-present (Some []) = tt
+full-present (Some (b ∷ t)) = λ e. (let f : ⊥ = omega arith in f)
 
 full-title : (e d : Option (List ℕ)) → Present Full e → Present Full (title_of e d)
-full-title e none h = h
-full-title none (some d) h = λ k. (let f : ⊥ = omega arith in f)
-full-title (some e) (some d) h = λ k. (let l = length-append e (ascii " - " ++ d) in let f : ⊥ = omega arith in f)
+full-title e None h = h
+full-title None (Some d) h = λ k. (let f : ⊥ = omega arith in f)
+full-title (Some e) (Some d) h = λ k. (let l = length-append e (ascii " - " ++ d) in let f : ⊥ = omega arith in f)
 
 full-map : (g : List ℕ → List ℕ) → ((t : List ℕ) → Full (g t)) → (o : Option (List ℕ)) → Present Full (map_option g o)
-full-map g h none = tt
-full-map g h (some t) = h t
+full-map g h None = tt
+full-map g h (Some t) = h t
 
 -- Kept calls
 
 module _ (c : PbnCall) where
-  kept-some : is_kept c ≡ true → bid_of c ≡ some (bid_bytes c)
+  kept-some : is_kept c ≡ true → bid_of c ≡ Some (bid_bytes c)
   kept-some h =
       picked P (eqb c.kind 0) (λ _. refl) λ x.
       picked P (eqb c.kind 1) (λ _. refl) λ y.
@@ -116,9 +114,9 @@ module _ (c : PbnCall) where
       absurd (let k = ltb-true c.kind 4 h in let a = eqb-false c.kind 0 x in let b = eqb-false c.kind 1 y in let d = eqb-false c.kind 2 z in let e = eqb-false c.kind 3 w in let f : ⊥ = omega arith in f)
     where
       P : Option (List ℕ) → Type 0
-      P o = o ≡ some (or_empty o)
+      P o = o ≡ Some (or_empty o)
 
-  kept-none : is_kept c ≡ false → bid_of c ≡ none
+  kept-none : is_kept c ≡ false → bid_of c ≡ None
   kept-none h =
       let k = ltb-false c.kind 4 h in
       simp (ne_eqb c.kind 0 (λ e. (let f : ⊥ = omega arith in f)), ne_eqb c.kind 1 (λ e. (let f : ⊥ = omega arith in f)), ne_eqb c.kind 2 (λ e. (let f : ⊥ = omega arith in f)), ne_eqb c.kind 3 (λ e. (let f : ⊥ = omega arith in f)))
@@ -128,8 +126,8 @@ module _ (c : PbnCall) where
   bid-clean p q h = go (bid_of c) (bid_visible c h)
     where
       go : (o : Option (List ℕ)) → Present (All Visible) o → clean p q (or_empty o) ≡ or_empty o
-      go none v = clean-nil p q
-      go (some t) v = clean-same p q t (visible_free t v)
+      go None v = clean-nil p q
+      go (Some t) v = clean-same p q t (visible_free t v)
 
 module _ (p q : ℕ) (s ns : List ℕ) where
   -- an annotation before and after cleaning
@@ -212,11 +210,11 @@ both_labels t =
     (append_assoc t (ascii ",BOARD " ++ t) (ascii "Board " ++ t)
     ∙ ap (λ (x : List ℕ). t ++ (ascii ",BOARD " ++ (t ++ (ascii "Board " ++ x)))) (sym (append-nil t))))
 
-room_and_header : (s : List ℕ) (l : Label) → labelled_text s l ≡ room_text s l ++ label_header s l
+room_and_header : (s : List ℕ) (l : Option Label) → labelled_text s l ≡ room_text s l ++ label_header s l
 unfolding labels_text
-room_and_header s Absent = refl
-room_and_header s (Id x) = both_labels (bytes_at s x)
-room_and_header s (Number n) = both_labels (decimal n)
+room_and_header s None = refl
+room_and_header s (Some (Id x)) = both_labels (bytes_at s x)
+room_and_header s (Some (Number n)) = both_labels (decimal n)
 
 module _ (p q : ℕ) (s : List ℕ) (b : PbnBoard) (ws ps ns : List ℕ) where
   abbrev made : BoardOf (List ℕ)
@@ -248,17 +246,17 @@ module _ (p q : ℕ) (s : List ℕ) (b : PbnBoard) (ws ps ns : List ℕ) where
         cleaned_option p q (title_of (filled_by s b.event) (filled_by s b.date))
         ∙ λ i. clean p q (or_empty (title_of (sym so.event-is i) (sym so.date_is i)))
 
-    room_by : (l : Label) → or_empty (map_option (λ t. clean p q (ascii "o" ++ (t ++ (ascii ",BOARD " ++ t)))) (label_by s l)) ≡ clean p q (room_text s l)
+    room_by : (l : Option Label) → or_empty (map_option (λ t. clean p q (ascii "o" ++ (t ++ (ascii ",BOARD " ++ t)))) (label_by s l)) ≡ clean p q (room_text s l)
     unfolding clean
-    room_by Absent = refl
-    room_by (Id y) = refl
-    room_by (Number n) = refl
+    room_by None = refl
+    room_by (Some (Id y)) = refl
+    room_by (Some (Number n)) = refl
 
-    header-by : (l : Label) → or_empty (map_option (λ t. clean p q (ascii "Board " ++ t)) (label_by s l)) ≡ clean p q (label_header s l)
+    header-by : (l : Option Label) → or_empty (map_option (λ t. clean p q (ascii "Board " ++ t)) (label_by s l)) ≡ clean p q (label_header s l)
     unfolding clean
-    header-by Absent = refl
-    header-by (Id y) = refl
-    header-by (Number n) = refl
+    header-by None = refl
+    header-by (Some (Id y)) = refl
+    header-by (Some (Number n)) = refl
 
     room-is : or_empty made.room ≡ clean p q (room_text s x.label)
     unfolding from_board
@@ -328,11 +326,10 @@ module _ (p q : ℕ) (s : List ℕ) (b : PbnBoard) (ws ps ns : List ℕ) where
       unfolding made_heading laid from_board layout_of
       heading-is n en k ek =
           let x₁ : at.names ≡ laid_names 0 made.names = ap (λ (y : Layout). y.names) ea in
-          let x₂ = between-laid at.title at.room_board made.title full-made-title (omega (arith, title-at, room_at)) ∙ ap (λ (a : ℕ). maybe_of (laid_option a made.title)) title-at in
-          let x₃ = between-laid at.room_board at.header made.room full-made-room (omega (arith, room_at, header_at)) ∙ ap (λ (a : ℕ). maybe_of (laid_option a made.room)) room_at in
-          let x₄ = between-laid at.header at.calls made.header full-made-header (omega (arith, header_at, calls_at)) ∙ ap (λ (a : ℕ). maybe_of (laid_option a made.header)) header_at in
+          let x₂ = between-laid at.title at.room_board made.title full-made-title (omega (arith, title-at, room_at)) ∙ ap (λ (a : ℕ). (laid_option a made.title)) title-at in
+          let x₃ = between-laid at.room_board at.header made.room full-made-room (omega (arith, room_at, header_at)) ∙ ap (λ (a : ℕ). (laid_option a made.room)) room_at in
+          let x₄ = between-laid at.header at.calls made.header full-made-header (omega (arith, header_at, calls_at)) ∙ ap (λ (a : ℕ). (laid_option a made.header)) header_at in
           λ i. record {
-            verdict = Accepted;
             board =
                 record {
                   names = x₁ i;
@@ -342,7 +339,7 @@ module _ (p q : ℕ) (s : List ℕ) (b : PbnBoard) (ws ps ns : List ℕ) where
                   title = x₂ i;
                   room_board = x₃ i;
                   board_header = x₄ i;
-                  claim = claimed_of (claim_from b.result);
+                  claim = (claim_from b.result);
                 };
             calls = en i;
             cards = ek i;

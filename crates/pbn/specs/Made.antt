@@ -1,31 +1,25 @@
 -- The board that is made of a record: its heading by the layout of its texts, and what is stored and answered. (01: From PBN)
-use Rattle.std.specs.Prelude.{ℕ, ◌-◌, ◌/◌, ◌≤◌, ◌≡◌, false, List, [], ◌∷◌, ◌++◌, length, ltb}
+use Rattle.lin_spec.specs.declared.Span.{Span}
+use Rattle.std.specs.Prelude.{ℕ, ◌-◌, ◌/◌, ◌≤◌, ◌≡◌, false, List, [], ◌∷◌, ◌++◌, length, ltb, Option, None, Some}
 use Rattle.lin_spec.specs.Base.{pick, any}
 use Rattle.lin_spec.specs.Records.{limit, span}
-use Rattle.lin_spec.specs.Fresh.{refused_heading}
 use Rattle.lin_spec.specs.Refusals.{unless, too_small}
 use Rattle.lin_spec.specs.Output.{room}
-use Rattle.lin_spec.specs.Reading.{claimed_of, few_rows}
+use Rattle.lin_spec.specs.Reading.{few_rows}
 use Rattle.lin_spec.specs.Pbn.{Pbn, pbn_rows, bad_call, kept_cards, dealer_by, claim_from, from_board, board_texts, laid, Conversion, converted}
-use Rattle.lin_spec.specs.declared.MaybeSpan.{MaybeSpan}
-use Rattle.lin_spec.specs.declared.MaybeSpan.TheVariants.{Absent, Present}
-use Rattle.lin_spec.specs.declared.Verdict.TheVariants.{Accepted}
 use Rattle.lin_spec.specs.declared.PbnBoard.{PbnBoard}
 use Rattle.lin_spec.specs.declared.Heading.{Heading}
-use Rattle.lin_spec.specs.declared.Converted.{Converted}
-use Rattle.lin_spec.specs.declared.Refusal.{Refusal}
 use Rattle.pbn_texts.specs.declared.layout.Layout.{Layout}
 use Rattle.pbn_texts.specs.Calls.{kept_many}
 
 -- a text without a byte is absent
-abbrev pub text_between : (from to : ℕ) → MaybeSpan
-text_between a e = pick (ltb a e) (Present (span a (e - a))) Absent
+abbrev pub text_between : (from to : ℕ) → Option Span
+text_between a e = pick (ltb a e) (Some (span a (e - a))) None
 
 -- the heading of a board with this layout, and with these numbers of calls and cards
 unfoldable pub made_heading : PbnBoard → Layout → (calls cards : ℕ) → Heading
 made_heading b at n k =
     record {
-      verdict = Accepted;
       board =
           record {
             names = at.names;
@@ -35,7 +29,7 @@ made_heading b at n k =
             title = text_between at.title at.room_board;
             room_board = text_between at.room_board at.header;
             board_header = text_between at.header at.calls;
-            claim = claimed_of (claim_from b.result);
+            claim = claim_from b.result;
           };
       calls = n;
       cards = k;
@@ -49,10 +43,6 @@ pub record KeptCounted (s ws ps rows cards : List ℕ) (n k : ℕ) : Type 0 wher
   pub kept : k ≡ length (kept_cards ps)
   pub rows_fit : n ≤ length rows / 6
   pub cards-fit : k ≤ length cards
-
--- what a refused call answers
-abbrev pub refused_board : Refusal → Converted
-refused_board r = record { heading = refused_heading r; len = 0 }
 
 -- what is stored and answered once the checks before 3 are passed
 unfoldable pub fitted_record : (p q : ℕ) → Pbn → (o rows cards : List ℕ) → Conversion

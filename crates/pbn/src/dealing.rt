@@ -1,67 +1,35 @@
 // The dealer and the claim of a board made from a PBN record. (01: From PBN)
 ghost use Rattle.std.specs.Prelude.{◌≡◌, ◌%◌};
-ghost use Rattle.lin_spec.specs.Reading.{claimed_of};
 ghost use Rattle.lin_spec.specs.Pbn.{dealer_from, dealer_by, claim_from};
-ghost use Rattle.lin_spec.specs.declared.MaybeSeat.TheVariants.{Absent};
-ghost use Rattle.lin_spec.specs.declared.MaybeResult.TheVariants.{Tricks};
 
-use lin_spec::{MaybeClaim, MaybeNumber, MaybeResult, MaybeSeat, Seat};
+use lin_spec::Seat;
 
 // The dealer by the remainder of a board number by 4.
 fn dealer_from(rest: u32) -> Seat
     ensures { result ≡ dealer_from rest }
 {
-    if rest == 1 {
-        return Seat::North;
-    }
-    if rest == 2 {
-        return Seat::East;
-    }
-    if rest == 3 {
-        return Seat::South;
-    }
-    Seat::West
-}
-
-// The dealer by the number alone.
-fn dealer_numbered(number: MaybeNumber) -> Seat
-    ensures { result ≡ dealer_by Absent number }
-{
-    match number {
-        MaybeNumber::Absent => Seat::North,
-        MaybeNumber::Number(n) => dealer_from(n % 4),
+    match rest {
+        1 => Seat::North,
+        2 => Seat::East,
+        3 => Seat::South,
+        _ => Seat::West,
     }
 }
 
 // The dealer that is given, or that of the number, or North.
-pub(crate) fn dealer_by(dealer: MaybeSeat, number: MaybeNumber) -> Seat
+pub(crate) fn dealer_by(dealer: Option<Seat>, number: Option<u32>) -> Seat
     ensures { result ≡ dealer_by dealer number }
 {
-    match dealer {
-        MaybeSeat::Absent => dealer_numbered(number),
-        MaybeSeat::Given(s) => s,
+    match (dealer, number) {
+        (Some(seat), _) => seat,
+        (None, Some(n)) => dealer_from(n % 4),
+        (None, None) => Seat::North,
     }
 }
 
-// The claim of a result: "A result outside 0 to 255 gives no claim".
-fn result_claim(n: i32) -> MaybeClaim
-    ensures { result ≡ claimed_of (claim_from (Tricks n)) }
+// The claim of a result, if there is one: "A result outside 0 to 255 gives no claim".
+pub(crate) fn claim_from(res: Option<i32>) -> Option<u8>
+    ensures { result ≡ claim_from res }
 {
-    if n < 0 {
-        return MaybeClaim::Absent;
-    }
-    if 255 < n {
-        return MaybeClaim::Absent;
-    }
-    MaybeClaim::Claimed(n as u8)
-}
-
-// The claim of a result that may be absent.
-pub(crate) fn claim_from(res: MaybeResult) -> MaybeClaim
-    ensures { result ≡ claimed_of (claim_from res) }
-{
-    match res {
-        MaybeResult::Absent => MaybeClaim::Absent,
-        MaybeResult::Tricks(n) => result_claim(n),
-    }
+    res.and_then(|n| u8::try_from(n).ok())
 }

@@ -3,10 +3,10 @@
 ghost use Rattle.std.specs.Prelude.{◌≡◌, false, ◌≤◌, length};
 ghost use Rattle.lin_spec.specs.Records.{limit};
 ghost use Rattle.lin_spec.specs.Pbn.{pbn, bad_pbn, Conversion, convert_board, convert};
-ghost use Rattle.pbn.specs.Made.{KeptCounted, refused_board, fitted_record};
+ghost use Rattle.pbn.specs.Made.{KeptCounted, fitted_record};
 
 use crate::heading::made_heading;
-use lin_spec::{Converted, Heading, PbnBoard, Refusal, RowKind, Verdict, room};
+use lin_spec::{Converted, PbnBoard, Refusal, RowKind, room};
 use output::sat_add;
 use pbn_checks::{check_record, pbn_names};
 use pbn_texts::{
@@ -14,14 +14,6 @@ use pbn_texts::{
     sources_of,
 };
 use writer_texts::{Marks, PLAIN};
-
-// What a refused call gives.
-fn refused_record(r: Refusal) -> Converted
-    ensures { result ≡ refused_board r }
-{
-    let heading = Heading::refused(r);
-    Converted { heading, len: 0 }
-}
 
 // Stores the board of a record that the checks before 7 have passed, with n of its calls and k of its cards kept, if the output has room for its
 // texts.
@@ -37,22 +29,22 @@ fn convert_counted(
     cards: &mut [u8],
     n: usize,
     k: usize,
-) -> Converted
+) -> Result<Converted, Refusal>
     requires { KeptCounted text.now calls.now plays.now rows.old cards.old n k }
-    ensures { ◌≡◌ {A = Conversion} (record { heading = result.heading; len = result.len; rows = rows.new; cards = cards.new; output = out.new }) (fitted_record marks.pipe marks.line (pbn text.now board calls.now plays.now notes.now) out.old rows.old cards.old) }
+    ensures { ◌≡◌ {A = Conversion} (record { answer = result; rows = rows.new; cards = cards.new; output = out.new }) (fitted_record marks.pipe marks.line (pbn text.now board calls.now plays.now notes.now) out.old rows.old cards.old) }
 {
     let names = pbn_names(board);
     let sources = sources_of(text, board);
     let layout = layout_of(text, names, sources, marks);
     let need = sat_add(layout.calls as u64, pbn_calls_len(text, calls, notes));
     if (room(out.len()) as u64) < need {
-        return refused_record(Refusal::OutputTooSmall(need));
+        return Err(Refusal::OutputTooSmall(need));
     }
     let len = put_texts(out, text, names, sources, marks, calls, notes);
     put_kept_rows(rows, layout.calls, text, calls, notes);
     put_kept_cards(cards, plays);
     let heading = made_heading(board, layout, n, k);
-    Converted { heading, len }
+    Ok(Converted { heading, len })
 }
 
 // Stores the board of a record that the checks before 3 have passed, if there are rows, places and room for all of it.
@@ -66,17 +58,17 @@ fn convert_checked(
     out: &mut [u8],
     rows: &mut [u32],
     cards: &mut [u8],
-) -> Converted
+) -> Result<Converted, Refusal>
     requires { (length text.now ≤ limit) × (bad_pbn (pbn text.now board calls.now plays.now notes.now) ≡ false) }
-    ensures { ◌≡◌ {A = Conversion} (record { heading = result.heading; len = result.len; rows = rows.new; cards = cards.new; output = out.new }) (fitted_record marks.pipe marks.line (pbn text.now board calls.now plays.now notes.now) out.old rows.old cards.old) }
+    ensures { ◌≡◌ {A = Conversion} (record { answer = result; rows = rows.new; cards = cards.new; output = out.new }) (fitted_record marks.pipe marks.line (pbn text.now board calls.now plays.now notes.now) out.old rows.old cards.old) }
 {
     let n = kept_calls(calls);
     if rows.len() / 6 < n {
-        return refused_record(Refusal::TooFewRows(RowKind::Calls, n as u64));
+        return Err(Refusal::TooFewRows(RowKind::Calls, n as u64));
     }
     let k = kept_cards(plays);
     if cards.len() < k {
-        return refused_record(Refusal::TooFewRows(RowKind::Cards, k as u64));
+        return Err(Refusal::TooFewRows(RowKind::Cards, k as u64));
     }
     convert_counted(
         marks, text, board, calls, plays, notes, out, rows, cards, n, k,
@@ -96,15 +88,11 @@ pub fn from_board_with(
     out: &mut [u8],
     rows: &mut [u32],
     cards: &mut [u8],
-) -> Converted
-    ensures { ◌≡◌ {A = Conversion} (record { heading = result.heading; len = result.len; rows = rows.new; cards = cards.new; output = out.new }) (convert_board other marks.pipe marks.line (pbn text.now board calls.now plays.now notes.now) out.old rows.old cards.old) }
+) -> Result<Converted, Refusal>
+    ensures { ◌≡◌ {A = Conversion} (record { answer = result; rows = rows.new; cards = cards.new; output = out.new }) (convert_board other marks.pipe marks.line (pbn text.now board calls.now plays.now notes.now) out.old rows.old cards.old) }
 {
-    match check_record(other, text, board, calls, plays, notes) {
-        Verdict::Accepted => {
-            convert_checked(marks, text, board, calls, plays, notes, out, rows, cards)
-        }
-        Verdict::Refused(r) => refused_record(r),
-    }
+    check_record(other, text, board, calls, plays, notes)?;
+    convert_checked(marks, text, board, calls, plays, notes, out, rows, cards)
 }
 
 // Makes a board of a record: its texts go into the output from the first byte on, its calls into the rows, its cards into the places; or
@@ -118,8 +106,8 @@ pub fn from_board(
     out: &mut [u8],
     rows: &mut [u32],
     cards: &mut [u8],
-) -> Converted
-    ensures { ◌≡◌ {A = Conversion} (record { heading = result.heading; len = result.len; rows = rows.new; cards = cards.new; output = out.new }) (convert (pbn text.now board calls.now plays.now notes.now) out.old rows.old cards.old) }
+) -> Result<Converted, Refusal>
+    ensures { ◌≡◌ {A = Conversion} (record { answer = result; rows = rows.new; cards = cards.new; output = out.new }) (convert (pbn text.now board calls.now plays.now notes.now) out.old rows.old cards.old) }
 {
     let marks = PLAIN;
     from_board_with(

@@ -3,17 +3,17 @@ ghost use Rattle.std.specs.Prelude.{◌≡◌};
 ghost use Rattle.pbn.specs.Made.{text_between, made_heading};
 
 use crate::dealing::{claim_from, dealer_by};
-use lin_spec::{Board, Heading, MaybeSpan, PbnBoard, Span, Verdict};
+use lin_spec::{Board, Heading, PbnBoard, Span};
 use pbn_texts::Layout;
 
 // The text from one place to another, absent where it has no byte.
-fn between(from: u32, to: u32) -> MaybeSpan
+fn between(from: u32, to: u32) -> Option<Span>
     ensures { result ≡ text_between from to }
 {
     if to <= from {
-        return MaybeSpan::Absent;
+        return None;
     }
-    MaybeSpan::Present(Span {
+    Some(Span {
         start: from,
         len: to - from,
     })
@@ -44,9 +44,7 @@ pub(crate) fn made_heading(board: PbnBoard, layout: Layout, calls: usize, cards:
         board_header,
         claim,
     };
-    let verdict = Verdict::Accepted;
     Heading {
-        verdict,
         board: made,
         calls,
         cards,

@@ -1,14 +1,14 @@
 -- Laws of annotations: the parts one after the other, the words joined with a space, and the turns of a loop over the parts.
 -- (01: From PBN, "Annotation parts ..")
 -- Assumes nothing.
-use Prim.Native.Nat.{ℕ, zero, suc, ◌+◌, ◌-◌, ◌^◌, ◌≤◌, ◌<◌, min}
+use Rattle.std.specs.Prelude.{Option, None, Some}
+use Prim.Native.Nat.{ℕ, zero, suc, ◌+◌, ◌^◌, ◌≤◌, ◌<◌, min}
 use native.Mathlib.Omega.{arith}
 use mathlib.Core.Path.{◌≡◌, refl, ap, sym, ◌∙◌, subst}
 use mathlib.Core.Bool.{Bool, true, false, ◌||◌, not, or-false, false≢true}
 use mathlib.Core.List.{List, [], ◌∷◌, ◌++◌, map, append-nil}
-use mathlib.Core.Option.{Option, none, some}
-use lib.ListN.{length, take, drop, length-append, length-take, length-drop, drop_of_length-le}
-use lib.Seq.{drop-drop, take_all}
+use lib.ListN.{length, take, drop, length-append, length-drop, drop_of_length-le}
+use lib.Seq.{take_all}
 use lib.Dec.{ltb}
 use borrow.Author.Tests.{lt-ltb, le-ltb}
 use Rattle.lin_spec.specs.Base.{pick, All, keep, null, join_by, ascii}
@@ -99,20 +99,20 @@ module _ (s ws : List ℕ) where
       filled (b ∷ w) e = omega arith
 
   -- so that a text of no byte is absent
-  pub absent_is : (raw : List ℕ) → length (or_empty (annotation_text s ws raw)) ≡ 0 → annotation_text s ws raw ≡ none
+  pub absent_is : (raw : List ℕ) → length (or_empty (annotation_text s ws raw)) ≡ 0 → annotation_text s ws raw ≡ None
   unfolding annotation_text
   absent_is raw = go (words_of s ws (annotation_parts raw)) (words_filled (annotation_parts raw))
     where
-      go : (ws : List (List ℕ)) → All (λ (x : List ℕ). 0 < length x) ws → length (or_empty (joined_words ws)) ≡ 0 → joined_words ws ≡ none
+      go : (ws : List (List ℕ)) → All (λ (x : List ℕ). 0 < length x) ws → length (or_empty (joined_words ws)) ≡ 0 → joined_words ws ≡ None
       go [] f h = refl
       go (x ∷ ws) f h = absurd (let e = ap length (join-spaces x ws) ∙ length-append x (spaces ws) in let g = f.0 in let z : ⊥ = omega arith in z)
 
-  pub present-is : (raw : List ℕ) → (length (or_empty (annotation_text s ws raw)) ≡ 0 → ⊥) → annotation_text s ws raw ≡ some (or_empty (annotation_text s ws raw))
+  pub present-is : (raw : List ℕ) → (length (or_empty (annotation_text s ws raw)) ≡ 0 → ⊥) → annotation_text s ws raw ≡ Some (or_empty (annotation_text s ws raw))
   present-is raw h = go (annotation_text s ws raw) h
     where
-      go : (o : Option (List ℕ)) → (length (or_empty o) ≡ 0 → ⊥) → o ≡ some (or_empty o)
-      go none k = absurd (k refl)
-      go (some x) k = refl
+      go : (o : Option (List ℕ)) → (length (or_empty o) ≡ 0 → ⊥) → o ≡ Some (or_empty o)
+      go None k = absurd (k refl)
+      go (Some x) k = refl
 
 -- Whether a word was met so far: by the place, and by the count
 
@@ -132,19 +132,9 @@ counted n (b ∷ w) = go (ltb 0 n)
     go true = lt-ltb 0 (sat (n + length (spaced_word true (b ∷ w)))) (omega arith)
     go false = lt-ltb 0 (sat (n + length (spaced_word false (b ∷ w)))) (omega arith)
 
--- A loop over the parts, at the byte i
-
--- the bytes from i on, as a borrow gives them
-abbrev rest_at : (raw : List ℕ) (i : ℕ) → List ℕ
-rest_at raw i = take (length raw - i) (drop i raw)
-
-rest-is : (raw : List ℕ) (i : ℕ) → rest_at raw i ≡ drop i raw
-rest-is raw i = take_all (length raw - i) (drop i raw) (let l = length-drop i raw in omega arith)
+-- A loop over the parts of what is left
 
 -- as many bytes as there are
-pub part_taken : (r : List ℕ) (k : ℕ) → k ≡ min (part_length r) (length r) → k ≡ length (take k r)
-part_taken r k e = let l = length-take k r in omega arith
-
 take_most : (r : List ℕ) (n : ℕ) → take (min n (length r)) r ≡ take n r
 take_most r n =
     split n (length r) (λ h. ap (λ (m : ℕ). take m r) (let z : min n (length r) ≡ n = omega arith in z))
@@ -172,71 +162,63 @@ module _ (s ws : List ℕ) where
       ∙ ap (λ (x : List ℕ). spaced_word t (part_word s ws (take n (b ∷ r))) ++ text_from s ws (t || not (null (part_word s ws (take n (b ∷ r))))) (annotation_parts x)) g)
 
   -- before the first part nothing is counted, and nothing put
-  pub count-start : (raw : List ℕ) → sat (0 + length (text_from s ws (ltb 0 0) (annotation_parts (drop 0 raw)))) ≡ sat (length (parts_text s ws raw))
+  pub count-start : (raw : List ℕ) → sat (0 + length (text_from s ws (ltb 0 0) (annotation_parts raw))) ≡ sat (length (parts_text s ws raw))
   unfolding parts_text
   count-start raw = ap sat (let z : 0 + length (parts_text s ws raw) ≡ length (parts_text s ws raw) = omega arith in z)
 
-  pub put_start : (raw : List ℕ) {d : List ℕ} {at : ℕ} → Room d at (parts_text s ws raw) → Left d at (text_from s ws (ltb at at) (annotation_parts (drop 0 raw))) d at (parts_text s ws raw)
+  pub put_start : (raw : List ℕ) {d : List ℕ} {at : ℕ} → Room d at (parts_text s ws raw) → Left d at (text_from s ws (ltb at at) (annotation_parts raw)) d at (parts_text s ws raw)
   unfolding parts_text
   put_start raw {d} {at} r = subst (λ (t : Bool). Left d at (text_from s ws t (annotation_parts raw)) d at (parts_text s ws raw)) (sym (le-ltb at at (omega arith))) (start r)
 
-  module _ (raw : List ℕ) (i : ℕ) where
-    -- past the last part no word is left
-    text-end : length raw ≤ i → (t : Bool) → text_from s ws t (annotation_parts (drop i raw)) ≡ []
-    unfolding text_from
-    text-end h t = ap (λ (r : List ℕ). text_from s ws t (annotation_parts r)) (drop_of_length-le raw h) ∙ ap (text_from s ws t) parts_none
+  -- past the last part no word is left
+  text-end : (r : List ℕ) → length r ≡ 0 → (t : Bool) → text_from s ws t (annotation_parts r) ≡ []
+  unfolding text_from
+  text-end [] h t = ap (text_from s ws t) parts_none
+  text-end (b ∷ r) h t = absurd (let z : ⊥ = omega arith in z)
 
-    pub count-end : length raw ≤ i → (n whole : ℕ) → n < 2 ^ 64 → sat (n + length (text_from s ws (ltb 0 n) (annotation_parts (drop i raw)))) ≡ sat whole → n ≡ sat whole
-    count-end h n whole l v = let z = ap length (text-end h (ltb 0 n)) in omega arith
+  pub count-end : (r : List ℕ) → length r ≡ 0 → (n whole : ℕ) → n < 2 ^ 64 → sat (n + length (text_from s ws (ltb 0 n) (annotation_parts r))) ≡ sat whole → n ≡ sat whole
+  count-end r h n whole l v = let z = ap length (text-end r h (ltb 0 n)) in omega arith
 
-    pub put_end : length raw ≤ i → {d : List ℕ} {o at : ℕ} {d₀ whole : List ℕ} → Left d o (text_from s ws (ltb at o) (annotation_parts (drop i raw))) d₀ at whole → Left d o [] d₀ at whole
-    put_end h {d} {o} {at} {d₀} {whole} v = subst (λ (x : List ℕ). Left d o x d₀ at whole) (text-end h (ltb at o)) v
+  pub put_end : (r : List ℕ) → length r ≡ 0 → {d : List ℕ} {o at : ℕ} {d₀ whole : List ℕ} → Left d o (text_from s ws (ltb at o) (annotation_parts r)) d₀ at whole → Left d o [] d₀ at whole
+  put_end r h {d} {o} {at} {d₀} {whole} v = subst (λ (x : List ℕ). Left d o x d₀ at whole) (text-end r h (ltb at o)) v
 
-    module _ (h : i < length raw) (k : ℕ) (e : k ≡ min (part_length (rest_at raw i)) (length (rest_at raw i))) where
-      -- a turn passes some bytes, and none beyond the end
-      pub part_moves : (0 < k) × (i + k ≤ length raw)
-      part_moves =
-          let l = ap length (rest-is raw i) ∙ length-drop i raw in
-          let p = some (rest_at raw i) (omega arith) in
-          (omega arith, omega arith)
-        where
-          some : (r : List ℕ) → 0 < length r → 0 < part_length r
-          some [] z = absurd (let y : ⊥ = omega arith in y)
-          some (b ∷ r) z = part-some b r
+  module _ (r : List ℕ) (h : 0 < length r) (k : ℕ) (e : k ≡ min (part_length r) (length r)) where
+    -- a turn passes some bytes
+    pub part_moves : 0 < k
+    part_moves = let p = Some r h in omega arith
+      where
+        Some : (r : List ℕ) → 0 < length r → 0 < part_length r
+        Some [] z = absurd (let y : ⊥ = omega arith in y)
+        Some (b ∷ r) z = part-some b r
 
-      module _ (w : Word) (ew : w ≡ front_word ws (take k (rest_at raw i))) where
-        abbrev word : List ℕ
-        word = word_text s (take k (rest_at raw i)) w
+    -- where the part p and what is after it are split there
+    module _ (p q : List ℕ) (ep : p ≡ take k r) (eq : q ≡ drop k r) (w : Word) (ew : w ≡ front_word ws p) where
+      abbrev word : List ℕ
+      word = word_text s p w
 
-        -- what is left is the word of the part, and the words of the parts after it
-        text-turn : (t : Bool) → text_from s ws t (annotation_parts (drop i raw)) ≡ spaced_word t word ++ text_from s ws (t || not (null word)) (annotation_parts (drop (i + k) raw))
-        text-turn t =
-            let l = ap length (rest-is raw i) ∙ length-drop i raw in
-            let d : drop k (rest_at raw i) ≡ drop (i + k) raw = ap (drop k) (rest-is raw i) ∙ drop-drop k i raw in
-            ap (λ (r : List ℕ). text_from s ws t (annotation_parts r)) (sym (rest-is raw i))
-            ∙ front-turn (rest_at raw i) (omega arith) k e t
-            ∙ ap (λ (v : Word). spaced_word t (word_text s (take k (rest_at raw i)) v) ++ text_from s ws (t || not (null (word_text s (take k (rest_at raw i)) v))) (annotation_parts (drop k (rest_at raw i)))) (sym ew)
-            ∙ ap (λ (r : List ℕ). spaced_word t word ++ text_from s ws (t || not (null word)) (annotation_parts r)) d
+      -- what is left is the word of the part, and the words of the parts after it
+      text-turn : (t : Bool) → text_from s ws t (annotation_parts r) ≡ spaced_word t word ++ text_from s ws (t || not (null word)) (annotation_parts q)
+      text-turn t = rw (ew, ep, eq) (front-turn r h k e t)
 
-        -- A turn of the count: n bytes so far, and the word's
-        pub count_turn : (n x n' : ℕ) → x ≡ length word → n' ≡ sat (n + spaced_length (ltb 0 n) x) → (whole : ℕ)
-            → sat (n + length (text_from s ws (ltb 0 n) (annotation_parts (drop i raw)))) ≡ sat whole
-            → sat (n' + length (text_from s ws (ltb 0 n') (annotation_parts (drop (i + k) raw)))) ≡ sat whole
-        count_turn n x n' ex en whole v =
-            let m : n' ≡ sat (n + length (spaced_word (ltb 0 n) word)) = en ∙ ap (λ (y : ℕ). sat (n + y)) (ap (spaced_length (ltb 0 n)) ex ∙ sym (spaced_length_lem (ltb 0 n) word)) in
-            let f : ltb 0 n' ≡ (ltb 0 n || not (null word)) = ap (ltb 0) m ∙ counted n word in
-            let l = ap length (text-turn (ltb 0 n)) ∙ length-append (spaced_word (ltb 0 n) word) (text_from s ws (ltb 0 n || not (null word)) (annotation_parts (drop (i + k) raw))) in
-            let g = ap (λ (t : Bool). length (text_from s ws t (annotation_parts (drop (i + k) raw)))) f in
-            omega arith
+      -- A turn of the count: n bytes so far, and the word's
+      pub count_turn : (n x n' : ℕ) → x ≡ length word → n' ≡ sat (n + spaced_length (ltb 0 n) x) → (whole : ℕ)
+          → sat (n + length (text_from s ws (ltb 0 n) (annotation_parts r))) ≡ sat whole
+          → sat (n' + length (text_from s ws (ltb 0 n') (annotation_parts q))) ≡ sat whole
+      count_turn n x n' ex en whole v =
+          let m : n' ≡ sat (n + length (spaced_word (ltb 0 n) word)) = en ∙ ap (λ (y : ℕ). sat (n + y)) (ap (spaced_length (ltb 0 n)) ex ∙ sym (spaced_length_lem (ltb 0 n) word)) in
+          let f : ltb 0 n' ≡ (ltb 0 n || not (null word)) = ap (ltb 0) m ∙ counted n word in
+          let l = ap length (text-turn (ltb 0 n)) ∙ length-append (spaced_word (ltb 0 n) word) (text_from s ws (ltb 0 n || not (null word)) (annotation_parts q)) in
+          let g = ap (λ (t : Bool). length (text_from s ws t (annotation_parts q))) f in
+          omega arith
 
-        -- A turn of the puts: from o on, after the bytes from `at` on
-        module _ {d : List ℕ} {o at : ℕ} {d₀ whole : List ℕ} (a : at ≤ o) (v : Left d o (text_from s ws (ltb at o) (annotation_parts (drop i raw))) d₀ at whole) where
-          pub put_left : Left d o (spaced_word (ltb at o) word ++ text_from s ws (ltb at o || not (null word)) (annotation_parts (drop (i + k) raw))) d₀ at whole
-          put_left = subst (λ (x : List ℕ). Left d o x d₀ at whole) (text-turn (ltb at o)) v
+      -- A turn of the puts: from o on, after the bytes from `at` on
+      module _ {d : List ℕ} {o at : ℕ} {d₀ whole : List ℕ} (a : at ≤ o) (v : Left d o (text_from s ws (ltb at o) (annotation_parts r)) d₀ at whole) where
+        pub put_left : Left d o (spaced_word (ltb at o) word ++ text_from s ws (ltb at o || not (null word)) (annotation_parts q)) d₀ at whole
+        put_left = subst (λ (x : List ℕ). Left d o x d₀ at whole) (text-turn (ltb at o)) v
 
-          pub put_turn : {d' : List ℕ} {o' : ℕ} → Put d o (spaced_word (ltb at o) word) d' o'
-              → (at ≤ o') × Left d' o' (text_from s ws (ltb at o') (annotation_parts (drop (i + k) raw))) d₀ at whole
-          put_turn {d'} {o'} p =
-              let f : ltb at o' ≡ (ltb at o || not (null word)) = ap (ltb at) p.next ∙ placed at o word a in
-              let l : Left d' o' (text_from s ws (ltb at o || not (null word)) (annotation_parts (drop (i + k) raw))) d₀ at whole = step put_left p in
-              (omega (arith, p.next), subst (λ (t : Bool). Left d' o' (text_from s ws t (annotation_parts (drop (i + k) raw))) d₀ at whole) (sym f) l)
+        pub put_turn : {d' : List ℕ} {o' : ℕ} → Put d o (spaced_word (ltb at o) word) d' o'
+            → (at ≤ o') × Left d' o' (text_from s ws (ltb at o') (annotation_parts q)) d₀ at whole
+        put_turn {d'} {o'} p =
+            let f : ltb at o' ≡ (ltb at o || not (null word)) = ap (ltb at) p.next ∙ placed at o word a in
+            let l : Left d' o' (text_from s ws (ltb at o || not (null word)) (annotation_parts q)) d₀ at whole = step put_left p in
+            (omega (arith, p.next), subst (λ (t : Bool). Left d' o' (text_from s ws t (annotation_parts q)) d₀ at whole) (sym f) l)

@@ -3,13 +3,13 @@ ghost use Rattle.std.specs.Prelude.{◌≡◌, ◌∷◌, ◌≤◌, length};
 ghost use Rattle.lin_spec.specs.Base.{any};
 ghost use Rattle.lin_spec.specs.Records.{limit};
 ghost use Rattle.lin_spec.specs.Refusals.{passes_end, ill_span};
-ghost use Rattle.lin_spec.specs.Annotation.{note_spans, annotation_answer, Annotated, write_annotation};
+ghost use Rattle.lin_spec.specs.Annotation.{note_spans, Annotated, write_annotation};
 ghost use Rattle.text.specs.Fault.{fault_of};
 ghost use Rattle.text.specs.Index.{Indexed};
 
 use crate::notes::{any_note_faulty, notes_pass};
 use crate::texts::{annotation_len, put_annotation};
-use lin_spec::{AnnotationWritten, LIMIT, Refusal, Span, room};
+use lin_spec::{LIMIT, Refusal, Span, room};
 use text::{Fault, faulty, index_text};
 
 // Whether the raw annotation or a note has this fault.
@@ -52,25 +52,25 @@ pub fn annotation_text(
     raw: Span,
     notes: &[u32; 768],
     out: &mut [u8],
-) -> AnnotationWritten
-    ensures { ◌≡◌ {A = Annotated} (record { answer = annotation_answer result; output = out.new }) (write_annotation text.now raw notes.now out.old) }
+) -> Result<Option<usize>, Refusal>
+    ensures { ◌≡◌ {A = Annotated} (record { answer = result; output = out.new }) (write_annotation text.now raw notes.now out.old) }
 {
     if LIMIT < text.len() {
-        return AnnotationWritten::Refused(Refusal::TextTooLong);
+        return Err(Refusal::TextTooLong);
     }
     if annotation_past(text, raw, notes) {
-        return AnnotationWritten::Refused(Refusal::SpanPastEnd);
+        return Err(Refusal::SpanPastEnd);
     }
     if annotation_ill(text, raw, notes) {
-        return AnnotationWritten::Refused(Refusal::SpanNotUtf8);
+        return Err(Refusal::SpanNotUtf8);
     }
     let need = annotation_len(text, raw, notes);
     if (room(out.len()) as u64) < need {
-        return AnnotationWritten::Refused(Refusal::OutputTooSmall(need));
+        return Err(Refusal::OutputTooSmall(need));
     }
     if need == 0 {
-        return AnnotationWritten::Absent;
+        return Ok(None);
     }
     let n = put_annotation(out, 0, text, raw, notes);
-    AnnotationWritten::Length(n)
+    Ok(Some(n))
 }

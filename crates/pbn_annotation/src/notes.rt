@@ -1,5 +1,5 @@
 // The spans of all notes, checked. (01: From PBN, "a note span or absent for each of the 256 note numbers"; refusals 5 and 6)
-ghost use Rattle.std.specs.Prelude.{◌≡◌, ◌-◌, ◌^◌, ◌≤◌, ◌<◌, length};
+ghost use Rattle.std.specs.Prelude.{◌≡◌, ◌^◌, ◌<◌};
 ghost use Rattle.lin_spec.specs.Base.{any};
 ghost use Rattle.lin_spec.specs.Annotation.{note_spans};
 ghost use Rattle.text.specs.Fault.{fault_of};
@@ -9,19 +9,16 @@ ghost use Rattle.pbn_annotation.specs.Notes.{note_at};
 use lin_spec::Span;
 use text::{Fault, faulty};
 
-// Whether the note of the three words from i on has this fault. The place of a note that is absent is not looked at.
-fn note_faulty(text: &[u8], next: &[u32], words: &[u32], i: usize, fault: Fault) -> bool
-    requires { Indexed text.now next.now × (3 ≤ length words.now - i) }
-    ensures { result ≡ any (fault_of fault text.now) (note_at words.now i) }
+// Whether the note of three words has this fault. The place of a note that is absent is not looked at.
+fn note_faulty(text: &[u8], next: &[u32], note: [u32; 3], fault: Fault) -> bool
+    requires { Indexed text.now next.now }
+    ensures { result ≡ any (fault_of fault text.now) (note_at note 0) }
 {
-    if words[i] == 0 {
+    let [present, start, len] = note;
+    if present == 0 {
         return false;
     }
-    let x = Span {
-        start: words[i + 1],
-        len: words[i + 2],
-    };
-    faulty(text, next, x, fault)
+    faulty(text, next, Span { start, len }, fault)
 }
 
 // Whether a note has this fault, used or not.
@@ -29,15 +26,11 @@ pub fn any_note_faulty(text: &[u8], next: &[u32], notes: &[u32; 768], fault: Fau
     requires { Indexed text.now next.now }
     ensures { result ≡ any (fault_of fault text.now) (note_spans notes.now) }
 {
-    let words: &[u32] = notes;
-    let mut i = 0;
-    while 3 <= words.len() - i {
-        if note_faulty(text, next, words, i, fault) {
-            return true;
-        }
-        i += 3;
-    }
-    false
+    notes
+        .as_chunks::<3>()
+        .0
+        .iter()
+        .any(|&note| note_faulty(text, next, note, fault))
 }
 
 // How many bytes a note has, none where it is absent.
@@ -52,12 +45,9 @@ fn note_len(present: u32, len: u32) -> u64
 
 // How many bytes the spans of all notes have together.
 fn notes_len(notes: &[u32; 768]) -> u64 {
-    let words: &[u32] = notes;
     let mut n = 0;
-    let mut i = 0;
-    while i < 256 {
-        n += note_len(words[i * 3], words[i * 3 + 2]);
-        i += 1;
+    for &[present, _, len] in notes.as_chunks::<3>().0 {
+        n += note_len(present, len);
     }
     n
 }

@@ -30,14 +30,12 @@ fn joined_len(n: u64, w: u64) -> u64
 fn words_len(text: &[u8], raw: &[u8], notes: &[u32; 768]) -> u64
     ensures { result ≡ sat (length (parts_text text.now notes.now raw.now)) }
 {
-    let mut i = 0;
+    let mut rest = raw;
     let mut n = 0;
-    while i < raw.len() {
-        let rest = &raw[i..];
-        let k = part_len(rest);
-        let part = &rest[..k];
+    while !rest.is_empty() {
+        let (part, after) = rest.split_at(part_len(rest));
         n = joined_len(n, word_len(text, part, part_word(part, notes)));
-        i += k;
+        rest = after;
     }
     n
 }
@@ -53,14 +51,12 @@ fn put_annotation_words(
     requires { Room out.old at (parts_text text.now notes.now raw.now) }
     ensures { Put out.old at (parts_text text.now notes.now raw.now) out.new result }
 {
-    let mut i = 0;
+    let mut rest = raw;
     let mut o = at;
-    while i < raw.len() {
-        let rest = &raw[i..];
-        let k = part_len(rest);
-        let part = &rest[..k];
+    while !rest.is_empty() {
+        let (part, after) = rest.split_at(part_len(rest));
         o = put_spaced_word(out, o, at < o, text, part, part_word(part, notes));
-        i += k;
+        rest = after;
     }
     o
 }

@@ -1,21 +1,20 @@
 -- Laws of the checks of a PBN record, as the loops go through its calls, its play and its names. (01: From PBN; Eight refusals)
 -- Assumes nothing.
+use Rattle.std.specs.Prelude.{Err, Ok}
 use Prim.Native.Nat.{ℕ, ◌<◌, ◌≤◌}
 use mathlib.Core.Path.{◌≡◌, refl, ap, sym, ◌∙◌}
 use mathlib.Core.Bool.{Bool, true, false, ◌||◌, or-false}
-use mathlib.Core.List.{List, [], ◌∷◌}
+use mathlib.Core.List.{List, [], ◌∷◌, map}
 use lib.ListN.{length}
 use lib.Dec.{ltb}
 use borrow.Author.Tests.{lt-ltb, le-ltb, eq-eqb, ne_eqb}
 use Rattle.lin_spec.specs.Base.{any, concat}
-use Rattle.lin_spec.specs.Records.{limit, option_of}
+use Rattle.lin_spec.specs.Records.{limit}
 use Rattle.lin_spec.specs.Refusals.{Answer, refuse_if, unless, passes_end, ill_span}
-use Rattle.lin_spec.specs.Refusals.Answer.{refused, accepted}
 use Rattle.lin_spec.specs.Lent.{span_in}
 use Rattle.lin_spec.specs.Pbn.{pbn, pbn_names, pbn_rows, raw_of, bad_entry, bad_call, bad_board_number, bad_pbn, raw_spans, name_spans, pbn_spans}
 use Rattle.lin_spec.specs.Annotation.{note_spans}
 use Rattle.lin_spec.specs.declared.Span.{Span}
-use Rattle.lin_spec.specs.declared.MaybeSpan.{MaybeSpan}
 use Rattle.lin_spec.specs.declared.PbnCall.{PbnCall}
 use Rattle.lin_spec.specs.declared.PbnBoard.{PbnBoard}
 use Rattle.lin_spec.specs.declared.Refusal.TheVariants.{TextTooLong, OutOfRange, SpanPastEnd, SpanNotUtf8}
@@ -23,19 +22,11 @@ use Rattle.lin_spec.proofs.Base.{any_append}
 use Rattle.pbn_checks.specs.Checks.{pbn_checks, record_checked}
 
 -- an entry of the play, by the two tests that are made of it
-pub bad-entry : (c : ℕ) → 51 < c → (c ≡ 255 → ⊥) → true ≡ bad_entry c
-bad-entry c h k = sym (simp (lt-ltb 51 c h, ne_eqb c 255 k))
-
 -- the spans of the calls and of the names, call by call and name by name
-pub raws-any : (f : Span → Bool) (cs : List PbnCall) → any f (raw_spans cs) ≡ any (λ c. any f (span_in (raw_of c))) cs
+pub any-each : {A : Type 0} (f : Span → Bool) (g : A → List Span) (xs : List A) → any (λ x. any f (g x)) xs ≡ any f (concat (map g xs))
 unfolding concat any
-raws-any f [] = refl
-raws-any f (c ∷ cs) = any_append f (span_in (raw_of c)) (raw_spans cs) ∙ ap (λ (t : Bool). any f (span_in (raw_of c)) || t) (raws-any f cs)
-
-pub names-any : (f : Span → Bool) (xs : List MaybeSpan) → any f (name_spans xs) ≡ any (λ x. any f (span_in (option_of x))) xs
-unfolding concat any
-names-any f [] = refl
-names-any f (x ∷ xs) = any_append f (span_in (option_of x)) (name_spans xs) ∙ ap (λ (t : Bool). any f (span_in (option_of x)) || t) (names-any f xs)
+any-each f g [] = refl
+any-each f g (x ∷ xs) = ap (λ (t : Bool). any f (g x) || t) (any-each f g xs) ∙ sym (any_append f (g x) (concat (map g xs)))
 
 -- a raw annotation, by its flag
 module _ (f : Span → Bool) (c : PbnCall) where
@@ -55,8 +46,8 @@ module _ (f : Span → Bool) (s : List ℕ) (b : PbnBoard) (ws ns : List ℕ) wh
 
   spans-any : all
       ≡ (any f (name_spans (pbn_names b))
-      || (any f (span_in (option_of b.event))
-      || (any f (span_in (option_of b.date)) || (any f (span_in (option_of b.id)) || (any f (raw_spans (pbn_rows ws)) || any f (note_spans ns))))))
+      || (any f (span_in b.event)
+      || (any f (span_in b.date) || (any f (span_in b.id) || (any f (raw_spans (pbn_rows ws)) || any f (note_spans ns))))))
   unfolding pbn_spans
   spans-any = simp any_append
 
@@ -64,15 +55,15 @@ module _ (f : Span → Bool) (s : List ℕ) (b : PbnBoard) (ws ns : List ℕ) wh
     pub in_names : t ≡ true → true ≡ all
     in_names h = sym (spans-any ∙ simp (← et, h))
 
-    module _ (ht : t ≡ false) (u : Bool) (eu : u ≡ any f (span_in (option_of b.event))) where
+    module _ (ht : t ≡ false) (u : Bool) (eu : u ≡ any f (span_in b.event)) where
       pub in_event : u ≡ true → true ≡ all
       in_event h = sym (spans-any ∙ simp (← et, ht, ← eu, h))
 
-      module _ (hu : u ≡ false) (v : Bool) (ev : v ≡ any f (span_in (option_of b.date))) where
+      module _ (hu : u ≡ false) (v : Bool) (ev : v ≡ any f (span_in b.date)) where
         pub in_date : v ≡ true → true ≡ all
         in_date h = sym (spans-any ∙ simp (← et, ht, ← eu, hu, ← ev, h))
 
-        module _ (hv : v ≡ false) (w : Bool) (ew : w ≡ any f (span_in (option_of b.id))) where
+        module _ (hv : v ≡ false) (w : Bool) (ew : w ≡ any f (span_in b.id)) where
           pub in_id : w ≡ true → true ≡ all
           in_id h = sym (spans-any ∙ simp (← et, ht, ← eu, hu, ← ev, hv, ← ew, h))
 
@@ -114,7 +105,7 @@ module _ (other : Bool) (s : List ℕ) (b : PbnBoard) (ws ps ns : List ℕ) wher
   unfolding pbn_checks bad_pbn pbn_spans four
   is-four x y z w ex ey ez ew = λ i. four (ex i) (ey i) (ez i) (ew i)
 
-  pub check_long : limit < length s → refused TextTooLong ≡ verdict
+  pub check_long : limit < length s → Err TextTooLong ≡ verdict
   unfolding four unless
   check_long h = is-four true (other || bad) (any (passes_end s) spans) (any (ill_span s) spans) (sym (lt-ltb limit (length s) h)) refl refl refl
 
@@ -122,7 +113,7 @@ module _ (other : Bool) (s : List ℕ) (b : PbnBoard) (ws ps ns : List ℕ) wher
     abbrev short : false ≡ ltb limit (length s)
     short = sym (le-ltb limit (length s) h)
 
-    pub check_other : other ≡ true → refused OutOfRange ≡ verdict
+    pub check_other : other ≡ true → Err OutOfRange ≡ verdict
     unfolding four unless
     check_other o = is-four false true (any (passes_end s) spans) (any (ill_span s) spans) short (sym (ap (λ (t : Bool). t || bad) o)) refl refl
 
@@ -130,20 +121,20 @@ module _ (other : Bool) (s : List ℕ) (b : PbnBoard) (ws ps ns : List ℕ) wher
       number : (u : Bool) → t ≡ u → u ≡ (other || bad)
       number u k = sym k ∙ et ∙ sym (ap (λ (v : Bool). v || bad) o)
 
-      pub check_number : t ≡ true → refused OutOfRange ≡ verdict
+      pub check_number : t ≡ true → Err OutOfRange ≡ verdict
       unfolding four unless
       check_number k = is-four false true (any (passes_end s) spans) (any (ill_span s) spans) short (number true k) refl refl
 
       module _ (k : t ≡ false) (u : Bool) (eu : u ≡ any (passes_end s) spans) where
-        pub check_past : u ≡ true → refused SpanPastEnd ≡ verdict
+        pub check_past : u ≡ true → Err SpanPastEnd ≡ verdict
         unfolding four unless
         check_past l = is-four false false true (any (ill_span s) spans) short (number false k) (sym l ∙ eu) refl
 
         module _ (l : u ≡ false) (w : Bool) (ew : w ≡ any (ill_span s) spans) where
-          pub check_ill : w ≡ true → refused SpanNotUtf8 ≡ verdict
+          pub check_ill : w ≡ true → Err SpanNotUtf8 ≡ verdict
           unfolding four unless
           check_ill m = is-four false false false true short (number false k) (sym l ∙ eu) (sym m ∙ ew)
 
-          pub check_good : w ≡ false → accepted tt ≡ verdict
+          pub check_good : w ≡ false → Ok tt ≡ verdict
           unfolding four unless
           check_good m = is-four false false false false short (number false k) (sym l ∙ eu) (sym m ∙ ew)

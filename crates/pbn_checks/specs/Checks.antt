@@ -1,6 +1,5 @@
 -- What the checks of a PBN record answer. (01: From PBN; Eight refusals)
-use Rattle.std.specs.Prelude.{Bool, ◌||◌, List, [], ◌∷◌}
-use Rattle.std.proofs.Math.Option.{Option}
+use Rattle.std.specs.Prelude.{Bool, ◌||◌, List, [], ◌∷◌, Option}
 use Rattle.lin_spec.specs.Refusals.{Answer, refuse_if, unless, too_long, past_end, span_not_utf8}
 use Rattle.lin_spec.specs.Pbn.{Pbn, bad_pbn, pbn_spans}
 use Rattle.lin_spec.specs.declared.Refusal.{Refusal}

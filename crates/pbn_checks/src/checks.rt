@@ -1,17 +1,16 @@
 // The checks of a PBN record: 1, 8, 5 and 6, each over all that is lent before the next. (01: From PBN; Eight refusals)
 ghost use Rattle.std.specs.Prelude.{◌≡◌, ◌||◌, [], ◌^◌, ◌≤◌, ◌<◌, length};
 ghost use Rattle.lin_spec.specs.Base.{any};
-ghost use Rattle.lin_spec.specs.Records.{limit, option_of};
+ghost use Rattle.lin_spec.specs.Records.{limit};
 ghost use Rattle.lin_spec.specs.Refusals.{passes_end, ill_span};
 ghost use Rattle.lin_spec.specs.Lent.{span_in};
 ghost use Rattle.lin_spec.specs.Pbn.{pbn, pbn_names, pbn_rows, raw_of, bad_entry, bad_call, bad_board_number, raw_spans, name_spans, pbn_spans};
 ghost use Rattle.text.specs.Fault.{fault_of};
 ghost use Rattle.text.specs.Index.{Indexed};
-ghost use Rattle.board_lent.specs.Checks.{verdict_of};
 ghost use Rattle.pbn_checks.specs.Checks.{record_checked};
 
-use crate::records::{pbn_call_at, pbn_names};
-use lin_spec::{LIMIT, MaybeNumber, MaybeSpan, PbnBoard, PbnCall, Refusal, Verdict};
+use crate::records::{pbn_call_of, pbn_names};
+use lin_spec::{LIMIT, PbnBoard, PbnCall, Refusal, Span};
 use pbn_annotation::{any_note_faulty, notes_pass};
 use text::{Fault, faulty, index_text};
 
@@ -27,14 +26,11 @@ fn bad_call(c: PbnCall) -> bool
 fn bad_calls(calls: &[u32]) -> bool
     ensures { result ≡ any bad_call (pbn_rows calls.now) }
 {
-    let mut i = 0;
-    while 6 <= calls.len() - i {
-        if bad_call(pbn_call_at(calls, i)) {
-            return true;
-        }
-        i += 6;
-    }
-    false
+    calls
+        .as_chunks::<6>()
+        .0
+        .iter()
+        .any(|&row| bad_call(pbn_call_of(row)))
 }
 
 // Whether an entry of a play is neither a card nor a gap.
@@ -48,34 +44,27 @@ fn bad_entry(b: u8) -> bool
 fn bad_plays(plays: &[u8]) -> bool
     ensures { result ≡ any bad_entry plays.now }
 {
-    let mut i = 0;
-    while i < plays.len() {
-        if bad_entry(plays[i]) {
-            return true;
-        }
-        i += 1;
-    }
-    false
+    plays.iter().any(|&b| bad_entry(b))
 }
 
 // Whether a board number is outside 1 to 65,535.
-fn bad_board_number(n: MaybeNumber) -> bool
+fn bad_board_number(n: Option<u32>) -> bool
     ensures { result ≡ bad_board_number n }
 {
     match n {
-        MaybeNumber::Absent => false,
-        MaybeNumber::Number(k) => (k == 0) | (65_535 < k),
+        None => false,
+        Some(k) => (k == 0) | (65_535 < k),
     }
 }
 
 // Whether a text that is present has this fault.
-fn present_faulty(text: &[u8], next: &[u32], x: MaybeSpan, fault: Fault) -> bool
+fn present_faulty(text: &[u8], next: &[u32], x: Option<Span>, fault: Fault) -> bool
     requires { Indexed text.now next.now }
-    ensures { result ≡ any (fault_of fault text.now) (span_in (option_of x)) }
+    ensures { result ≡ any (fault_of fault text.now) (span_in x) }
 {
     match x {
-        MaybeSpan::Absent => false,
-        MaybeSpan::Present(s) => faulty(text, next, s, fault),
+        None => false,
+        Some(s) => faulty(text, next, s, fault),
     }
 }
 
@@ -95,30 +84,11 @@ fn raws_faulty(text: &[u8], next: &[u32], calls: &[u32], fault: Fault) -> bool
     requires { Indexed text.now next.now }
     ensures { result ≡ any (fault_of fault text.now) (raw_spans (pbn_rows calls.now)) }
 {
-    let mut i = 0;
-    while 6 <= calls.len() - i {
-        if raw_faulty(text, next, pbn_call_at(calls, i), fault) {
-            return true;
-        }
-        i += 6;
-    }
-    false
-}
-
-// Whether one of these names has this fault.
-fn one_faulty(text: &[u8], next: &[u32], names: [MaybeSpan; 4], fault: Fault) -> bool
-    requires { Indexed text.now next.now }
-    ensures { result ≡ any (fault_of fault text.now) (name_spans names) }
-{
-    let mut seat = 0;
-    while seat < 4 {
-        let name = names[seat];
-        if present_faulty(text, next, name, fault) {
-            return true;
-        }
-        seat += 1;
-    }
-    false
+    calls
+        .as_chunks::<6>()
+        .0
+        .iter()
+        .any(|&row| raw_faulty(text, next, pbn_call_of(row), fault))
 }
 
 // Whether a name of the record has it.
@@ -126,11 +96,13 @@ fn names_faulty(text: &[u8], next: &[u32], board: PbnBoard, fault: Fault) -> boo
     requires { Indexed text.now next.now }
     ensures { result ≡ any (fault_of fault text.now) (name_spans (pbn_names board)) }
 {
-    one_faulty(text, next, pbn_names(board), fault)
+    pbn_names(board)
+        .iter()
+        .any(|&name| present_faulty(text, next, name, fault))
 }
 
 // Whether a number of the record is outside its range.
-fn bad_record(number: MaybeNumber, calls: &[u32], plays: &[u8]) -> bool
+fn bad_record(number: Option<u32>, calls: &[u32], plays: &[u8]) -> bool
     ensures { result ≡ (bad_board_number number || (any bad_call (pbn_rows calls.now) || any bad_entry plays.now)) }
 {
     if bad_board_number(number) {
@@ -196,14 +168,12 @@ fn raw_annotation_len(c: PbnCall) -> u64
 // Whether the raw annotations have together more bytes than so many. It says only how to look, which no answer depends on, so it promises nothing.
 fn raws_pass(bytes: usize, calls: &[u32]) -> bool {
     let mut left = bytes as u64;
-    let mut i = 0;
-    while 6 <= calls.len() - i {
-        let n = raw_annotation_len(pbn_call_at(calls, i));
+    for &row in calls.as_chunks::<6>().0 {
+        let n = raw_annotation_len(pbn_call_of(row));
         if left < n {
             return true;
         }
         left -= n;
-        i += 6;
     }
     false
 }
@@ -230,24 +200,24 @@ pub fn check_record(
     calls: &[u32],
     plays: &[u8],
     notes: &[u32; 768],
-) -> Verdict
-    ensures { verdict_of result ≡ record_checked other (pbn text.now board calls.now plays.now notes.now) }
+) -> Result<(), Refusal>
+    ensures { result ≡ record_checked other (pbn text.now board calls.now plays.now notes.now) }
 {
     let number = board.number;
     if LIMIT < text.len() {
-        return Verdict::Refused(Refusal::TextTooLong);
+        return Err(Refusal::TextTooLong);
     }
     if other {
-        return Verdict::Refused(Refusal::OutOfRange);
+        return Err(Refusal::OutOfRange);
     }
     if bad_record(number, calls, plays) {
-        return Verdict::Refused(Refusal::OutOfRange);
+        return Err(Refusal::OutOfRange);
     }
     if record_past(text, board, calls, notes) {
-        return Verdict::Refused(Refusal::SpanPastEnd);
+        return Err(Refusal::SpanPastEnd);
     }
     if record_ill(text, board, calls, notes) {
-        return Verdict::Refused(Refusal::SpanNotUtf8);
+        return Err(Refusal::SpanNotUtf8);
     }
-    Verdict::Accepted
+    Ok(())
 }

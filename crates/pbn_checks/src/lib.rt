@@ -5,4 +5,4 @@ mod checks;
 mod records;
 
 pub use checks::check_record;
-pub use records::{pbn_call_at, pbn_names};
+pub use records::{pbn_call_of, pbn_names};

@@ -1,4 +1,3 @@
-pub mod SourceLaws
 pub mod TextLaws
 pub mod NameLaws
 pub mod LayoutLaws

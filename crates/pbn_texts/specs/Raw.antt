@@ -1,8 +1,8 @@
 -- All the texts of a board, from its sources. (01: From PBN)
-use Rattle.std.specs.Prelude.{ℕ, List, [], ◌∷◌, ◌++◌}
+use Rattle.lin_spec.specs.declared.Span.{Span}
+use Rattle.std.specs.Prelude.{ℕ, List, [], ◌∷◌, ◌++◌, Option}
 use Rattle.lin_spec.specs.Writer.{clean}
 use Rattle.lin_spec.specs.Pbn.{pbn_rows}
-use Rattle.lin_spec.specs.declared.MaybeSpan.{MaybeSpan}
 use Rattle.output.specs.Put.{joined}
 use Rattle.pbn_texts.specs.declared.sources.Sources.{Sources}
 use Rattle.pbn_texts.specs.Texts.{title_text, labelled_text}
@@ -17,5 +17,5 @@ unfoldable pub raw_text : (s : List ℕ) → Sources → (notes calls : List ℕ
 raw_text s x ns ws = joined (raw_pieces s x ns ws)
 
 -- the names, and those after them cleaned
-unfoldable pub texts_of : (p q : ℕ) (s : List ℕ) (names : List MaybeSpan) → Sources → (notes calls : List ℕ) → List ℕ
+unfoldable pub texts_of : (p q : ℕ) (s : List ℕ) (names : List (Option Span)) → Sources → (notes calls : List ℕ) → List ℕ
 texts_of p q s ms x ns ws = pbn_names_text p q s ms ++ clean p q (raw_text s x ns ws)

@@ -1,25 +1,22 @@
 -- What title, room-and-board and header are made of. (01: From PBN)
-use Rattle.std.specs.Prelude.{ℕ, ◌≡◌, Bool, true, false, List}
-use Rattle.std.proofs.Math.Option.{Option, none, some}
+use Rattle.std.specs.Prelude.{ℕ, ◌≡◌, Bool, List, Option, None, Some, is_some}
 use Rattle.lin_spec.specs.Records.{bytes_at}
 use Rattle.lin_spec.specs.Decimal.{decimal}
 use Rattle.lin_spec.specs.Pbn.{label_of, text_by, filled_by}
 use Rattle.lin_spec.specs.declared.PbnBoard.{PbnBoard}
 use Rattle.pbn_texts.specs.declared.sources.Label.{Label}
-use Rattle.pbn_texts.specs.declared.sources.Label.TheVariants.{Absent, Id, Number}
+use Rattle.pbn_texts.specs.declared.sources.Label.TheVariants.{Id, Number}
 use Rattle.pbn_texts.specs.declared.sources.Sources.{Sources}
 
 -- the text of a label
-abbrev pub label_by : (s : List ℕ) → Label → Option (List ℕ)
-label_by s Absent = none
-label_by s (Id x) = some (bytes_at s x)
-label_by s (Number n) = some (decimal n)
+abbrev pub label_by : (s : List ℕ) → Option Label → Option (List ℕ)
+label_by s None = None
+label_by s (Some (Id x)) = Some (bytes_at s x)
+label_by s (Some (Number n)) = Some (decimal n)
 
 -- whether there is one
-abbrev pub labelled : Label → Bool
-labelled Absent = false
-labelled (Id x) = true
-labelled (Number n) = true
+abbrev pub labelled : Option Label → Bool
+labelled l = is_some l
 
 -- x has the event and the date of the record where they are not empty, and its label
 pub record SourcesOf (s : List ℕ) (b : PbnBoard) (x : Sources) : Type 0 where

@@ -8,17 +8,17 @@ ghost use Rattle.pbn_texts.specs.Calls.{pbn_call_bytes, pbn_calls_bytes};
 
 use crate::calls::{is_kept, pbn_bid_len, pbn_note_len};
 use lin_spec::PbnCall;
-use output::put_word;
-use pbn_checks::pbn_call_at;
+use output::put;
+use pbn_checks::pbn_call_of;
 
 // Stores three words.
 fn put_three(out: &mut [u32], at: usize, x: u32, y: u32, z: u32) -> usize
     requires { Room out.old at (three_text x y z) }
     ensures { Put out.old at (three_text x y z) out.new result }
 {
-    let a = put_word(out, at, x);
-    let b = put_word(out, a, y);
-    put_word(out, b, z)
+    let a = put(out, at, x);
+    let b = put(out, a, y);
+    put(out, b, z)
 }
 
 // Stores where an annotation stands: one without a byte is absent.
@@ -77,11 +77,9 @@ pub fn put_kept_rows(
     requires { Room rows.old 0 (placed_rows text.now notes.now at (pbn_rows calls.now)) × (at + length (pbn_calls_bytes text.now notes.now (pbn_rows calls.now)) ≤ limit) }
     ensures { Put rows.old 0 (placed_rows text.now notes.now at (pbn_rows calls.now)) rows.new result }
 {
-    let mut i = 0;
     let mut p = Places { row: 0, text: at };
-    while 6 <= calls.len() - i {
-        p = put_placed(rows, p, text, pbn_call_at(calls, i), notes);
-        i += 6;
+    for &row in calls.as_chunks::<6>().0 {
+        p = put_placed(rows, p, text, pbn_call_of(row), notes);
     }
     p.row
 }

@@ -5,12 +5,12 @@ ghost use Rattle.lin_spec.specs.Base.{any};
 ghost use Rattle.lin_spec.specs.Refusals.{sat};
 ghost use Rattle.lin_spec.specs.Pbn.{pbn_rows, kept_cards, bad_call};
 ghost use Rattle.output.specs.Put.{Room, Put};
-ghost use Rattle.pbn_texts.specs.Calls.{kept_letter, bid_bytes, note_bytes, pbn_call_bytes, pbn_calls_bytes, kept_one, kept_many, is_kept, level_text};
+ghost use Rattle.pbn_texts.specs.Calls.{kept_letter, bid_bytes, note_bytes, pbn_call_bytes, pbn_calls_bytes, kept_many, is_kept, level_text};
 
 use lin_spec::PbnCall;
-use output::{put_byte, sat_add};
+use output::{put, sat_add};
 use pbn_annotation::{annotation_len, put_annotation};
-use pbn_checks::pbn_call_at;
+use pbn_checks::pbn_call_of;
 
 const STRAINS: [u8; 5] = *b"CDHSN";
 
@@ -24,50 +24,23 @@ pub(crate) fn is_kept(c: PbnCall) -> bool
     c.kind < 4
 }
 
-// 1 for a call that is kept.
-fn kept_one(c: PbnCall) -> usize
-    ensures { (result ≡ kept_one c) × (result ≤ 1) }
-{
-    if is_kept(c) {
-        return 1;
-    }
-    0
-}
-
 // How many calls are kept.
 pub fn kept_calls(calls: &[u32]) -> usize
     ensures { result ≡ kept_many (pbn_rows calls.now) }
 {
-    let mut i = 0;
-    let mut n = 0;
-    while 6 <= calls.len() - i {
-        n += kept_one(pbn_call_at(calls, i));
-        i += 6;
-    }
-    n
-}
-
-// 1 for a card, 0 for a gap.
-fn kept_card(b: u8) -> usize
-    ensures { (result ≡ length (kept_letter b)) × (result ≤ 1) }
-{
-    if b == GAP {
-        return 0;
-    }
-    1
+    calls
+        .as_chunks::<6>()
+        .0
+        .iter()
+        .filter(|&&row| is_kept(pbn_call_of(row)))
+        .count()
 }
 
 // How many cards are kept.
 pub fn kept_cards(plays: &[u8]) -> usize
     ensures { result ≡ length (kept_cards plays.now) }
 {
-    let mut i = 0;
-    let mut n = 0;
-    while i < plays.len() {
-        n += kept_card(plays[i]);
-        i += 1;
-    }
-    n
+    plays.iter().filter(|&&b| b != GAP).count()
 }
 
 // Stores an entry of the play, nothing for a gap.
@@ -78,7 +51,7 @@ fn put_kept_card(cards: &mut [u8], at: usize, b: u8) -> usize
     if b == GAP {
         return at;
     }
-    put_byte(cards, at, b)
+    put(cards, at, b)
 }
 
 // Stores the kept cards.
@@ -86,11 +59,9 @@ pub fn put_kept_cards(cards: &mut [u8], plays: &[u8]) -> usize
     requires { Room cards.old 0 (kept_cards plays.now) }
     ensures { Put cards.old 0 (kept_cards plays.now) cards.new result }
 {
-    let mut i = 0;
     let mut n = 0;
-    while i < plays.len() {
-        n = put_kept_card(cards, n, plays[i]);
-        i += 1;
+    for &b in plays {
+        n = put_kept_card(cards, n, b);
     }
     n
 }
@@ -100,8 +71,8 @@ fn put_level(out: &mut [u8], at: usize, level: u32, strain: u32) -> usize
     requires { Room out.old at (level_text level strain) × (level ≤ 7) × (strain ≤ 4) }
     ensures { Put out.old at (level_text level strain) out.new result }
 {
-    let a = put_byte(out, at, b'0' + level as u8);
-    put_byte(out, a, STRAINS[strain as usize])
+    let a = put(out, at, b'0' + level as u8);
+    put(out, a, STRAINS[strain as usize])
 }
 
 // Puts the bid of a call, nothing for a call that is dropped.
@@ -110,13 +81,13 @@ fn put_pbn_bid(out: &mut [u8], at: usize, c: PbnCall) -> usize
     ensures { Put out.old at (bid_bytes c) out.new result }
 {
     if c.kind == 0 {
-        return put_byte(out, at, b'p');
+        return put(out, at, b'p');
     }
     if c.kind == 1 {
-        return put_byte(out, at, b'd');
+        return put(out, at, b'd');
     }
     if c.kind == 2 {
-        return put_byte(out, at, b'r');
+        return put(out, at, b'r');
     }
     if c.kind == 3 {
         return put_level(out, at, c.level, c.strain);
@@ -191,11 +162,9 @@ pub(crate) fn put_pbn_calls(
     requires { Room out.old at (pbn_calls_bytes text.now notes.now (pbn_rows calls.now)) × (any bad_call (pbn_rows calls.now) ≡ false) }
     ensures { Put out.old at (pbn_calls_bytes text.now notes.now (pbn_rows calls.now)) out.new result }
 {
-    let mut i = 0;
     let mut o = at;
-    while 6 <= calls.len() - i {
-        o = put_pbn_call(out, o, text, pbn_call_at(calls, i), notes);
-        i += 6;
+    for &row in calls.as_chunks::<6>().0 {
+        o = put_pbn_call(out, o, text, pbn_call_of(row), notes);
     }
     o
 }
@@ -204,11 +173,9 @@ pub(crate) fn put_pbn_calls(
 pub fn pbn_calls_len(text: &[u8], calls: &[u32], notes: &[u32; 768]) -> u64
     ensures { result ≡ sat (length (pbn_calls_bytes text.now notes.now (pbn_rows calls.now))) }
 {
-    let mut i = 0;
     let mut n = 0;
-    while 6 <= calls.len() - i {
-        n = sat_add(n, pbn_call_len(text, pbn_call_at(calls, i), notes));
-        i += 6;
+    for &row in calls.as_chunks::<6>().0 {
+        n = sat_add(n, pbn_call_len(text, pbn_call_of(row), notes));
     }
     n
 }

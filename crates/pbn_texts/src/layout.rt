@@ -4,9 +4,9 @@ ghost use Rattle.lin_spec.specs.Records.{limit};
 ghost use Rattle.pbn_texts.specs.Layout.{layout_of};
 
 use crate::names::name_spans;
-use crate::sources::{Sources, is_labelled};
+use crate::sources::Sources;
 use crate::texts::{label_len, title_len};
-use lin_spec::{MaybeSpan, Span};
+use lin_spec::Span;
 use writer_texts::Marks;
 
 // The names, and where each text after them begins. A text that is absent ends where it begins.
@@ -20,7 +20,7 @@ pub struct Layout {
 }
 
 // The layout of a board with these names and sources.
-pub fn layout_of(text: &[u8], names: [MaybeSpan; 4], sources: Sources, marks: Marks) -> Layout
+pub fn layout_of(text: &[u8], names: [Option<Span>; 4], sources: Sources, marks: Marks) -> Layout
     requires { length text.now ≤ limit }
     ensures { result ≡ layout_of marks.pipe marks.line text.now names sources }
 {
@@ -31,7 +31,7 @@ pub fn layout_of(text: &[u8], names: [MaybeSpan; 4], sources: Sources, marks: Ma
     let east = spans[3];
     let title = east.start + east.len;
     let room_board = title + title_len(text, event, date) as u32;
-    if !is_labelled(label) {
+    if label.is_none() {
         return Layout {
             names: spans,
             title,

@@ -5,27 +5,27 @@ ghost use Rattle.lin_spec.specs.Pbn.{name_by, laid_names};
 ghost use Rattle.output.specs.Put.{Room, Put};
 ghost use Rattle.pbn_texts.specs.Names.{pbn_names_text};
 
-use lin_spec::{MaybeSpan, Span};
+use lin_spec::Span;
 use writer_texts::{Marks, name_len, put_name};
 
 // Puts a name, nothing where it is absent.
-fn put_one(out: &mut [u8], at: usize, text: &[u8], x: MaybeSpan, marks: Marks) -> usize
+fn put_one(out: &mut [u8], at: usize, text: &[u8], x: Option<Span>, marks: Marks) -> usize
     requires { Room out.old at (name_by marks.pipe marks.line text.now x) }
     ensures { Put out.old at (name_by marks.pipe marks.line text.now x) out.new result }
 {
     match x {
-        MaybeSpan::Absent => at,
-        MaybeSpan::Present(y) => put_name(out, at, text, y, marks),
+        None => at,
+        Some(y) => put_name(out, at, text, y, marks),
     }
 }
 
 // 0 where it is absent.
-fn one_len(text: &[u8], x: MaybeSpan, marks: Marks) -> u64
+fn one_len(text: &[u8], x: Option<Span>, marks: Marks) -> u64
     ensures { result ≡ length (name_by marks.pipe marks.line text.now x) }
 {
     match x {
-        MaybeSpan::Absent => 0,
-        MaybeSpan::Present(y) => name_len(text, y, marks),
+        None => 0,
+        Some(y) => name_len(text, y, marks),
     }
 }
 
@@ -34,7 +34,7 @@ pub(crate) fn put_pbn_names(
     out: &mut [u8],
     at: usize,
     text: &[u8],
-    names: [MaybeSpan; 4],
+    names: [Option<Span>; 4],
     marks: Marks,
 ) -> usize
     requires { Room out.old at (pbn_names_text marks.pipe marks.line text.now names) }
@@ -51,7 +51,7 @@ pub(crate) fn put_pbn_names(
 }
 
 // Where each name stands.
-pub(crate) fn name_spans(text: &[u8], names: [MaybeSpan; 4], marks: Marks) -> [Span; 4]
+pub(crate) fn name_spans(text: &[u8], names: [Option<Span>; 4], marks: Marks) -> [Span; 4]
     requires { length text.now ≤ limit }
     ensures { result ≡ laid_names 0 (map (name_by marks.pipe marks.line text.now) names) }
 {

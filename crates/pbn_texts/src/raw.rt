@@ -9,7 +9,7 @@ use crate::calls::put_pbn_calls;
 use crate::names::put_pbn_names;
 use crate::sources::Sources;
 use crate::texts::{put_labelled, put_title};
-use lin_spec::MaybeSpan;
+use lin_spec::Span;
 use writer_texts::{Marks, clean_part};
 
 // Puts those after the names, as they are before cleaning: title, room-and-board, header and those of the kept calls.
@@ -36,7 +36,7 @@ fn put_raw(
 pub fn put_texts(
     out: &mut [u8],
     text: &[u8],
-    names: [MaybeSpan; 4],
+    names: [Option<Span>; 4],
     sources: Sources,
     marks: Marks,
     calls: &[u32],

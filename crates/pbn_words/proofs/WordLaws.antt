@@ -1,31 +1,27 @@
 -- Laws of words: the word of a part by its first byte, its bytes, and a word with the space before it. (01: From PBN, "Annotation parts ..")
 -- Assumes nothing.
-use Prim.Native.Nat.{ℕ, zero, suc, ◌+◌, ◌-◌, ◌*◌, ◌^◌, ◌≤◌, ◌<◌, min}
+use Rattle.std.specs.Prelude.{Option, None, Some}
+use Prim.Native.Nat.{ℕ, zero, suc, ◌+◌, ◌-◌, ◌*◌, ◌≤◌, ◌<◌, min}
 use Prim.Native.Char.{code}
 use native.Mathlib.Omega.{arith}
 use mathlib.Core.Path.{◌≡◌, refl, ap, sym, ◌∙◌, subst}
 use mathlib.Core.Bool.{Bool, true, false, not, and-false, false≢true}
 use mathlib.Core.List.{List, [], ◌∷◌, ◌++◌, append-nil}
-use mathlib.Core.Option.{Option, none, some}
 use lib.ListN.{length, get_or, take, drop}
-use lib.Dec.{eqb, ltb}
-use borrow.Author.Tests.{eq-eqb, ne_eqb, eqb-true, lt-ltb, le-ltb}
+use lib.Dec.{eqb}
+use borrow.Author.Tests.{eq-eqb, ne_eqb, eqb-true}
 use Rattle.lin_spec.specs.Base.{pick, starts, eq_all}
 use Rattle.lin_spec.specs.Records.{span}
-use Rattle.lin_spec.specs.Refusals.{sat}
 use Rattle.lin_spec.specs.Board.{is_digit, ends_in, number_in}
 use Rattle.lin_spec.specs.Annotation.{note_of, run, is_mark, char_bytes, part_length, nag_word, note_text, note_word, between, part_word}
 use Rattle.lin_spec.specs.Utf8.{first}
 use Rattle.lin_spec.specs.declared.Span.{Span}
-use Rattle.lin_spec.proofs.Base.{picked, all_below, same_below}
-use Rattle.digits.specs.Digits.{number_given}
-use Rattle.lin_spec.specs.declared.MaybeNumber.{MaybeNumber}
-use Rattle.lin_spec.specs.declared.MaybeNumber.TheVariants.{Number, Absent as NoNumber}
+use Rattle.lin_spec.proofs.Base.{picked}
 use Rattle.output.specs.Put.{Room, Put}
 use Rattle.output.proofs.Laws.{overlay-nil}
 use Rattle.pbn_words.specs.declared.words.Word.{Word}
 use Rattle.pbn_words.specs.declared.words.Word.TheVariants.{Nothing, Itself, Note, Mark}
-use Rattle.pbn_words.specs.Words.{note_by, note_named, number_by, equals_word, nag_of, front_word, nag_text, word_text, spaced_word, spaced_length}
+use Rattle.pbn_words.specs.Words.{note_by, note_named, number_by, equals_word, nag_of, front_word, word_text, spaced_word, spaced_length}
 use Rattle.pbn_words.proofs.PartLaws.{run_take}
 
 -- Which word: a note by its number
@@ -68,15 +64,15 @@ module _ (ws p : List ℕ) (h : 2 ≤ length p) where
     closed = simp (last-is p h, eq-eqb _ _ k)
 
     -- the number that was read between the two
-    module _ (r : MaybeNumber) (e : number_given r ≡ number_in 255 (take (length p - 1 - 1) (drop 1 p))) where
-      number_is : number_given r ≡ number_in 255 (between p)
+    module _ (r : Option ℕ) (e : r ≡ number_in 255 (take (length p - 1 - 1) (drop 1 p))) where
+      number_is : r ≡ number_in 255 (between p)
       number_is = e ∙ ap (λ (m : ℕ). number_in 255 (take m (drop 1 p))) (let z : length p - 1 - 1 ≡ length p - 2 = omega arith in z)
 
-      pub equals_note : (n : ℕ) → r ≡ Number n → (w : Word) → w ≡ note_named ws n → w ≡ equals_word ws p
-      equals_note n f w g = g ∙ ap (number_by ws) (ap number_given (sym f) ∙ number_is) ∙ sym closed
+      pub equals_note : (n : ℕ) → r ≡ Some n → (w : Word) → w ≡ note_named ws n → w ≡ equals_word ws p
+      equals_note n f w g = g ∙ ap (number_by ws) ((sym f) ∙ number_is) ∙ sym closed
 
-      pub equals_itself : r ≡ NoNumber → Itself ≡ equals_word ws p
-      equals_itself f = ap (number_by ws) (ap number_given (sym f) ∙ number_is) ∙ sym closed
+      pub equals_itself : r ≡ None → Itself ≡ equals_word ws p
+      equals_itself f = ap (number_by ws) ((sym f) ∙ number_is) ∙ sym closed
 
 -- a part that begins with `$`
 
@@ -129,12 +125,12 @@ zero-suc n = ne_eqb 0 (suc n) (λ e. omega arith)
 
 module _ (s ws : List ℕ) where
   note-same : (p : List ℕ) (o : Option Span) → word_text s p (note_by o) ≡ note_text s p o
-  note-same p none = refl
-  note-same p (some x) = refl
+  note-same p None = refl
+  note-same p (Some x) = refl
 
   number_same : (p : List ℕ) (o : Option ℕ) → word_text s p (number_by ws o) ≡ note_word s ws p o
-  number_same p none = refl
-  number_same p (some n) = note-same p (note_of ws n)
+  number_same p None = refl
+  number_same p (Some n) = note-same p (note_of ws n)
 
   word_equals : (q : List ℕ) → word_text s (0x3D ∷ q) (equals_word ws (0x3D ∷ q)) ≡ part_word s ws (0x3D ∷ q)
   unfolding equals_word part_word starts run nag_word eq_all
@@ -199,21 +195,6 @@ module _ (s ws : List ℕ) where
       picked P (eqb b 0x24) (λ e. same_dollar b (take (run is_digit t) t) (eqb-true b 0x24 e)) λ y.
       picked P (is_mark b) (λ h. same-mark b x y (take (run is_mark t) t) h (run_take is_mark t)) (λ h. some_bytes b t (λ q. same-other b x y q h) (char_bytes (first b)))
 
--- The bytes of marks
-
--- how many bytes a mark has, by the tests of the code
-abbrev long_by : ℕ → ℕ
-long_by d = pick (ltb d 0x31) 0 (pick (ltb d 0x33) 1 (pick (ltb d 0x37) 2 0))
-
-pub mark-long : (d n : ℕ) → d < 256 → long_by d ≡ n → n ≡ length (nag_text d)
-unfolding nag_word eq_all all_below
-mark-long d n h e = sym (same_below (λ (b : ℕ). length (nag_text b)) long_by 256 refl d h ∙ e)
-
--- a byte that is none of the six digits
-pub mark-none : (d : ℕ) → (d ≡ 0x31 → ⊥) → (d ≡ 0x32 → ⊥) → (d ≡ 0x33 → ⊥) → (d ≡ 0x34 → ⊥) → (d ≡ 0x35 → ⊥) → (d ≡ 0x36 → ⊥) → nag_text d ≡ []
-unfolding nag_word eq_all
-mark-none d h i j k l m = simp (ne_eqb _ _ h, ne_eqb _ _ i, ne_eqb _ _ j, ne_eqb _ _ k, ne_eqb _ _ l, ne_eqb _ _ m)
-
 -- A word with the space before it
 
 pub spaced_length_lem : (t : Bool) (w : List ℕ) → length (spaced_word t w) ≡ spaced_length t (length w)
@@ -225,26 +206,10 @@ pub spaced_none : (t : Bool) (w : List ℕ) → length w ≡ 0 → spaced_word t
 spaced_none t [] h = refl
 spaced_none t (b ∷ w) h = absurd (let z : ⊥ = omega arith in z)
 
-pub spaced_first : (t : Bool) (w : List ℕ) → t ≡ false → spaced_word t w ≡ w
-spaced_first true w h = absurd (false≢true (sym h))
-spaced_first false [] h = refl
-spaced_first false (b ∷ w) h = refl
-
 pub spaced_later : (t : Bool) (w : List ℕ) → t ≡ true → (length w ≡ 0 → ⊥) → spaced_word t w ≡ (0x20 ∷ []) ++ (w ++ [])
 spaced_later false w h k = absurd (false≢true h)
 spaced_later true [] h k = absurd (k refl)
 spaced_later true (b ∷ w) h k = simp append-nil
-
--- the length of words with one more
-
-pub joined-none : (n w : ℕ) → n < 2 ^ 64 → w ≡ 0 → n ≡ sat (n + spaced_length (ltb 0 n) w)
-joined-none n w h e = simp (eq-eqb w 0 e) (omega arith)
-
-pub joined-first : (n w : ℕ) → w < 2 ^ 64 → (w ≡ 0 → ⊥) → n ≡ 0 → w ≡ sat (n + spaced_length (ltb 0 n) w)
-joined-first n w h k e = simp (ne_eqb w 0 k, le-ltb 0 n (let z : n ≤ 0 = omega arith in z)) (omega arith)
-
-pub joined-later : (n w : ℕ) → (w ≡ 0 → ⊥) → (n ≡ 0 → ⊥) → (m : ℕ) → m ≡ sat (n + 1) → (r : ℕ) → r ≡ sat (m + w) → r ≡ sat (n + spaced_length (ltb 0 n) w)
-joined-later n w h k m e r f = simp (ne_eqb w 0 h, lt-ltb 0 n (let z : 0 < n = omega arith in z)) (omega arith)
 
 -- Room for a text, and a text put, under another name
 

@@ -1,7 +1,6 @@
 -- The word of a part as the code tells it, by the first byte; and words one after the other, with spaces. (01: From PBN, "Annotation parts ..")
-use Rattle.std.specs.Prelude.{ℕ, suc, Bool, false, ◌||◌, not, List, [], ◌∷◌, ◌++◌, drop, eqb}
+use Rattle.std.specs.Prelude.{ℕ, suc, Bool, false, ◌||◌, not, List, [], ◌∷◌, ◌++◌, drop, eqb, Option, None, Some}
 use Prim.Native.Char.{code}
-use Rattle.std.proofs.Math.Option.{Option, none, some}
 use Rattle.lin_spec.specs.Base.{pick, null, ascii}
 use Rattle.lin_spec.specs.Records.{bytes_at}
 use Rattle.lin_spec.specs.Board.{ends_in, number_in}
@@ -13,15 +12,15 @@ use Rattle.pbn_words.specs.declared.words.Word.TheVariants.{Nothing, Itself, Not
 -- The word of a part
 
 abbrev pub note_by : Option Span → Word
-note_by none = Itself
-note_by (some x) = Note x
+note_by None = Itself
+note_by (Some x) = Note x
 
 abbrev pub note_named : (notes : List ℕ) (number : ℕ) → Word
 note_named ws n = note_by (note_of ws n)
 
 abbrev pub number_by : (notes : List ℕ) → Option ℕ → Word
-number_by ws none = Itself
-number_by ws (some n) = note_named ws n
+number_by ws None = Itself
+number_by ws (Some n) = note_named ws n
 
 -- of a part that begins with `=`
 unfoldable pub equals_word : (notes part : List ℕ) → Word

@@ -1,10 +1,10 @@
 // The part at the front of a raw annotation. (01: From PBN, "`=` to the next `=` (or the end); `$` with its digits; a run of `!` and `?`; else
 // one character")
-ghost use Rattle.std.specs.Prelude.{◌≡◌, ◌+◌, ◌≤◌, min, length};
+ghost use Rattle.std.specs.Prelude.{◌≡◌, ◌+◌, min, length, take_while};
 ghost use Rattle.lin_spec.specs.Cursor.{find_from};
 ghost use Rattle.lin_spec.specs.Utf8.{first};
-ghost use Rattle.lin_spec.specs.Annotation.{run, is_mark, char_bytes, part_length};
-ghost use Rattle.pbn_words.specs.Parts.{test_of};
+ghost use Rattle.lin_spec.specs.Board.{is_digit};
+ghost use Rattle.lin_spec.specs.Annotation.{is_mark, char_bytes, part_length};
 
 use digits::is_digit;
 use text::{find_byte, width};
@@ -16,35 +16,18 @@ pub(crate) fn is_mark(b: u8) -> bool
     (b == b'!') | (b == b'?')
 }
 
-// The bytes that a run is of.
-#[derive(Clone, Copy)]
-enum RunOf {
-    Digits,
-    Marks,
+// How many digits are at the front of a text.
+fn digits_len(s: &[u8]) -> usize
+    ensures { result ≡ length (take_while is_digit s.now) }
+{
+    s.iter().take_while(|b| is_digit(**b)).count()
 }
 
-// Whether a byte belongs to a run of this kind.
-fn is_of(b: u8, kind: RunOf) -> bool
-    ensures { result ≡ test_of kind b }
+// How many marks are at the front of a text.
+fn marks_len(s: &[u8]) -> usize
+    ensures { result ≡ length (take_while is_mark s.now) }
 {
-    match kind {
-        RunOf::Digits => is_digit(b),
-        RunOf::Marks => is_mark(b),
-    }
-}
-
-// How many bytes of this kind are at the front of a text.
-fn run_len(s: &[u8], kind: RunOf) -> usize
-    ensures { (result ≡ run (test_of kind) s.now) × (result ≤ length s.now) }
-{
-    let mut i = 0;
-    while i < s.len() {
-        if !is_of(s[i], kind) {
-            return i;
-        }
-        i += 1;
-    }
-    i
+    s.iter().take_while(|b| is_mark(**b)).count()
 }
 
 // How many bytes a text has up to and with the first `=` after its first byte, or to its end.
@@ -81,10 +64,10 @@ pub fn part_len(s: &[u8]) -> usize
         return equals_len(s);
     }
     if b == b'$' {
-        return 1 + run_len(&s[1..], RunOf::Digits);
+        return 1 + digits_len(&s[1..]);
     }
     if is_mark(b) {
-        return run_len(s, RunOf::Marks);
+        return marks_len(s);
     }
     let n = char_bytes(b);
     if n < s.len() {

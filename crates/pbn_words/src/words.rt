@@ -6,8 +6,8 @@ ghost use Rattle.pbn_words.specs.Words.{note_named, equals_word, nag_of, front_w
 
 use crate::parts::is_mark;
 use digits::read_number;
-use lin_spec::{MaybeNumber, Span};
-use output::{put_byte, put_bytes};
+use lin_spec::Span;
+use output::{put, put_all};
 use text::shown;
 
 // Nothing; the part itself; the text of a note; or the mark of `$` and a digit, PBN 3.5.4.
@@ -18,18 +18,6 @@ pub enum Word {
     Note(Span),
     Mark(u8),
 }
-
-const GOOD: [u8; 1] = *b"!";
-
-const POOR: [u8; 1] = *b"?";
-
-const VERY_GOOD: [u8; 2] = *b"!!";
-
-const VERY_POOR: [u8; 2] = *b"??";
-
-const SPECULATIVE: [u8; 2] = *b"!?";
-
-const QUESTIONABLE: [u8; 2] = *b"?!";
 
 // The word of a part that names this note.
 fn note_named(notes: &[u32; 768], number: u32) -> Word
@@ -59,8 +47,8 @@ fn equals_word(part: &[u8], notes: &[u32; 768]) -> Word
         return Word::Nothing;
     }
     match read_number(&part[1..last], 255) {
-        MaybeNumber::Number(n) => note_named(notes, n),
-        MaybeNumber::Absent => Word::Itself,
+        Some(n) => note_named(notes, n),
+        None => Word::Itself,
     }
 }
 
@@ -94,20 +82,20 @@ pub fn part_word(part: &[u8], notes: &[u32; 768]) -> Word
     Word::Nothing
 }
 
-// How many bytes a mark has: those of `$1` and `$2` one, those of `$3` to `$6` two.
-fn mark_len(d: u8) -> u64
-    ensures { result ≡ length (nag_text d) }
+// The mark of `$` and a digit, nothing for another byte.
+#[tactic(auto, unfolding(lin_spec::specs::Annotation::nag_word, lin_spec::specs::Base::eq_all))]
+fn mark_of(d: u8) -> &'static [u8]
+    ensures { result.now ≡ nag_text d }
 {
-    if d < b'1' {
-        return 0;
+    match d {
+        b'1' => b"!",
+        b'2' => b"?",
+        b'3' => b"!!",
+        b'4' => b"??",
+        b'5' => b"!?",
+        b'6' => b"?!",
+        _ => b"",
     }
-    if d < b'3' {
-        return 1;
-    }
-    if d < b'7' {
-        return 2;
-    }
-    0
 }
 
 // How many bytes a word has. A note is measured, not read.
@@ -118,7 +106,7 @@ pub fn word_len(text: &[u8], part: &[u8], word: Word) -> u64
         Word::Nothing => 0,
         Word::Itself => part.len() as u64,
         Word::Note(x) => shown(text, x).len() as u64,
-        Word::Mark(d) => mark_len(d),
+        Word::Mark(d) => mark_of(d).len() as u64,
     }
 }
 
@@ -131,26 +119,10 @@ fn put_spaced(out: &mut [u8], at: usize, later: bool, w: &[u8]) -> usize
         return at;
     }
     if !later {
-        return put_bytes(out, at, w);
+        return put_all(out, at, w);
     }
-    let a = put_byte(out, at, b' ');
-    put_bytes(out, a, w)
-}
-
-// Puts a mark so.
-fn put_mark(out: &mut [u8], at: usize, later: bool, d: u8) -> usize
-    requires { Room out.old at (spaced_word later (nag_text d)) }
-    ensures { Put out.old at (spaced_word later (nag_text d)) out.new result }
-{
-    match d {
-        b'1' => put_spaced(out, at, later, &GOOD),
-        b'2' => put_spaced(out, at, later, &POOR),
-        b'3' => put_spaced(out, at, later, &VERY_GOOD),
-        b'4' => put_spaced(out, at, later, &VERY_POOR),
-        b'5' => put_spaced(out, at, later, &SPECULATIVE),
-        b'6' => put_spaced(out, at, later, &QUESTIONABLE),
-        _ => at,
-    }
+    let a = put(out, at, b' ');
+    put_all(out, a, w)
 }
 
 // Puts the word of a part so.
@@ -169,6 +141,6 @@ pub fn put_spaced_word(
         Word::Nothing => at,
         Word::Itself => put_spaced(out, at, later, part),
         Word::Note(x) => put_spaced(out, at, later, shown(text, x)),
-        Word::Mark(d) => put_mark(out, at, later, d),
+        Word::Mark(d) => put_spaced(out, at, later, mark_of(d)),
     }
 }

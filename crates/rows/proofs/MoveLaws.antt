@@ -1,28 +1,25 @@
 -- Laws of moved rows: rows spilled and lent mean the structs, rows filled and lent mean the words, rows spilled and filled again are the rows, and
 -- a refused call leaves everything. (01: Records; Eight refusals, "All lent memory stays. Rows and bytes not named by a success stay too.")
 -- Assumes nothing.
+use Rattle.std.specs.Prelude.{Option, None, Some, Err, Ok}
 use Prim.Native.Nat.{ℕ, ◌*◌, ◌/◌, ◌≤◌}
 use native.Mathlib.Nat.{not-suc-le-zero, le_of_suc-le-suc}
 use native.Mathlib.Omega.{arith}
 use mathlib.Core.Path.{◌≡◌, refl, ap, sym, ◌∙◌}
 use mathlib.Core.Bool.{Bool, true, false, ◌||◌}
 use mathlib.Core.List.{List, [], ◌∷◌, map}
-use mathlib.Core.Option.{Option, none, some}
 use lib.ListN.{length, take}
 use lib.Dec.{ltb}
 use borrow.Author.Tests.{ltb-false}
 use Rattle.lin_spec.specs.Base.{any}
 use Rattle.lin_spec.specs.Records.{bytes_at}
 use Rattle.lin_spec.specs.Refusals.{Answer, unless}
-use Rattle.lin_spec.specs.Refusals.Answer.{refused, accepted}
 use Rattle.lin_spec.specs.Output.{overlay, output_after}
 use Rattle.lin_spec.specs.Board.{CallOf, BoardOf, map_board}
 use Rattle.lin_spec.specs.Reading.{call_words, too_few}
 use Rattle.lin_spec.specs.Lent.{rows_of, call_rows, call_in, bad_flag, lent, lent_board, meaning}
 use Rattle.lin_spec.specs.declared.Span.{Span}
 use Rattle.lin_spec.specs.declared.Call.{Call}
-use Rattle.lin_spec.specs.declared.MaybeSpan.{MaybeSpan}
-use Rattle.lin_spec.specs.declared.MaybeSpan.TheVariants.{Absent, Present}
 use Rattle.lin_spec.specs.declared.Board.{Board}
 use Rattle.lin_spec.specs.declared.RowKind.TheVariants.{Calls}
 use Rattle.lin_spec.specs.declared.Refusal.{Refusal}
@@ -35,44 +32,44 @@ use Rattle.rows.proofs.Laws.{words-many, rows_in, fill-all}
 
 -- A row means its struct, and a struct is its row
 
-by_parts : Span → Bool → MaybeSpan → CallRow
+by_parts : Span → Bool → Option Span → CallRow
 by_parts x t m = record { bid = x; alerted = t; annotation = m }
 
 pub row_means : (r : CallRow) → call_in (row_numbers r) ≡ called r
 unfolding by_parts
 row_means r = go r.alerted r.annotation
   where
-    go : (t : Bool) (m : MaybeSpan) → call_in (row_numbers (by_parts r.bid t m)) ≡ called (by_parts r.bid t m)
-    go true Absent = refl
-    go true (Present x) = refl
-    go false Absent = refl
-    go false (Present x) = refl
+    go : (t : Bool) (m : Option Span) → call_in (row_numbers (by_parts r.bid t m)) ≡ called (by_parts r.bid t m)
+    go true None = refl
+    go true (Some x) = refl
+    go false None = refl
+    go false (Some x) = refl
 
 pub row-again : (r : CallRow) → row_in (called r) ≡ r
 unfolding by_parts
 row-again r = go r.annotation
   where
-    go : (m : MaybeSpan) → row_in (called (by_parts r.bid r.alerted m)) ≡ by_parts r.bid r.alerted m
-    go Absent = refl
-    go (Present x) = refl
+    go : (m : Option Span) → row_in (called (by_parts r.bid r.alerted m)) ≡ by_parts r.bid r.alerted m
+    go None = refl
+    go (Some x) = refl
 
 pub call-again : (c : CallOf Span) → called (row_in c) ≡ c
 call-again c = go c.annotation
   where
     go : (o : Option Span) → called (row_in (record { bid = c.bid; alerted = c.alerted; annotation = o })) ≡ record { bid = c.bid; alerted = c.alerted; annotation = o }
-    go none = refl
-    go (some x) = refl
+    go None = refl
+    go (Some x) = refl
 
 -- its flags are 0 or 1
 pub row-flags : (r : CallRow) → bad_flag (row_numbers r) ≡ false
 unfolding by_parts
 row-flags r = go r.alerted r.annotation
   where
-    go : (t : Bool) (m : MaybeSpan) → bad_flag (row_numbers (by_parts r.bid t m)) ≡ false
-    go true Absent = refl
-    go true (Present x) = refl
-    go false Absent = refl
-    go false (Present x) = refl
+    go : (t : Bool) (m : Option Span) → bad_flag (row_numbers (by_parts r.bid t m)) ≡ false
+    go true None = refl
+    go true (Some x) = refl
+    go false None = refl
+    go false (Some x) = refl
 
 -- Rows that stand in words
 
@@ -80,9 +77,9 @@ row_words : (r : CallRow) (rs : List CallRow) → call_rows (call_words (map cal
 unfolding by_parts call_words rows_of
 row_words r rs = go r.annotation
   where
-    go : (m : MaybeSpan) → let x = by_parts r.bid r.alerted m in call_rows (call_words (map called (x ∷ rs))) ≡ row_numbers x ∷ call_rows (call_words (map called rs))
-    go Absent = refl
-    go (Present y) = refl
+    go : (m : Option Span) → let x = by_parts r.bid r.alerted m in call_rows (call_words (map called (x ∷ rs))) ≡ row_numbers x ∷ call_rows (call_words (map called rs))
+    go None = refl
+    go (Some y) = refl
 
 -- they give the six numbers of each
 pub words-rows : (rs : List CallRow) → call_rows (call_words (map called rs)) ≡ map row_numbers rs
@@ -112,7 +109,7 @@ given_means (c ∷ cs) =
 
 -- Rows spilled
 
-module _ (rs : List CallRow) (ws : List ℕ) (n : ℕ) (ws' : List ℕ) (h : spill_of rs ws ≡ record { answer = accepted n; after = ws' }) where
+module _ (rs : List CallRow) (ws : List ℕ) (n : ℕ) (ws' : List ℕ) (h : spill_of rs ws ≡ record { answer = Ok n; after = ws' }) where
   -- all of them are
   pub spilled_all : n ≡ length rs
   unfolding spill_of
@@ -130,19 +127,19 @@ module _ (rs : List CallRow) (ws : List ℕ) (n : ℕ) (ws' : List ℕ) (h : spi
   spilled_means s b cs = ap (λ (l : List Call). record { text = s; board = b; calls = l; cards = cs }) (ap call_rows spilled_words ∙ words-rows rs)
 
   -- rows spilled and filled again are the rows
-  pub spilled_again : (ys : List CallRow) → length rs ≤ length ys → fill_of (take (n * 6) ws') ys ≡ record { answer = accepted (length rs); after = laid_over rs ys }
+  pub spilled_again : (ys : List CallRow) → length rs ≤ length ys → fill_of (take (n * 6) ws') ys ≡ record { answer = Ok (length rs); after = laid_over rs ys }
   unfolding fill_of
   spilled_again ys l = ap (λ (ws : List ℕ). fill_of ws ys) spilled_words ∙ go (words-many rs)
     where
-      go : length (call_words (map called rs)) ≡ length rs * 6 → fill_of (call_words (map called rs)) ys ≡ record { answer = accepted (length rs); after = laid_over rs ys }
+      go : length (call_words (map called rs)) ≡ length rs * 6 → fill_of (call_words (map called rs)) ys ≡ record { answer = Ok (length rs); after = laid_over rs ys }
       go e =
           let k : length (call_words (map called rs)) / 6 ≡ length rs = omega (arith, e) in
-          let a = sym (fill-all (length ys) (call_words (map called rs)) false (sym (ap (any bad_flag) (words-rows rs) ∙ words_flags rs)) refl (omega (arith, k))) ∙ ap (λ (m : ℕ). accepted m) k in
+          let a = sym (fill-all (length ys) (call_words (map called rs)) false (sym (ap (any bad_flag) (words-rows rs) ∙ words_flags rs)) refl (omega (arith, k))) ∙ ap (λ (m : ℕ). Ok m) k in
           ap (λ (x : Answer ℕ). record { answer = x; after = rows_after x (structs_in (call_words (map called rs))) ys }) a
-          ∙ ap (λ (xs : List CallRow). record { answer = accepted (length rs); after = laid_over xs ys }) (words-again rs)
+          ∙ ap (λ (xs : List CallRow). record { answer = Ok (length rs); after = laid_over xs ys }) (words-again rs)
 
 -- a refused call leaves the words
-pub spill_stays : (rs : List CallRow) (ws : List ℕ) (r : Refusal) → (spill_of rs ws).answer ≡ refused r → (spill_of rs ws).after ≡ ws
+pub spill_stays : (rs : List CallRow) (ws : List ℕ) (r : Refusal) → (spill_of rs ws).answer ≡ Err r → (spill_of rs ws).after ≡ ws
 unfolding spill_of
 spill_stays rs ws r h = ap (λ (a : Answer ℕ). output_after a ws (call_words (map called rs))) h
 
@@ -155,13 +152,13 @@ front-laid [] ys h = refl
 front-laid (x ∷ xs) [] h = absurd (not-suc-le-zero h)
 front-laid {A} (x ∷ xs) (y ∷ ys) h = ap (λ (l : List A). x ∷ l) (front-laid xs ys (le_of_suc-le-suc h))
 
-module _ (ws : List ℕ) (rs : List CallRow) (n : ℕ) (rs' : List CallRow) (h : fill_of ws rs ≡ record { answer = accepted n; after = rs' }) where
-  answered : fill_answer (length rs) ws ≡ accepted n
+module _ (ws : List ℕ) (rs : List CallRow) (n : ℕ) (rs' : List CallRow) (h : fill_of ws rs ≡ record { answer = Ok n; after = rs' }) where
+  answered : fill_answer (length rs) ws ≡ Ok n
   unfolding fill_of
   answered = ap (λ (x : Moving CallRow). x.answer) h
 
   -- no check met them
-  unmet_by : (any bad_flag (call_rows ws) ≡ false) × (unless (too_few Calls (length rs) (length ws / 6) ∷ []) (length ws / 6) ≡ accepted n)
+  unmet_by : (any bad_flag (call_rows ws) ≡ false) × (unless (too_few Calls (length rs) (length ws / 6) ∷ []) (length ws / 6) ≡ Ok n)
   unmet_by = unmet (any bad_flag (call_rows ws)) OutOfRange (too_few Calls (length rs) (length ws / 6) ∷ []) (length ws / 6) n answered
 
   fits : length ws / 6 ≤ length rs
@@ -196,6 +193,6 @@ module _ (ws : List ℕ) (rs : List CallRow) (n : ℕ) (rs' : List CallRow) (h :
     filled_means = ap (λ (x : BoardOf Span). map_board (bytes_at s) x) filled_board
 
 -- a refused call leaves the rows
-pub fill-stays : (ws : List ℕ) (rs : List CallRow) (r : Refusal) → (fill_of ws rs).answer ≡ refused r → (fill_of ws rs).after ≡ rs
+pub fill-stays : (ws : List ℕ) (rs : List CallRow) (r : Refusal) → (fill_of ws rs).answer ≡ Err r → (fill_of ws rs).after ≡ rs
 unfolding fill_of
 fill-stays ws rs r h = ap (λ (a : Answer ℕ). rows_after a (structs_in ws) rs) h

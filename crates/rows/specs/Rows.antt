@@ -1,13 +1,12 @@
 -- Rows of calls as structs, and what filling and spilling answer and leave. (01: Records, "The calls stand in a list of rows lent by the caller:
 -- bid span, alerted or not, annotation span or absent"; Eight refusals, 8 and 3)
-use Rattle.std.specs.Prelude.{ℕ, ◌/◌, List, [], ◌∷◌, map, length}
+use Rattle.std.specs.Prelude.{ℕ, ◌/◌, List, [], ◌∷◌, map, length, Err, Ok}
 use Rattle.lin_spec.specs.Base.{any}
-use Rattle.lin_spec.specs.Records.{span, option_of}
+use Rattle.lin_spec.specs.Records.{span}
 use Rattle.lin_spec.specs.Refusals.{Answer, refuse_if, unless}
-use Rattle.lin_spec.specs.Refusals.Answer.{refused, accepted}
 use Rattle.lin_spec.specs.Output.{output_after}
 use Rattle.lin_spec.specs.Board.{CallOf}
-use Rattle.lin_spec.specs.Reading.{flag, maybe_of, annotation_words, call_words, too_few}
+use Rattle.lin_spec.specs.Reading.{flag, annotation_words, call_words, too_few}
 use Rattle.lin_spec.specs.Lent.{call_in, call_rows, row_of, bad_flag, Lent}
 use Rattle.lin_spec.specs.declared.Span.{Span}
 use Rattle.lin_spec.specs.declared.Call.{Call}
@@ -15,15 +14,13 @@ use Rattle.lin_spec.specs.declared.Board.{Board}
 use Rattle.lin_spec.specs.declared.RowKind.TheVariants.{Calls}
 use Rattle.lin_spec.specs.declared.Refusal.TheVariants.{OutOfRange}
 use Rattle.rows.specs.declared.CallRow.{CallRow}
-use Rattle.rows.specs.declared.Moved.{Moved}
-use Rattle.rows.specs.declared.Moved.TheVariants.{Rows, Refused}
 
 -- the call of a row, and the row of a call
 abbrev pub called : CallRow → CallOf Span
-called r = record { bid = r.bid; alerted = r.alerted; annotation = option_of r.annotation }
+called r = record { bid = r.bid; alerted = r.alerted; annotation = r.annotation }
 
 abbrev pub row_in : CallOf Span → CallRow
-row_in c = record { bid = c.bid; alerted = c.alerted; annotation = maybe_of c.annotation }
+row_in c = record { bid = c.bid; alerted = c.alerted; annotation = c.annotation }
 
 -- the six numbers of a row
 abbrev pub row_numbers : CallRow → Call
@@ -45,17 +42,7 @@ laid_over (x ∷ xs) (y ∷ ys) = x ∷ laid_over xs ys
 
 -- the six words of a row
 abbrev pub struct_words : CallRow → List ℕ
-struct_words r = r.bid.start ∷ r.bid.len ∷ flag r.alerted ∷ annotation_words (option_of r.annotation)
-
--- how many rows were moved, or the refusal
-abbrev pub moved_of : Moved → Answer ℕ
-moved_of (Rows n) = accepted n
-moved_of (Refused r) = refused r
-
--- and how many turns that takes
-abbrev pub turns_of : Answer ℕ → ℕ
-turns_of (accepted n) = n
-turns_of (refused r) = 0
+struct_words r = r.bid.start ∷ r.bid.len ∷ flag r.alerted ∷ annotation_words r.annotation
 
 -- what a call that moves rows answers, and the memory that it moves them into, afterwards
 pub record Moving (A : Type 0) : Type 0 where
@@ -82,8 +69,8 @@ fill_answer n ws = unless (refuse_if (any bad_flag (call_rows ws)) OutOfRange �
 
 -- "All lent memory stays. Rows and bytes not named by a success stay too."
 abbrev pub rows_after : Answer ℕ → (new old : List CallRow) → List CallRow
-rows_after (refused r) xs ys = ys
-rows_after (accepted n) xs ys = laid_over xs ys
+rows_after (Err r) xs ys = ys
+rows_after (Ok n) xs ys = laid_over xs ys
 
 unfoldable pub fill_of : (words : List ℕ) → List CallRow → Moving CallRow
 fill_of ws rs =

@@ -5,7 +5,7 @@
 mod answers;
 mod words;
 
-use lin_spec::{MaybeSpan, Refusal, Span};
+use lin_spec::{Refusal, Span};
 pub use words::{fill_rows, row_numbers, row_of, spill_rows};
 
 // A call: "bid span, alerted or not, annotation span or absent".
@@ -13,12 +13,5 @@ pub use words::{fill_rows, row_numbers, row_of, spill_rows};
 pub struct CallRow {
     pub bid: Span,
     pub alerted: bool,
-    pub annotation: MaybeSpan,
-}
-
-// How many rows were moved, or the refusal.
-#[derive(Clone, Copy)]
-pub enum Moved {
-    Rows(usize),
-    Refused(Refusal),
+    pub annotation: Option<Span>,
 }

@@ -1,20 +1,17 @@
 -- Laws of reading a board into rows of calls as structs: one call at a time, and the heading. (01: Board; File)
 -- Assumes nothing.
+use Rattle.std.specs.Prelude.{Option, None, Some, Err, Ok, Result}
 use Prim.Native.Nat.{ℕ, ◌≤◌, ◌<◌, ◌^◌}
-use native.Mathlib.Nat.{not-suc-le-zero}
 use native.Mathlib.Omega.{arith}
 use mathlib.Core.Path.{◌≡◌, refl, ap, sym, subst, ◌∙◌}
 use mathlib.Core.Bool.{Bool, true, false}
 use mathlib.Core.List.{List, [], ◌∷◌}
-use mathlib.Core.Option.{Option, none, some}
 use lib.ListN.{length, take, drop, get_or, length-take}
 use lib.Seq.{take_all}
 use lib.Dec.{ltb}
 use borrow.Author.Tests.{lt-ltb, le-ltb}
 use Rattle.lin_spec.specs.Board.{CallOf, BoardOf}
 use Rattle.lin_spec.specs.Refusals.{Answer, unless, too_long, not_utf8}
-use Rattle.lin_spec.specs.Refusals.Answer.{refused, accepted}
-use Rattle.lin_spec.specs.Output.{overlay}
 use Rattle.lin_spec.specs.Document.{open_text}
 use Rattle.lin_spec.specs.Reading.{stream, parse_spans, heading_of}
 use Rattle.lin_spec.specs.Lent.{call_in, row_of}
@@ -27,20 +24,14 @@ use Rattle.lin_spec.specs.declared.RowKind.TheVariants.{Calls, Cards}
 use Rattle.lin_spec.proofs.Checks.{unless-refused, unless-passed}
 use Rattle.lin_spec.proofs.Document.{opened}
 use Rattle.output.specs.Put.{Room, Put}
-use Rattle.output.proofs.Laws.{overlay-nil}
 use Rattle.document.specs.Steps.{opened_of}
-use Rattle.document.specs.declared.tokens.Opened.{Opened}
-use Rattle.document.specs.declared.tokens.Opened.TheVariants.{At, Refused}
 use Rattle.document.specs.declared.tokens.Cursor.{Cursor}
 use Rattle.board_loop.specs.Calls.{calls_from, CallAt, GivesCall}
 use Rattle.board_loop.specs.Head.{board_at}
-use Rattle.board_loop.specs.declared.calls.NextCall.{NextCall}
-use Rattle.board_loop.specs.declared.calls.NextCall.TheVariants.{Found, Ended}
 use Rattle.rows.specs.declared.CallRow.{CallRow}
-use Rattle.rows_steps.specs.declared.steps.RowStep.{RowStep}
 use Rattle.rows_steps.specs.declared.steps.Headed.{Headed}
 use Rattle.rows.specs.Rows.{row_in}
-use Rattle.rows_steps.specs.Steps.{few_structs, text_answer, StepsTo, refused_headed, Heads}
+use Rattle.rows_steps.specs.Steps.{few_structs, text_answer, StepsTo, HeadsBy}
 
 -- A text up to a place
 
@@ -61,39 +52,37 @@ unfolding by_parts
 row_back c = go c.alerted c.annotation
   where
     go : (t : Bool) (o : Option Span) → row_in (call_in (row_of (by_parts c t o))) ≡ row_in (by_parts c t o)
-    go true none = refl
-    go true (some x) = refl
-    go false none = refl
-    go false (some x) = refl
+    go true None = refl
+    go true (Some x) = refl
+    go false None = refl
+    go false (Some x) = refl
 
 nil_cons : {A : Type 0} {P : Type 0} (x : A) (xs : List A) → [] ≡ x ∷ xs → P
 nil_cons x xs e = absurd (let z : ⊥ = (let h = ap length e in omega arith) in z)
 
-module _ (s : List ℕ) (at : ℕ) (v : NextCall) (g : GivesCall s at v) where
-  pub step_found : (x : Call) (n : Cursor) → v ≡ Found x n → (row : CallRow) → row ≡ row_in (call_in x) → StepsTo s at (record { row = row; at = n.at })
+module _ (s : List ℕ) (at : ℕ) (v : Option (Call × Cursor)) (g : GivesCall s at v) where
+  pub step_found : (x : Call) (n : Cursor) → v ≡ Some (x, n) → (row : CallRow) → row ≡ row_in (call_in x) → StepsTo s at (Some (row, n.at))
   step_found x n e row f c cs h =
       let d : CallAt s at x n.at = subst (GivesCall s at) e g in
       let p : d.call ∷ calls_from s (stream s n.at) ≡ c ∷ cs = sym d.front ∙ h in
       let one : d.call ≡ c = ap (λ (l : List (CallOf Span)). get_or l 0 c) p in
-      (f ∙ ap (λ (y : Call). row_in (call_in y)) d.row ∙ row_back d.call ∙ ap row_in one, ap (λ (l : List (CallOf Span)). drop 1 l) p)
+      let same : row ≡ row_in c = f ∙ ap (λ (y : Call). row_in (call_in y)) d.row ∙ row_back d.call ∙ ap row_in one in
+      (n.at, (ap (λ (y : CallRow). Some (y, n.at)) same, ap (λ (l : List (CallOf Span)). drop 1 l) p))
 
-  pub step_none : v ≡ Ended → (r : RowStep) → StepsTo s at r
+  pub step_none : v ≡ None → (r : Option (CallRow × ℕ)) → StepsTo s at r
   step_none e r c cs h =
-      let none : calls_from s (stream s at) ≡ [] = subst (GivesCall s at) e g in
-      nil_cons c cs (sym none ∙ h)
+      let left : calls_from s (stream s at) ≡ [] = subst (GivesCall s at) e g in
+      nil_cons c cs (sym left ∙ h)
 
 -- The heading, with its cards stored
 
-cards-none : (cards : List ℕ) → cards ≡ overlay cards 0 []
-cards-none cards = sym (overlay-nil cards 0)
-
 -- a refusal
-heads_none : (s : List ℕ) (r : Refusal) (rows : ℕ) (cards : List ℕ) → Heads s (refused r) rows cards (refused_headed r) cards
-heads_none s r rows cards = record { heading = refl; stored = cards-none cards; calls = refl; fit = omega arith; many = omega arith; short = λ k. absurd (not-suc-le-zero k) }
+pub heads_refused : (s : List ℕ) (a : Answer (BoardOf Span)) (rows : ℕ) (cards : List ℕ) (r : Refusal) → a ≡ Err r → (h : Answer Headed) → h ≡ Err r → HeadsBy s a rows cards h cards
+heads_refused s a rows cards r e h f = subst (λ (x : Answer Headed). HeadsBy s a rows cards x cards) (sym f) (e, refl)
 
-pub heads_refused : (s : List ℕ) (a : Answer (BoardOf Span)) (rows : ℕ) (cards : List ℕ) (r : Refusal) → a ≡ refused r → (h : Headed) → h ≡ refused_headed r → Heads s a rows cards h cards
-heads_refused s a rows cards r e h f =
-    subst (λ (x : Answer (BoardOf Span)). Heads s x rows cards h cards) (sym e) (subst (λ (x : Headed). Heads s (refused r) rows cards x cards) (sym f) (heads_none s r rows cards))
+-- the same of another answer that is this one
+pub heads_same : (s : List ℕ) (a b : Answer (BoardOf Span)) (rows : ℕ) (cards : List ℕ) (h : Answer Headed) (cards' : List ℕ) → a ≡ b → HeadsBy s a rows cards h cards' → HeadsBy s b rows cards h cards'
+heads_same s a b rows cards h cards' e g = subst (λ (x : Answer (BoardOf Span)). HeadsBy s x rows cards h cards') e g
 
 -- the checks of rows and cards
 module _ (s : List ℕ) (start stop rows : ℕ) (cards : List ℕ) (h : Heading) (e : h ≡ heading_of (board_at (take stop s) start)) where
@@ -109,57 +98,61 @@ module _ (s : List ℕ) (start stop rows : ℕ) (cards : List ℕ) (h : Heading)
   cards-long : h.cards ≡ length b.play
   cards-long = ap (λ (x : Heading). x.cards) e
 
-  pub few-rows : rows < h.calls → (g : Headed) → g ≡ refused_headed (TooFewRows Calls h.calls) → Heads s answer rows cards g cards
+  pub few-rows : rows < h.calls → HeadsBy s answer rows cards (Err (TooFewRows Calls h.calls)) cards
   unfolding unless
-  few-rows k g f = heads_refused s answer rows cards (TooFewRows Calls h.calls) (rw calls-long (simp (lt-ltb rows (length b.calls) (rw calls-long at k)))) g f
+  few-rows k = (rw calls-long (simp (lt-ltb rows (length b.calls) (rw calls-long at k))), refl)
 
   module _ (k : h.calls ≤ rows) where
     enough : ltb rows (length b.calls) ≡ false
     enough = le-ltb rows (length b.calls) (rw calls-long at k)
 
-    pub few-places : length cards < h.cards → (g : Headed) → g ≡ refused_headed (TooFewRows Cards h.cards) → Heads s answer rows cards g cards
+    pub few-places : length cards < h.cards → HeadsBy s answer rows cards (Err (TooFewRows Cards h.cards)) cards
     unfolding unless
-    few-places l g f = heads_refused s answer rows cards (TooFewRows Cards h.cards) (rw cards-long (simp (enough, lt-ltb (length cards) (length b.play) (rw cards-long at l)))) g f
+    few-places l = (rw cards-long (simp (enough, lt-ltb (length cards) (length b.play) (rw cards-long at l))), refl)
 
     module _ (l : h.cards ≤ length cards) where
       pub places : Room cards 0 b.play
       places = record { room = omega (arith, cards-long) }
 
-      taken_both : answer ≡ accepted b
+      taken_both : answer ≡ Ok b
       unfolding unless
       taken_both = simp (enough, le-ltb (length cards) (length b.play) (rw cards-long at l))
 
       pub heads_read : (cards' : List ℕ) {n : ℕ} → Put cards 0 b.play cards' n → stop ≤ length s → length s < 2 ^ 32
-          → Heads s answer rows cards (record { calls = h.calls; start = start; stop = stop; heading = h }) cards'
-      heads_read cards' p w z =
-          subst (λ (x : Answer (BoardOf Span)). Heads s x rows cards (record { calls = h.calls; start = start; stop = stop; heading = h }) cards') (sym taken_both)
-          (record {
+          → HeadsBy s answer rows cards (Ok (record { heading = h; start = start; stop = stop })) cards'
+      heads_read cards' p w z = (
+        b,
+        (
+          taken_both,
+          record {
             heading = e;
             stored = p.text;
             calls = take_all h.calls b.calls (omega (arith, calls-long));
             fit = k;
             many = omega (arith, calls-long);
-            short = λ _. (w, z);
-          })
+            within = (w, z);
+          },
+        ),
+      )
 
 -- The entries, by the answer of `open`
 
 whole : (s : List ℕ) → take (length s) s ≡ s
 whole s = take_all (length s) s (omega arith)
 
-module _ (s : List ℕ) (o : Opened) (e : opened_of o ≡ open_text s) (rows : ℕ) (cards : List ℕ) (h : Headed) where
-  pub text-refused : (r : Refusal) → o ≡ Refused r → h ≡ refused_headed r → Heads s (text_answer s rows cards) rows cards h cards
+module _ (s : List ℕ) (o : Result Cursor Refusal) (e : opened_of o ≡ open_text s) (rows : ℕ) (cards : List ℕ) (h : Answer Headed) where
+  pub text-refused : (r : Refusal) → o ≡ Err r → h ≡ Err r → HeadsBy s (text_answer s rows cards) rows cards h cards
   unfolding open_text parse_spans
   text-refused r f g = heads_refused s (text_answer s rows cards) rows cards r (unless-refused (too_long s ∷ not_utf8 s ∷ []) (few_structs (board_at s 0) rows cards) 0 (board_at s 0) r (sym e ∙ ap opened_of f)) h g
 
-  module _ (c : Cursor) (f : o ≡ At c) where
+  module _ (c : Cursor) (f : o ≡ Ok c) where
     pub text-short : (0 ≤ length s) × (length s ≤ length s) × (length s < 2 ^ 32)
     text-short = let z = (opened s (sym e ∙ ap opened_of f)).short in (omega arith, omega arith, omega arith)
 
-    pub text-read : (cards' : List ℕ) → Heads s (unless (few_structs (board_at (take (length s) s) 0) rows cards) (board_at (take (length s) s) 0)) rows cards h cards' → Heads s (text_answer s rows cards) rows cards h cards'
+    pub text-read : (cards' : List ℕ) → HeadsBy s (unless (few_structs (board_at (take (length s) s) 0) rows cards) (board_at (take (length s) s) 0)) rows cards h cards' → HeadsBy s (text_answer s rows cards) rows cards h cards'
     unfolding open_text parse_spans
     text-read cards' g =
-        subst (λ (x : Answer (BoardOf Span)). Heads s x rows cards h cards')
+        heads_same s _ _ rows cards h cards'
         (ap (λ (t : List ℕ). unless (few_structs (board_at t 0) rows cards) (board_at t 0)) (whole s)
         ∙ sym (unless-passed (too_long s ∷ not_utf8 s ∷ []) (few_structs (board_at s 0) rows cards) 0 c.at (board_at s 0) (sym e ∙ ap opened_of f)))
         g

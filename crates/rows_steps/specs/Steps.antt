@@ -1,20 +1,17 @@
 -- What a board's readers into rows of calls as structs are made of: their answer, one call at a time, the heading with the place of its calls. (01: Board,
 -- `parse_lin`; File)
-use Rattle.std.specs.Prelude.{ℕ, ◌<◌, ◌≤◌, ◌^◌, ◌≡◌, List, [], ◌∷◌, length, take}
-use Rattle.std.proofs.Math.Option.{Option}
+use Rattle.std.specs.Prelude.{ℕ, ◌<◌, ◌≤◌, ◌^◌, ◌≡◌, List, [], ◌∷◌, length, take, Option, Err, Ok, Some}
 use Rattle.lin_spec.specs.Refusals.{Answer, unless, too_long, not_utf8}
-use Rattle.lin_spec.specs.Refusals.Answer.{refused, accepted}
 use Rattle.lin_spec.specs.Output.{overlay}
 use Rattle.lin_spec.specs.Board.{CallOf, BoardOf}
-use Rattle.lin_spec.specs.Fresh.{refused_heading}
-use Rattle.lin_spec.specs.Reading.{stream, parse_spans, headed, too_few}
+use Rattle.lin_spec.specs.Reading.{stream, parse_spans, heading_of, too_few}
 use Rattle.lin_spec.specs.File.{no_board, file_spans, numbered}
 use Rattle.lin_spec.specs.declared.Span.{Span}
 use Rattle.lin_spec.specs.declared.RowKind.TheVariants.{Calls, Cards}
 use Rattle.lin_spec.specs.declared.Refusal.{Refusal}
+use Rattle.rows.specs.declared.CallRow.{CallRow}
 use Rattle.board_loop.specs.Calls.{calls_from}
 use Rattle.board_loop.specs.Head.{board_at}
-use Rattle.rows_steps.specs.declared.steps.RowStep.{RowStep}
 use Rattle.rows_steps.specs.declared.steps.Headed.{Headed}
 use Rattle.rows.specs.Rows.{row_in}
 
@@ -31,28 +28,20 @@ file_answer s n rows cards = unless (too_long s ∷ not_utf8 s ∷ no_board n (l
 
 -- What the parts of the code give
 
--- the next call of s from the place `at` on, where there is one
-abbrev pub StepsTo : (s : List ℕ) (at : ℕ) → RowStep → Type 0
-StepsTo s at r = (c : CallOf Span) (cs : List (CallOf Span)) → calls_from s (stream s at) ≡ c ∷ cs → (r.row ≡ row_in c) × (calls_from s (stream s r.at) ≡ cs)
+-- the next call of s from the place `at` on as a row, where there is one, and the place after it
+abbrev pub StepsTo : (s : List ℕ) (at : ℕ) → Option (CallRow × ℕ) → Type 0
+StepsTo s at r = (c : CallOf Span) (cs : List (CallOf Span)) → calls_from s (stream s at) ≡ c ∷ cs → (n : ℕ) × ((r ≡ Some (row_in c, n)) × (calls_from s (stream s n) ≡ cs))
 
--- the calls and the cards of an answer: a refusal names none
-abbrev pub calls_in : Answer (BoardOf Span) → List (CallOf Span)
-calls_in (refused r) = []
-calls_in (accepted b) = b.calls
+-- the heading of the board b, with its cards stored; and its calls, which there are enough rows for, in the text s
+pub record Heads (s : List ℕ) (b : BoardOf Span) (rows : ℕ) (cards : List ℕ) (h : Headed) (cards' : List ℕ) : Type 0 where
+  pub heading : h.heading ≡ heading_of b
+  pub stored : cards' ≡ overlay cards 0 b.play
+  pub calls : take h.heading.calls (board_at (take h.stop s) h.start).calls ≡ b.calls
+  pub fit : h.heading.calls ≤ rows
+  pub many : h.heading.calls ≤ length (board_at (take h.stop s) h.start).calls
+  pub within : (h.stop ≤ length s) × (length s < 2 ^ 32)
 
-abbrev pub play_in : Answer (BoardOf Span) → List ℕ
-play_in (refused r) = []
-play_in (accepted b) = b.play
-
--- what has no calls, for a refusal
-abbrev pub refused_headed : Refusal → Headed
-refused_headed r = record { calls = 0; start = 0; stop = 0; heading = refused_heading r }
-
--- the heading of the answer a, with its cards stored; and its calls, which there are enough rows for, in the text s
-pub record Heads (s : List ℕ) (a : Answer (BoardOf Span)) (rows : ℕ) (cards : List ℕ) (h : Headed) (cards' : List ℕ) : Type 0 where
-  pub heading : h.heading ≡ headed a
-  pub stored : cards' ≡ overlay cards 0 (play_in a)
-  pub calls : take h.calls (board_at (take h.stop s) h.start).calls ≡ calls_in a
-  pub fit : h.calls ≤ rows
-  pub many : h.calls ≤ length (board_at (take h.stop s) h.start).calls
-  pub short : 0 < h.calls → (h.stop ≤ length s) × (length s < 2 ^ 32)
+-- of the answer a: its board, or its refusal, which stores nothing
+abbrev pub HeadsBy : (s : List ℕ) → Answer (BoardOf Span) → (rows : ℕ) (cards : List ℕ) → Answer Headed → (cards' : List ℕ) → Type 0
+HeadsBy s a rows cards (Ok h) cards' = (b : BoardOf Span) × ((a ≡ Ok b) × Heads s b rows cards h cards')
+HeadsBy s a rows cards (Err r) cards' = (a ≡ Err r) × (cards' ≡ cards)

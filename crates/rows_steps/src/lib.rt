@@ -3,4 +3,4 @@
 // What the readers into rows of call structs are made of, each of it over plain slices: one call as a row, and a board's heading with the place of its calls. (01: Board; File; Language form)
 mod steps;
 
-pub use steps::{Headed, RowStep, file_headed, heading_alone, next_row, text_headed};
+pub use steps::{Headed, file_headed, next_row, text_headed};

@@ -1,50 +1,23 @@
 -- Laws of rows that are looked at: a call by its parts, one row at a time, and what is found in all of them. (01: Eight refusals, 5 to 7)
 -- Assumes nothing.
-use Prim.Native.Nat.{ℕ, zero, suc, ◌+◌, ◌≤◌, ◌<◌, min}
+use Prim.Native.Nat.{ℕ, zero, suc, ◌+◌, ◌≤◌, ◌<◌}
 use native.Mathlib.Nat.{zero-add, le_of_suc-le-suc}
 use native.Mathlib.Omega.{arith}
 use mathlib.Core.Path.{◌≡◌, refl, ap, sym, ◌∙◌}
 use mathlib.Core.Bool.{Bool, true, false, ◌||◌, or_assoc, or-false}
 use mathlib.Core.List.{List, [], ◌∷◌, map}
-use lib.ListN.{length, take, drop, get_or, length-append, length-take}
-use lib.Seq.{take_all}
+use lib.ListN.{length, drop, get_or, length-append}
 use Rattle.lin_spec.specs.Writer.{pipe_mark, line_mark}
 use Rattle.lin_spec.specs.Base.{pick, any}
 use Rattle.lin_spec.specs.Refusals.{passes_end, sat}
 use Rattle.lin_spec.specs.declared.Call.{Call}
-use Rattle.lin_spec.proofs.Base.{split}
-use Rattle.board_lent.specs.Calls.{spans_of_call, text_bytes}
+use Rattle.board_lent.specs.Calls.{spans_of_call}
 use Rattle.board_lent.specs.Checks.{amiss}
-use Rattle.writer_texts.specs.Calls.{call_bytes}
 use Rattle.rows.specs.declared.CallRow.{CallRow}
 use Rattle.rows.specs.Rows.{empty_row, row_numbers}
 use Rattle.rows_walks.specs.declared.Scan.{Scan}
 use Rattle.rows_walks.specs.Walks.{row_bytes, rows_bytes, looked_at_call, measured, scan_row, scanned}
 use Rattle.rows_walks.proofs.PutLaws.{rows_cons, rows_none, rows-long-same}
-
--- The first words of an index, as many as there are
-pub lesser_long : (n : ℕ) (xs : List ℕ) (r : ℕ) → r ≡ min n (length xs) → r ≡ length (take r xs)
-lesser_long n xs r e = omega (arith, e, length-take r xs)
-
-pub take_lesser : (n : ℕ) (xs : List ℕ) (r : ℕ) → r ≡ min n (length xs) → take n xs ≡ take r xs
-take_lesser n xs r e =
-    split n (length xs) (λ l. ap (λ (k : ℕ). take k xs) (let z : n ≡ r = omega arith in z))
-    (λ l. take_all n xs l ∙ sym (take_all r xs (omega arith)))
-
--- One call
-
-module _ (s : List ℕ) (c : Call) (z : Scan) where
-  pub looked_is : (t : Bool) → t ≡ any (amiss s) (spans_of_call c)
-      → ◌≡◌ {A = Scan} (record { look = z.look; blocks = z.blocks; past = z.past; ill = z.ill || t; spans = z.spans; need = z.need }) (looked_at_call s c z)
-  looked_is t e = rw e refl
-
-  pub measured-is : (t : Bool) → t ≡ any (passes_end s) (spans_of_call c) → (l x : ℕ) → l ≡ text_bytes c → x ≡ sat (z.spans + l)
-      → (m y : ℕ) → m ≡ sat (length (call_bytes pipe_mark line_mark s c)) → y ≡ sat (z.need + m)
-      → ◌≡◌ {A = Scan} (record { look = z.look; blocks = z.blocks; past = z.past || t; ill = z.ill; spans = x; need = y }) (measured s c z)
-  measured-is t e l x f g m y h k =
-      let a : x ≡ sat (z.spans + text_bytes c) = g ∙ ap (λ (n : ℕ). sat (z.spans + n)) f in
-      let b : y ≡ sat (z.need + length (call_bytes pipe_mark line_mark s c)) = omega (arith, h, k) in
-      rw (e, a, b) refl
 
 -- One row
 
@@ -122,11 +95,6 @@ module _ (s : List ℕ) where
       ∙ measure_past rs (measured s (row_numbers r) z) e
       ∙ or_assoc z.past (any (passes_end s) (spans_of_call (row_numbers r))) (any (λ c. any (passes_end s) (spans_of_call c)) (map row_numbers rs))
 
-  pub measure_ill : (rs : List CallRow) (z : Scan) → z.look ≡ false → (scanned s rs z).ill ≡ z.ill
-  unfolding scanned
-  measure_ill [] z e = refl
-  measure_ill (r ∷ rs) z e = ap (λ (y : Scan). (scanned s rs y).ill) (measure_step r z e) ∙ measure_ill rs (measured s (row_numbers r) z) e
-
   pub measure_need : (rs : List CallRow) (z : Scan) (m : ℕ) → z.look ≡ false → z.need ≡ sat m → (scanned s rs z).need ≡ sat (m + length (rows_bytes pipe_mark line_mark s rs))
   unfolding scanned
   measure_need [] z m e f = f ∙ none m
@@ -141,25 +109,6 @@ module _ (s : List ℕ) where
       ap (λ (y : Scan). (scanned s rs y).need) (measure_step r z e)
       ∙ measure_need rs (measured s (row_numbers r) z) (m + a) e g
       ∙ omega (arith, h)
-
-  -- what is looked for stays
-  row-look : (r : CallRow) (z : Scan) → (scan_row s r z).look ≡ z.look
-  unfolding scan_row
-  row-look r z = go z.look
-    where
-      go : (t : Bool) → (pick t (looked_at_call s (row_numbers r) z) (measured s (row_numbers r) z)).look ≡ z.look
-      go true = refl
-      go false = refl
-
-  pub scan_look : (rs : List CallRow) (z : Scan) → (scanned s rs z).look ≡ z.look
-  unfolding scanned
-  scan_look [] z = refl
-  scan_look (r ∷ rs) z = scan_look rs (scan_row s r z) ∙ row-look r z
-
-  pub scan_blocks : (rs : List CallRow) (z : Scan) → (scanned s rs z).blocks ≡ z.blocks
-  unfolding scanned
-  scan_blocks [] z = refl
-  scan_blocks (r ∷ rs) z = scan_blocks rs (scan_row s r z) ∙ row_blocks s r z
 
 -- A scan that has found nothing yet
 

@@ -14,23 +14,14 @@ fn put_row_call(out: &mut [u8], at: usize, text: &[u8], row: CallRow, marks: Mar
     put_call(out, at, text, row_numbers(row), marks)
 }
 
-// Puts the calls of the first n rows.
-pub fn put_rows(
-    out: &mut [u8],
-    at: usize,
-    text: &[u8],
-    rows: &[CallRow],
-    n: usize,
-    marks: Marks,
-) -> usize
-    requires { (n ≤ length rows.now) × Room out.old at (rows_bytes marks.pipe marks.line text.now (take n rows.now)) }
-    ensures { Put out.old at (rows_bytes marks.pipe marks.line text.now (take n rows.now)) out.new result }
+// Puts the calls of the rows.
+pub fn put_rows(out: &mut [u8], at: usize, text: &[u8], rows: &[CallRow], marks: Marks) -> usize
+    requires { Room out.old at (rows_bytes marks.pipe marks.line text.now rows.now) }
+    ensures { Put out.old at (rows_bytes marks.pipe marks.line text.now rows.now) out.new result }
 {
-    let mut i = 0;
     let mut o = at;
-    while i < n {
-        o = put_row_call(out, o, text, rows[i], marks);
-        i += 1;
+    for &row in rows {
+        o = put_row_call(out, o, text, row, marks);
     }
     o
 }

@@ -8,7 +8,6 @@ use board_lent::{call_bytes, call_meets, call_past};
 use lin_spec::Call;
 use output::sat_add;
 use rows::{CallRow, row_numbers};
-use text::lesser;
 use writer_texts::call_len;
 
 // Looks at the bytes of a call's texts.
@@ -16,7 +15,7 @@ fn look_at_call(text: &[u8], next: &[u32], c: Call, scan: Scan) -> Scan
     requires { Indexed text.now (take scan.blocks next.now) }
     ensures { result ≡ looked_at_call text.now c scan }
 {
-    let n = lesser(scan.blocks, next.len());
+    let n = scan.blocks.min(next.len());
     let ill = scan.ill | call_meets(text, &next[..n], c);
     Scan {
         look: scan.look,
@@ -62,11 +61,9 @@ pub fn scan_rows(text: &[u8], next: &[u32], rows: &[CallRow], scan: Scan) -> Sca
     requires { Indexed text.now (take scan.blocks next.now) }
     ensures { result ≡ scanned text.now rows.now scan }
 {
-    let mut i = 0;
     let mut z = scan;
-    while i < rows.len() {
-        z = scan_row(text, next, rows[i], z);
-        i += 1;
+    for &row in rows {
+        z = scan_row(text, next, row, z);
     }
     z
 }

@@ -1,7 +1,7 @@
 #![tactic(auto)]
 
 // Boards written as LIN from lent slices of call structs: `write_lin`, and append. (01: Writer; Language form)
-mod begins;
+mod checks;
 mod entries;
 mod scans;
 

@@ -1,7 +1,6 @@
 #![tactic(auto)]
 
 // Runs linlist's body on stored files, and replays the oracle's listings through the same entry. (01: Program linlist)
-use lin_spec::Written;
 use linlist_input::list_input;
 use listing::list_file;
 use std::rt::Files;
@@ -38,8 +37,8 @@ fn runs(rt: &(impl Files + Print)) -> io::Result<()> {
 fn agrees(file: &[u8], input: Field, printed: Field) -> bool {
     let mut out = [0u8; ROOM];
     match list_file(part(file, input.start, input.len), &mut out) {
-        Written::Length(n) => field_is(file, printed, part(&out, 0, n)),
-        Written::Refused(_) => false,
+        Ok(n) => field_is(file, printed, part(&out, 0, n)),
+        Err(_) => false,
     }
 }
 

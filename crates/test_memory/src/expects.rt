@@ -6,38 +6,18 @@ use text::part;
 
 // Whether each number of the data is the word in its place.
 pub fn words_are(m: &[u32; WORDS], at: usize, data: &[u8], size: usize) -> bool {
-    let mut i = 0;
-    let mut to = at;
-    let mut left = data.len();
-    while 0 < left {
-        if get(m, to) != item(data, i, size) {
-            return false;
-        }
-        to = plus(to, 1);
-        i = plus(i, size);
-        if left < size {
-            return false;
-        }
-        if size == 0 {
-            return false;
-        }
-        left -= size;
-    }
-    true
+    data.chunks(size.max(1)).enumerate().all(|(i, number)| (number.len() == size)
+        & (get(m, plus(at, i)) == item(number, 0, size)))
 }
 
 // Whether so many words are those from another place on or, with a stride of 0, the one there.
 pub fn agree(m: &[u32; WORDS], at: usize, from: usize, count: usize, stride: usize) -> bool {
-    let mut left = count;
-    let mut t = at;
     let mut f = from;
-    while 0 < left {
-        if get(m, t) != get(m, f) {
+    for i in 0..count {
+        if get(m, plus(at, i)) != get(m, f) {
             return false;
         }
-        t = plus(t, 1);
         f = plus(f, stride);
-        left -= 1;
     }
     true
 }
@@ -62,16 +42,14 @@ pub fn all_moved(
     stride: usize,
     by: usize,
 ) -> bool {
-    let mut left = count;
     let mut o = own;
     let mut w = whole;
-    while 0 < left {
+    for _ in 0..count {
         if !moved(m, o, w, by) {
             return false;
         }
         o = plus(o, stride);
         w = plus(w, stride);
-        left -= 1;
     }
     true
 }

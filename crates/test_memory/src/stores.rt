@@ -29,63 +29,41 @@ pub fn half(data: &[u8], at: usize) -> usize {
 
 // Puts each number of the data into a word.
 pub fn put(m: &mut [u32; WORDS], at: usize, data: &[u8], size: usize) {
-    let mut i = 0;
-    let mut to = at;
-    let mut left = data.len();
-    while 0 < left {
-        set(m, to, item(data, i, size));
-        to = plus(to, 1);
-        i = plus(i, size);
-        if left < size {
-            return;
-        }
-        if size == 0 {
-            return;
-        }
-        left -= size;
+    for (i, number) in data.chunks(size.max(1)).enumerate() {
+        set(m, plus(at, i), item(number, 0, size));
     }
 }
 
 // Puts these words.
 pub fn put_all(m: &mut [u32; WORDS], at: usize, words: &[u32]) {
-    let mut i = 0;
-    while i < words.len() {
-        set(m, plus(at, i), words[i]);
-        i += 1;
+    for (i, &word) in words.iter().enumerate() {
+        set(m, plus(at, i), word);
     }
 }
 
 // Takes words from a place on.
 pub fn take(to: &mut [u32], m: &[u32; WORDS], at: usize) {
-    let mut i = 0;
-    while i < to.len() {
-        to[i] = get(m, plus(at, i));
-        i += 1;
+    for (i, word) in to.iter_mut().enumerate() {
+        *word = get(m, plus(at, i));
     }
 }
 
 // Copies so many words, from one place on or, with a stride of 0, all from one place.
 pub fn copy(m: &mut [u32; WORDS], to: usize, from: usize, count: usize, stride: usize) {
-    let mut left = count;
-    let mut t = to;
     let mut f = from;
-    while 0 < left {
+    for i in 0..count {
         let w = get(m, f);
-        set(m, t, w);
-        t = plus(t, 1);
+        set(m, plus(to, i), w);
         f = plus(f, stride);
-        left -= 1;
     }
 }
 
 // Counts each card of the data.
 pub fn count_all(m: &mut [u32; WORDS], at: usize, data: &[u8]) {
-    let mut i = 0;
-    while i < data.len() {
-        let card = plus(at, item(data, i, 1) as usize);
+    for &b in data {
+        let card = plus(at, b as usize);
         let n = get(m, card);
-        set(m, card, std::num::wrapping_add_u32(n, 1));
-        i += 1;
+        set(m, card, n.wrapping_add(1));
     }
 }
 
@@ -97,21 +75,15 @@ fn set_byte(to: &mut [u8; BYTES], at: usize, b: u8) {
 
 // Puts the data into bytes.
 pub fn store_bytes(to: &mut [u8; BYTES], at: usize, data: &[u8]) {
-    let mut i = 0;
-    while i < data.len() {
-        set_byte(to, plus(at, i), data[i]);
-        i += 1;
+    for (i, &b) in data.iter().enumerate() {
+        set_byte(to, plus(at, i), b);
     }
 }
 
 // Puts one byte so many times.
 fn fill_bytes(to: &mut [u8; BYTES], at: usize, count: usize, b: u8) {
-    let mut left = count;
-    let mut t = at;
-    while 0 < left {
-        set_byte(to, t, b);
-        t = plus(t, 1);
-        left -= 1;
+    for i in 0..count {
+        set_byte(to, plus(at, i), b);
     }
 }
 

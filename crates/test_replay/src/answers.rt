@@ -7,11 +7,9 @@ use test_memory::{ANSWER, BOARD, STEP, WORDS, high, low, plus, put_all, set};
 // Lays eight numbers from a place on: their low words, then their high words.
 fn lay_at(m: &mut [u32; WORDS], at: usize, numbers: [u64; 8]) {
     let above = plus(at, 8);
-    let mut i = 0;
-    while i < 8 {
-        set(m, plus(at, i), low(numbers[i]));
-        set(m, plus(above, i), high(numbers[i]));
-        i += 1;
+    for (i, &n) in numbers.iter().enumerate() {
+        set(m, plus(at, i), low(n));
+        set(m, plus(above, i), high(n));
     }
 }
 

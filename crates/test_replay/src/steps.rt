@@ -194,17 +194,15 @@ pub fn run_steps(
     bytes: &mut [u8; BYTES],
     out: &mut [u8; BYTES],
 ) -> io::Result<()> {
-    let mut left = STEPS;
     set(m, OK, 1);
     set(m, NEXT, 0);
     set(m, DEPTH, 0);
-    while 0 < left {
+    for _ in 0..STEPS {
         let at = place(m, NEXT);
         if file.len() <= at {
             return Ok(());
         }
         one(rt, file, at, m, bytes, out)?;
-        left -= 1;
     }
     Ok(())
 }

@@ -82,14 +82,7 @@ pub fn field_is(file: &[u8], f: Field, bytes: &[u8]) -> bool {
 
 // Whether every byte from a place on is this one.
 pub fn all_are(s: &[u8], from: usize, byte: u8) -> bool {
-    let mut i = from;
-    while i < s.len() {
-        if s[i] != byte {
-            return false;
-        }
-        i += 1;
-    }
-    true
+    s.iter().skip(from).all(|&b| b == byte)
 }
 
 // The first n words, or all there are.

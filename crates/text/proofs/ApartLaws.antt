@@ -6,7 +6,7 @@ use native.Mathlib.Nat.{not-suc-le-zero, le_of_suc-le-suc}
 use native.Mathlib.Numerals.{add-one}
 use native.Mathlib.Omega.{arith}
 use mathlib.Core.Path.{◌≡◌, refl, ap, sym, ◌∙◌}
-use mathlib.Core.Bool.{Bool, true, false, ◌&&◌, ◌||◌, not, false≢true}
+use mathlib.Core.Bool.{Bool, true, false, ◌&&◌, ◌||◌}
 use mathlib.Core.List.{List, [], ◌∷◌}
 use lib.ListN.{length, get_or, take, drop, drop_of_length-le, length-drop}
 use lib.Seq.{drop-cons, drop-drop, take-length}
@@ -69,9 +69,6 @@ common-after (suc i) (x ∷ s) (y ∷ t) h = go (eqb x y) h (common-after i s t)
     go false l ih = absurd (not-suc-le-zero l)
 
 -- The next place where they differ
-
-pub min-both : (m a b : ℕ) → m ≡ min a b → (m ≤ a) × (m ≤ b)
-min-both m a b e = (omega arith, omega arith)
 
 module _ (s t : List ℕ) where
   -- all places up to it have the same next one
@@ -195,19 +192,11 @@ module _ (s t : List ℕ) (a b : ℕ) (l : a ≤ b) (ls : b ≤ length s) (lt : 
     told : r ≡ leb (a + m) (next_apart s t a)
     told = e ∙ span-front s t a (b - a) m h (omega arith) (omega arith)
 
-    pub block_differs : not r ≡ true → false ≡ eq_list (part s a (b - a)) (part t a (b - a))
-    block_differs n = span_apart s t a (b - a) (let k = leb-false (a + m) (next_apart s t a) (sym told ∙ down r n) in omega arith) (omega arith) (omega arith)
-      where
-        down : (r : Bool) → not r ≡ true → r ≡ false
-        down true n = absurd (false≢true n)
-        down false n = refl
+    pub block_differs : r ≡ false → false ≡ eq_list (part s a (b - a)) (part t a (b - a))
+    block_differs n = span_apart s t a (b - a) (let k = leb-false (a + m) (next_apart s t a) (sym told ∙ n) in omega arith) (omega arith) (omega arith)
 
-    pub block_same : not r ≡ false → a + m ≤ next_apart s t a
-    block_same n = leb-true (a + m) (next_apart s t a) (sym told ∙ up r n)
-      where
-        up : (r : Bool) → not r ≡ false → r ≡ true
-        up true n = refl
-        up false n = absurd (false≢true (sym n))
+    pub block_same : r ≡ true → a + m ≤ next_apart s t a
+    block_same n = leb-true (a + m) (next_apart s t a) (sym told ∙ n)
 
 -- what the code's tests leave: a span that is long, ends within both texts, and has a word for the block after its first
 pub looked_up : (a b m n k : ℕ) → ((leb (b - a) 1024 || (ltb m b || ltb n b)) || leb k (a / 1024 + 1)) ≡ false → (1024 < b - a) × (b ≤ m) × (b ≤ n) × (a / 1024 + 1 < k)
@@ -254,7 +243,3 @@ module _ (s t : List ℕ) (k : ℕ) where
       split j k
       (λ i. f.kept j i ∙ d j i)
       (λ i. f.stored j i h ∙ e ∙ sym (within s t (k * 1024) (j * 1024) (omega arith) (let b = f.begun j i h in omega (arith, e))))
-
-  pub made_less : (old new : List ℕ) (p m : ℕ) → p ≡ next_apart s t (k * 1024) → Filled old k p new m → (m < length new → p < m * 1024) → k < length old
-      → length new - m < length old - k
-  made_less old new p m e f g h = split m (length new) (λ l. let a = g l in omega (arith, e, f.order, f.long)) (λ l. omega (arith, f.long))

@@ -2,13 +2,13 @@
 -- (01: Eight refusals, 6)
 -- Assumes nothing.
 use Prim.Native.Nat.{ℕ, zero, suc, ◌+◌, ◌*◌, ◌-◌, ◌/◌, ◌≤◌, ◌<◌}
-use native.Mathlib.Nat.{not-suc-le-zero, add-sub_cancel_left}
+use native.Mathlib.Nat.{not-suc-le-zero}
 use native.Mathlib.Omega.{arith}
 use mathlib.Core.Path.{◌≡◌, refl, ap, sym, ◌∙◌}
 use mathlib.Core.Bool.{Bool, true, false, ◌&&◌, ◌||◌, not, and-false}
 use mathlib.Core.List.{List, [], ◌∷◌}
-use lib.ListN.{length, get_or, take, drop, set, length-drop, length-set}
-use lib.Seq.{take-length, take-take, drop-drop, get_or-take, get_or-drop, get_or-set_same, get_or-set_other, length-take-le}
+use lib.ListN.{length, get_or, take, drop, length-drop}
+use lib.Seq.{take-length, take-take, drop-drop, get_or-take, get_or-drop, length-take-le}
 use lib.Dec.{eqb, leb, ltb}
 use borrow.Author.Tests.{eq-eqb, ne_eqb, eqb-true, eqb-false, le-leb, lt-leb, leb-false, lt-ltb, le-ltb, ltb-false}
 use Rattle.lin_spec.specs.Records.{part}
@@ -25,18 +25,6 @@ use Rattle.text.proofs.TornLaws.{start_is, ill-start, empty_utf8, tail_beyond}
 -- a place in it, as the tests of the code look at it
 abbrev pub cuts : (t : List ℕ) (i m : ℕ) → Bool
 cuts t i m = not (eqb i m) && tail_at t i
-
--- a place before m, as they look at it too
-module _ (t : List ℕ) (i m : ℕ) where
-  pub tail_after : m ≤ i → false ≡ (ltb i m && tail_at t i)
-  tail_after h = rw (le-ltb i m h) refl
-
-  pub tail_here : i < m → tail_at t i ≡ (ltb i m && tail_at t i)
-  tail_here h = rw (lt-ltb i m h) refl
-
--- and any place
-pub tail_any : (t : List ℕ) (i : ℕ) → (ltb i (length t) && tail_at t i) ≡ tail_at t i
-tail_any t i = split i (length t) (λ h. sym (tail_here t i (length t) h)) (λ h. sym (tail_after t i (length t) h) ∙ tail_beyond t i h)
 
 -- a start that is no longer is UTF-8 where it does not end within a character
 front : (t : List ℕ) (i : ℕ) → i ≤ longest t → utf8 (take i t) ≡ not (cuts t i (longest t))
@@ -191,9 +179,6 @@ looked_up a b m k e =
 pub all-length : (s : List ℕ) → length s ≡ length (take (length s) s)
 all-length s = ap length (sym (take-length s))
 
-pub all-ill : (s : List ℕ) (a n : ℕ) (t : Bool) → t ≡ ill_part (take (length s) s) a (a + n - a) → t ≡ ill_part s a n
-all-ill s a n t e = e ∙ ap (λ (u : List ℕ). ill_part u a (a + n - a)) (take-length s) ∙ ap (ill_part s a) (add-sub_cancel_left a n)
-
 -- An index
 
 -- no word at all
@@ -206,10 +191,6 @@ indexed_first s n e zero h l = e ∙ sym (ill-here zero s 0 (omega arith))
 indexed_first s n e (suc k) h l = absurd (omega arith)
 
 module _ (s next : List ℕ) (x : Indexed s next) where
-  -- all of the text and all of the words
-  pub words-all : Indexed (take (length s) s) (take (length next) next)
-  words-all = rw (take-length s, take-length next) x
-
   -- the first word
   pub word_first : 0 < length next → get_or next 0 0 ≡ longest s
   word_first h = x 0 h (omega arith) ∙ ill-here zero s 0 (omega arith)
@@ -233,19 +214,6 @@ module _ (s next : List ℕ) (x : Indexed s next) where
           x (a / 1024 + 1) h w ∙ next-within s a ((a / 1024 + 1) * 1024) (omega arith) (omega (arith, p.after))
 
 -- How an index is made
-
--- words are stored for the blocks that begin at or before p
-pub fill_none : (ws : List ℕ) (k p : ℕ) → Filled ws k p ws k
-fill_none ws k p = record { order = omega arith; long = refl; kept = λ j h. refl; stored = λ j a b. absurd (omega arith); begun = λ j a b. absurd (omega arith) }
-
-pub fill-next : (old : List ℕ) (k p : ℕ) (new : List ℕ) (m : ℕ) → Filled old k p new m → m < length new → m ≤ p / 1024 → Filled old k p (set new m p) (m + 1)
-fill-next old k p new m f h l = record {
-  order = omega (arith, f.order);
-  long = length-set new m p ∙ f.long;
-  kept = λ j a. get_or-set_other new m j p 0 (λ e. omega (arith, f.order)) ∙ f.kept j a;
-  stored = λ j a b. split j m (λ c. get_or-set_other new m j p 0 (λ e. omega arith) ∙ f.stored j a c) (λ c. let e : j ≡ m = omega arith in rw e (get_or-set_same new m p 0 h));
-  begun = λ j a b. split j m (λ c. f.begun j a c) (λ c. omega arith);
-}
 
 -- the blocks before k have their words; the others begin at or after the place `from`, where a run begins: what stands before it does not matter there
 pub record Made (s next : List ℕ) (from k : ℕ) : Type 0 where

@@ -6,18 +6,18 @@ use native.Mathlib.Nat.{not-suc-le-zero, le_of_suc-le-suc}
 use native.Mathlib.Numerals.{add-one}
 use native.Mathlib.Omega.{arith}
 use mathlib.Core.Path.{◌≡◌, refl, ap, sym, ◌∙◌}
-use mathlib.Core.Bool.{Bool, true, false, ◌&&◌, ◌||◌, not}
+use mathlib.Core.Bool.{Bool, true, false, ◌&&◌, ◌||◌}
 use mathlib.Core.List.{List, [], ◌∷◌}
 use lib.ListN.{length, get_or, take, drop, length-drop, drop_of_length-le}
 use lib.Seq.{take-suc, take_all, drop-cons, drop-drop}
 use lib.Dec.{T, eqb, leb, ltb, ltb→lt}
-use borrow.Author.Tests.{leb-true, not-true, not-false}
+use borrow.Author.Tests.{leb-true}
 use Rattle.lin_spec.specs.Base.{pick}
 use Rattle.lin_spec.specs.Utf8.{Utf, first, tails, utf_step, utf, is_whole, utf8, reach, longest}
 use Rattle.lin_spec.specs.Utf8.Utf.{whole, needs, ill}
 use Rattle.lin_spec.proofs.Base.{and_left, and_right, all_below, same_below}
 use Rattle.lin_spec.proofs.Utf8.{utf-append, whole-utf8, utf8-ascii, utf8-longest, longest-within, longest-after}
-use Rattle.text.specs.Utf8.{bytes_of, low_of, high_of, Front, Past, Block, PassesChars}
+use Rattle.text.specs.Utf8.{bytes_of, low_of, high_of, Front, Past}
 
 -- From place to place
 
@@ -65,27 +65,6 @@ sixteen_past s i h e = to 15 tt (to 14 tt (to 13 tt (to 12 tt (to 11 tt (to 10 t
         let m = ltb→lt k 16 l in
         rw d (past_next s i (i + k) (f (and_left t (is_ascii s (i + k)) e)) (omega arith) b)
 
--- four times sixteen
-pub four-past : (s : List ℕ) (i : ℕ) (a b c d : Bool) → (a ≡ true → Past s i (i + 16)) → (b ≡ true → Past s (i + 16) (i + 16 + 16)) → (c ≡ true → Past s (i + 32) (i + 32 + 16))
-    → (d ≡ true → Past s (i + 48) (i + 48 + 16)) → ((a && b) && (c && d)) ≡ true → Past s i (i + 64)
-four-past s i a b c d f g h k e =
-    let ab = and_left (a && b) (c && d) e in
-    let cd = and_right (a && b) (c && d) e in
-    let p = f (and_left a b ab) in
-    let q = g (and_right a b ab) in
-    let r = h (and_left c d cd) in
-    let t = k (and_right c d cd) in
-    record { order = omega arith; after = omega (arith, p.after, q.after, r.after, t.after, at_32, at_48, at_64) }
-  where
-    at_32 : longest (drop (i + 16 + 16) s) ≡ longest (drop (i + 32) s)
-    at_32 = ap (λ (n : ℕ). longest (drop n s)) (let z : i + 16 + 16 ≡ i + 32 = omega arith in z)
-
-    at_48 : longest (drop (i + 32 + 16) s) ≡ longest (drop (i + 48) s)
-    at_48 = ap (λ (n : ℕ). longest (drop n s)) (let z : i + 32 + 16 ≡ i + 48 = omega arith in z)
-
-    at_64 : longest (drop (i + 48 + 16) s) ≡ longest (drop (i + 64) s)
-    at_64 = ap (λ (n : ℕ). longest (drop n s)) (let z : i + 48 + 16 ≡ i + 64 = omega arith in z)
-
 -- the end of the text is the end of its longest start, where it is reached
 pub past_end : (s : List ℕ) (i : ℕ) → Past s 0 i → length s ≤ i → i ≡ longest s
 unfolding longest reach
@@ -101,25 +80,9 @@ module _ (s : List ℕ) (i n : ℕ) (f : Front (take (length s - i) (drop i s)) 
   here : Front (drop i s) n
   here = rw (rest s i) at f
 
-  -- a character ends within the text
-  pub char_room : n ≤ length s - i
-  char_room = rw length-drop at here.within
-
-  -- a character is passed
-  pub char_past : Past s i (i + n)
-  char_past = past-front s i n here
-
   -- a place that has no character is the end of the longest start, where it is reached
   pub char_none : Past s 0 i → n ≡ 0 → i ≡ longest s
   char_none p e = omega (arith, p.after, here.none e)
-
-  -- a step passes it, or there is none
-  pub step_char : PassesChars s i (i + n)
-  step_char = record { past = char_past; none = λ e. here.none (omega arith) }
-
--- a step passes sixteen bytes
-pub step_sixteen : (s : List ℕ) (i : ℕ) → Block s i 16 → PassesChars s i (i + 16)
-step_sixteen s i b = record { past = b.past; none = λ e. absurd (omega arith) }
 
 -- the whole text is UTF-8 where its longest start is as long
 pub all-utf8 : (s : List ℕ) (n : ℕ) → n ≡ longest s → eqb n (length s) ≡ utf8 s
@@ -235,14 +198,14 @@ seen_short t n h e l =
 
 module _ (t : List ℕ) (n lo hi k : ℕ) (a : Seen t n lo hi k) (l : k < n) (m : n ≤ length t) (r : Bool) (e : r ≡ in_range lo hi (get_or t k 0)) where
   -- a byte that is out of its range
-  pub seen_out : not r ≡ true → Front t 0
-  seen_out f = front-none t (along_out t k (n - suc k) lo hi (a.more (n - suc k) (omega arith)) (omega arith) (sym e ∙ not-true r f))
+  pub seen_out : r ≡ false → Front t 0
+  seen_out f = front-none t (along_out t k (n - suc k) lo hi (a.more (n - suc k) (omega arith)) (omega arith) (sym e ∙ f))
 
   -- a byte in its range
-  pub seen_next : not r ≡ false → Seen t n 0x80 0xBF (k + 1)
+  pub seen_next : r ≡ true → Seen t n 0x80 0xBF (k + 1)
   seen_next f =
       let h : k < length t = omega arith in
-      let i : in_range lo hi (get_or t k 0) ≡ true = sym e ∙ not-false r f in
+      let i : in_range lo hi (get_or t k 0) ≡ true = sym e ∙ f in
       rw add-one (record {
         more = λ j d. along_next t k j lo hi (a.more (suc j) (omega arith)) h i;
         done = λ d.

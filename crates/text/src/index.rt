@@ -24,16 +24,12 @@ pub fn put_blocks(next: &mut [u32], k: usize, p: usize) -> usize
     requires { p ≤ limit }
     ensures { Filled next.old k p next.new result × (result < length next.new → p < result * 1024) }
 {
-    let last = p / 1024;
-    let mut j = k;
-    while j < next.len() {
-        if last < j {
-            return j;
-        }
-        next[j] = p as u32;
-        j += 1;
+    let end = next.len().min(p / 1024 + 1);
+    if end <= k {
+        return k;
     }
-    j
+    next[k..end].fill(p as u32);
+    end
 }
 
 // Makes the index of a text, a run of whole characters at a time: all blocks that begin in a run have its end for their next ill-formed place.

@@ -11,7 +11,7 @@ use lin_spec::Span;
 pub fn lesser(a: usize, b: usize) -> usize
     ensures { result ≡ min a b }
 {
-    if a < b { a } else { b }
+    a.min(b)
 }
 
 // The len bytes of s from start on, or as many as there are.
@@ -69,7 +69,7 @@ fn sixteen_without(s: &[u8], c: u8, i: usize) -> bool
         & (s[i + 15] != c)
 }
 
-// Passes bytes other than c from `from` on, by sixteens, and gives the place after them.
+// Passes bytes other than c from `from` on, by sixteens for speed, and gives the place after them.
 fn sixteens_without(s: &[u8], c: u8, from: usize) -> usize
     ensures { find_from c s.now result ≡ find_from c s.now from }
 {
@@ -84,12 +84,10 @@ fn sixteens_without(s: &[u8], c: u8, from: usize) -> usize
 fn find_far(s: &[u8], c: u8, from: usize) -> usize
     ensures { result ≡ find_from c s.now from }
 {
-    let mut i = sixteens_without(s, c, from);
-    while i < s.len() {
+    for i in sixteens_without(s, c, from)..s.len() {
         if s[i] == c {
             return i;
         }
-        i += 1;
     }
     s.len()
 }

@@ -34,7 +34,7 @@ fn sixteen_same(a: &[u8], b: &[u8], m: usize, i: usize) -> bool
         & (a[i + 15] == b[i + 15])
 }
 
-// Passes bytes that are the same, of the first m of each, from `from` on and by sixteens, and gives the place after them.
+// Passes bytes that are the same, of the first m of each, from `from` on and by sixteens for speed, and gives the place after them.
 fn sixteens_same(a: &[u8], b: &[u8], m: usize, from: usize) -> usize
     requires { (m ≤ length a.now) × (m ≤ length b.now) }
     ensures { next_apart a.now b.now result ≡ next_apart a.now b.now from }
@@ -51,14 +51,13 @@ pub fn next_apart(a: &[u8], b: &[u8], from: usize) -> usize
     ensures { result ≡ next_apart a.now b.now from }
 {
     let m = lesser(a.len(), b.len());
-    let mut i = sixteens_same(a, b, m, from);
-    while i < m {
+    let start = sixteens_same(a, b, m, from);
+    for i in start..m {
         if a[i] != b[i] {
             return i;
         }
-        i += 1;
     }
-    i
+    start.max(m)
 }
 
 // Whether two texts have the same bytes.

@@ -76,14 +76,12 @@ fn char_len(t: &[u8]) -> usize
     }
     let mut low = lowest(a);
     let mut high = highest(a);
-    let mut k = 1;
-    while k < n {
+    for k in 1..n {
         if !in_range(t[k], low, high) {
             return 0;
         }
         low = 0x80;
         high = 0xBF;
-        k += 1;
     }
     n
 }
@@ -141,7 +139,7 @@ fn ascii_sixty_four(s: &[u8], i: usize) -> bool
     (a & b) & (c & d)
 }
 
-// Passes bytes of ASCII from `from` on, by sixty-fours, and gives the place after them: whole characters are passed.
+// Passes bytes of ASCII from `from` on, by sixty-fours for speed, and gives the place after them: whole characters are passed.
 fn sixty_fours_end(s: &[u8], from: usize) -> usize
     ensures { Past s.now from result }
 {
@@ -152,7 +150,7 @@ fn sixty_fours_end(s: &[u8], from: usize) -> usize
     i
 }
 
-// Passes bytes of ASCII from `from` on, by sixteens, and gives the place after them: whole characters are passed.
+// Passes bytes of ASCII from `from` on, by sixteens for speed, and gives the place after them: whole characters are passed.
 fn sixteens_ascii(s: &[u8], from: usize) -> usize
     ensures { Past s.now from result }
 {
@@ -167,14 +165,13 @@ fn sixteens_ascii(s: &[u8], from: usize) -> usize
 fn ascii_end(s: &[u8], from: usize) -> usize
     ensures { Past s.now from result }
 {
-    let mut i = sixteens_ascii(s, from);
-    while i < s.len() {
+    let start = sixteens_ascii(s, from);
+    for i in start..s.len() {
         if 0x7F < s[i] {
             return i;
         }
-        i += 1;
     }
-    i
+    start.max(s.len())
 }
 
 // The same, where most often there is none.

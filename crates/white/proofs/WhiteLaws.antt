@@ -11,7 +11,8 @@ use mathlib.Core.List.{List, [], ◌∷◌, ◌++◌, map, append-nil}
 use lib.ListN.{length, get_or, take, drop, length-append, length-drop, length-map, drop_of_length-le}
 use lib.Seq.{drop-cons, take_at, drop-drop, length-take-le, take_all, take-take}
 use lib.Dec.{eqb, leb, ltb}
-use borrow.Author.Tests.{eq-eqb, ne_eqb, eqb-true, eqb-false, leb-true, leb-false, ltb-true, le-leb, lt-leb}
+use Rattle.std.specs.Char.{to_ascii_lowercase}
+use borrow.Author.Tests.{eq-eqb, ne_eqb, eqb-true, eqb-false, leb-true, leb-false, ltb-true, ltb-false, le-leb, lt-leb}
 use Rattle.lin_spec.specs.Base.{pick, any, null, starts, eq_list, eq_all}
 use Rattle.lin_spec.specs.Utf8.{encode}
 use Rattle.lin_spec.specs.White.{whites, white_space, front, white_at, skip_white, trim_start, blank, trim_end, trim, lower, same_word}
@@ -348,7 +349,17 @@ plain-trim s n h =
     let e : skip_white 0 s ≡ s = skip_at s ∙ simp f in
     ap trim_end e ∙ back_none s g
 
--- The loop over a word
+-- Words
+
+-- std's small letter
+pub lower-is : (b : ℕ) → to_ascii_lowercase b ≡ lower b
+unfolding lower
+lower-is b = go (ltb b 0x41) refl (ltb b 0x5B) refl
+  where
+    go : (t : Bool) → ltb b 0x41 ≡ t → (u : Bool) → ltb b 0x5B ≡ u → to_ascii_lowercase b ≡ lower b
+    go true e u f = simp (e, lt-leb 0x41 b (ltb-true b 0x41 e))
+    go false e true f = let h : b ≤ 0x5A = omega (arith, ltb-true b 0x5B f) in simp (e, f, le-leb 0x41 b (omega (arith, ltb-false b 0x41 e)), le-leb b 0x5A h)
+    go false e false f = let h : 0x5A < b = omega (arith, ltb-false b 0x5B f) in simp (e, f, lt-leb b 0x5A h, and-false)
 
 -- what is left at i decides as the whole does
 abbrev pub Word : List ℕ → List ℕ → ℕ → Type 0

@@ -167,13 +167,7 @@ pub fn is_blank(s: &[u8]) -> bool
 pub fn lower_byte(b: u8) -> u8
     ensures { result ≡ lower b }
 {
-    if b < 0x41 {
-        return b;
-    }
-    if 0x5A < b {
-        return b;
-    }
-    b + 0x20
+    b.to_ascii_lowercase()
 }
 
 // Two texts are the same, ignoring ASCII case; w is in small letters.
@@ -183,12 +177,10 @@ pub fn same_word(s: &[u8], w: &[u8]) -> bool
     if s.len() != w.len() {
         return false;
     }
-    let mut i = 0;
-    while i < s.len() {
-        if lower_byte(s[i]) != w[i] {
+    for (&a, &b) in s.iter().zip(w) {
+        if lower_byte(a) != b {
             return false;
         }
-        i += 1;
     }
     true
 }

@@ -1,5 +1,6 @@
 -- The written form of a lent board as the pieces that are put, and its length. (01: Writer)
 -- Assumes nothing.
+use Rattle.std.specs.Prelude.{Option, Some}
 use Prim.Native.Nat.{ℕ, ◌+◌}
 use native.Mathlib.Omega.{arith}
 use mathlib.Core.Path.{◌≡◌, ap, ◌∙◌}
@@ -10,10 +11,8 @@ use Rattle.lin_spec.specs.Refusals.{sat}
 use Rattle.lin_spec.specs.Records.{bytes_at}
 use Rattle.lin_spec.specs.Board.{map_call, map_board}
 use Rattle.lin_spec.specs.Writer.{md_text, tricks_text, claim_text, calls_text, written}
-use Rattle.lin_spec.specs.Lent.{Lent, call_in, claim_of, lent, lent_board, meaning}
+use Rattle.lin_spec.specs.Lent.{Lent, call_in, lent, lent_board, meaning}
 use Rattle.lin_spec.specs.Append.{written_form}
-use Rattle.lin_spec.specs.declared.MaybeClaim.{MaybeClaim}
-use Rattle.lin_spec.specs.declared.MaybeClaim.TheVariants.{Claimed}
 use Rattle.lin_spec.specs.declared.Board.{Board}
 use Rattle.board_lent.specs.declared.heads.Head.{Head}
 use Rattle.board_lent.specs.Heads.{head_of}
@@ -38,7 +37,7 @@ unfolding calls_bytes
 written_is m s b ws cs = written-lent m.pipe m.line (lent s b ws cs)
 
 -- a claim that is made
-pub claimed_is : (n : ℕ) → claim_text (claim_of (Claimed n)) ≡ claimed_text n
+pub claimed_is : (n : ℕ) → claim_text (Some n) ≡ claimed_text n
 unfolding claimed_text
 claimed_is n = simp append-nil
 
@@ -53,14 +52,14 @@ pub dealing_long : (b : Board) → length (dealing_text b) ≡ 15 + length (md_t
 unfolding dealing_text
 dealing_long b = simp (length-append, append-nil) (omega arith)
 
-pub claim-long : (x : MaybeClaim) (n : ℕ) → x ≡ Claimed n → length (claim_text (claim_of x)) ≡ 9 + length (decimal n)
-claim-long x n e = ap (λ (y : MaybeClaim). length (claim_text (claim_of y))) e ∙ simp length-append (omega arith)
+pub claim-long : (x : Option ℕ) (n : ℕ) → x ≡ Some n → length (claim_text x) ≡ 9 + length (decimal n)
+claim-long x n e = ap (λ (y : Option ℕ). length (claim_text y)) e ∙ simp length-append (omega arith)
 
 pub front_long : (p q : ℕ) (s : List ℕ) (b : Board) → length (front_text p q s b) ≡ length (heading_text p q s (head_of b)) + length (dealing_text b)
 unfolding front_text
 front_long p q s b = simp (length-append, append-nil)
 
-pub back_long : (c : MaybeClaim) (cs : List ℕ) → length (back_text c cs) ≡ 5 + length (tricks_text cs) + length (claim_text (claim_of c))
+pub back_long : (c : Option ℕ) (cs : List ℕ) → length (back_text c cs) ≡ 5 + length (tricks_text cs) + length (claim_text c)
 unfolding back_text
 back_long c cs = simp (length-append, append-nil) (omega arith)
 

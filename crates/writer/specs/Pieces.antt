@@ -1,11 +1,9 @@
 -- The written form of a lent board as the pieces that are put one after the other. (01: Writer)
-use Rattle.std.specs.Prelude.{ℕ, List, [], ◌∷◌}
+use Rattle.std.specs.Prelude.{ℕ, List, [], ◌∷◌, Option}
 use Rattle.lin_spec.specs.Base.{ascii}
 use Rattle.lin_spec.specs.Decimal.{decimal}
 use Rattle.lin_spec.specs.Letters.{sv_letter}
 use Rattle.lin_spec.specs.Writer.{clean, md_text, tricks_text, claim_text}
-use Rattle.lin_spec.specs.Lent.{claim_of}
-use Rattle.lin_spec.specs.declared.MaybeClaim.{MaybeClaim}
 use Rattle.lin_spec.specs.declared.Board.{Board}
 use Rattle.board_lent.specs.declared.heads.Head.{Head}
 use Rattle.board_lent.specs.Heads.{head_of}
@@ -50,10 +48,10 @@ front_pieces p q s b = heading_text p q s (head_of b) ∷ dealing_text b ∷ []
 unfoldable pub front_text : (p q : ℕ) (text : List ℕ) → Board → List ℕ
 front_text p q s b = joined (front_pieces p q s b)
 
-abbrev pub back_pieces : MaybeClaim → (cards : List ℕ) → List (List ℕ)
-back_pieces c cs = ascii "pg||\n" ∷ tricks_text cs ∷ claim_text (claim_of c) ∷ []
+abbrev pub back_pieces : Option ℕ → (cards : List ℕ) → List (List ℕ)
+back_pieces c cs = ascii "pg||\n" ∷ tricks_text cs ∷ claim_text c ∷ []
 
-unfoldable pub back_text : MaybeClaim → (cards : List ℕ) → List ℕ
+unfoldable pub back_text : Option ℕ → (cards : List ℕ) → List ℕ
 back_text c cs = joined (back_pieces c cs)
 
 -- all of it, around the text of its calls

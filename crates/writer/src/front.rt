@@ -11,7 +11,7 @@ ghost use Rattle.writer.specs.Pieces.{dealing_text, front_text};
 use crate::heading::{heading_len, put_heading};
 use board_lent::Head;
 use lin_spec::Vulnerability;
-use output::{put_byte, put_bytes, sat_add};
+use output::{put, put_all, sat_add};
 use writer_cards::{Sizes, md_len, put_md};
 use writer_texts::Marks;
 
@@ -26,7 +26,7 @@ fn put_sv(out: &mut [u8], at: usize, v: Vulnerability) -> usize
     requires { Room out.old at (sv_letter v ∷ []) }
     ensures { Put out.old at (sv_letter v ∷ []) out.new result }
 {
-    put_byte(out, at, v.letter())
+    put(out, at, v.letter())
 }
 
 // Puts the deal and the vulnerability, and what begins the calls.
@@ -36,11 +36,11 @@ fn put_dealing(out: &mut [u8], at: usize, head: Head, counts: &[u32; 208], sizes
 {
     let dealer = head.dealer;
     let vulnerability = head.vulnerability;
-    let a = put_bytes(out, at, &MD_TEXT);
+    let a = put_all(out, at, &MD_TEXT);
     let b = put_md(out, a, dealer, counts, sizes);
-    let c = put_bytes(out, b, &SV_TEXT);
+    let c = put_all(out, b, &SV_TEXT);
     let d = put_sv(out, c, vulnerability);
-    put_bytes(out, d, &SA_TEXT)
+    put_all(out, d, &SA_TEXT)
 }
 
 fn dealing_len(sizes: Sizes) -> u64

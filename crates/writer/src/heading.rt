@@ -5,7 +5,7 @@ ghost use Rattle.output.specs.Put.{Room, Put};
 ghost use Rattle.writer.specs.Pieces.{heading_text};
 
 use board_lent::Head;
-use output::{put_bytes, sat_add};
+use output::{put_all, sat_add};
 use writer_texts::{Marks, header_len, names_len, put_ah, put_names, put_text, text_len};
 
 const MN_TEXT: [u8; 3] = *b"mn|";
@@ -25,13 +25,13 @@ pub(crate) fn put_heading(out: &mut [u8], at: usize, text: &[u8], head: Head, ma
     let title = head.title;
     let room_board = head.room_board;
     let board_header = head.board_header;
-    let a = put_bytes(out, at, &MN_TEXT);
+    let a = put_all(out, at, &MN_TEXT);
     let b = put_text(out, a, text, title, marks);
-    let c = put_bytes(out, b, &PN_TEXT);
+    let c = put_all(out, b, &PN_TEXT);
     let d = put_names(out, c, text, names, marks);
-    let e = put_bytes(out, d, &QX_TEXT);
+    let e = put_all(out, d, &QX_TEXT);
     let f = put_text(out, e, text, room_board, marks);
-    let g = put_bytes(out, f, &RH_TEXT);
+    let g = put_all(out, f, &RH_TEXT);
     put_ah(out, g, text, board_header, marks)
 }
 

@@ -1,5 +1,6 @@
 -- Which answer `format_cardplay_by_trick` gives, by the tests that it made. (01: Eight refusals, 8 and 7)
 -- Assumes nothing.
+use Rattle.std.specs.Prelude.{Err, Ok}
 use Prim.Native.Nat.{ℕ, ◌+◌, ◌≤◌, ◌<◌}
 use native.Mathlib.Omega.{arith}
 use mathlib.Core.Path.{◌≡◌, sym, ◌∙◌}
@@ -8,7 +9,6 @@ use mathlib.Core.List.{List}
 use lib.ListN.{length}
 use borrow.Author.Tests.{lt-ltb, le-ltb}
 use Rattle.lin_spec.specs.Refusals.{unless, sat}
-use Rattle.lin_spec.specs.Refusals.Answer.{refused, accepted}
 use Rattle.lin_spec.specs.Output.{Outcome, room, fill}
 use Rattle.lin_spec.specs.Lent.{bad_cards}
 use Rattle.lin_spec.specs.Play.{play_text, format_cardplay}
@@ -16,12 +16,12 @@ use Rattle.lin_spec.specs.declared.Refusal.TheVariants.{OutOfRange, OutputTooSma
 use Rattle.output.specs.Put.{Room, Put}
 
 module _ (cs o : List ℕ) (t : Bool) (et : t ≡ bad_cards cs) where
-  pub play-range : t ≡ true → ◌≡◌ {A = Outcome} (record { answer = refused OutOfRange; output = o }) (format_cardplay cs o)
+  pub play-range : t ≡ true → ◌≡◌ {A = Outcome} (record { answer = Err OutOfRange; output = o }) (format_cardplay cs o)
   unfolding format_cardplay fill unless
   play-range h = simp (← et, h)
 
   module _ (h : t ≡ false) (need : ℕ) (en : need ≡ sat (length (play_text cs))) (r : ℕ) (er : r ≡ room o) where
-    pub play-small : r < need → ◌≡◌ {A = Outcome} (record { answer = refused (OutputTooSmall need); output = o }) (format_cardplay cs o)
+    pub play-small : r < need → ◌≡◌ {A = Outcome} (record { answer = Err (OutputTooSmall need); output = o }) (format_cardplay cs o)
     unfolding format_cardplay fill unless
     play-small k =
         let z : room o < length (play_text cs) = omega arith in
@@ -31,7 +31,7 @@ module _ (cs o : List ℕ) (t : Bool) (et : t ≡ bad_cards cs) where
     play-fits k = (record { room = omega arith }, sym et ∙ h)
 
     pub play-done : need ≤ r → {o' : List ℕ} {n : ℕ} → Put o 0 (play_text cs) o' n
-        → ◌≡◌ {A = Outcome} (record { answer = accepted n; output = o' }) (format_cardplay cs o)
+        → ◌≡◌ {A = Outcome} (record { answer = Ok n; output = o' }) (format_cardplay cs o)
     unfolding format_cardplay fill unless
     play-done k p =
         let z : length (play_text cs) ≤ room o = omega arith in

@@ -1,14 +1,16 @@
 -- A byte put many times, the ranks of a suit, and the length of a hand's text. (01: Writer, md)
 -- Assumes nothing.
 use Prim.Native.Nat.{ℕ, zero, suc, ◌+◌, ◌-◌, ◌*◌, ◌≤◌, ◌<◌}
-use native.Mathlib.Nat.{not-suc-le-zero}
+use native.Mathlib.Numerals.{add-one}
 use native.Mathlib.Omega.{arith}
-use mathlib.Core.Path.{◌≡◌, refl, ap, sym, ◌∙◌}
-use mathlib.Core.List.{List, [], ◌∷◌, ◌++◌, append-nil}
-use lib.ListN.{length, get_or, set, take, drop, replicate, length-append, length-replicate, drop_of_length-le}
+use mathlib.Core.Path.{◌≡◌, refl, ap, sym, subst, ◌∙◌}
+use mathlib.Core.List.{List, [], ◌∷◌, ◌++◌, append-nil, append_assoc}
+use lib.ListN.{length, get_or, take, drop, replicate, length-append, length-replicate, length-take, length-drop, drop_of_length-le}
 use lib.Seq.{drop-drop, get_or-drop}
+use borrow.Rule.Slice.PartMut.{put_mid}
 use borrow.Author.Tests.{eq-eqb, ne_eqb}
 use Rattle.lin_spec.specs.Base.{ascii}
+use Rattle.lin_spec.specs.Output.{overlay}
 use Rattle.lin_spec.specs.Records.{part}
 use Rattle.lin_spec.specs.Cards.{sum}
 use Rattle.lin_spec.specs.Letters.{seat_number, hand_at, hand_length}
@@ -16,28 +18,26 @@ use Rattle.lin_spec.specs.Writer.{ranks_from, suit_text, hand_text}
 use Rattle.lin_spec.specs.declared.Seat.{Seat}
 use Rattle.cards.proofs.HandLaws.{count_at}
 use Rattle.output.specs.Put.{Put}
-use Rattle.output.proofs.Laws.{Left, store, overlay-nil}
+use Rattle.output.proofs.Laws.{Left, overlay-nil}
 use Rattle.writer_cards.specs.Hands.{suits_text}
 
 -- A byte n times
 
-module _ (n b : ℕ) {d : List ℕ} {pos : ℕ} {d₀ : List ℕ} {at : ℕ} {whole : List ℕ} (h : 0 < n) (l : Left d pos (replicate n b) d₀ at whole) where
-  -- there is room for one more
-  pub repeat_inside : pos < length d
-  repeat_inside = omega (arith, l.room, length-replicate n b)
-
-  -- which is then put
-  pub repeat_turn : Left (set d pos b) (pos + 1) (replicate (n - 1) b) d₀ at whole
-  repeat_turn = go n h l
-    where
-      go : (n : ℕ) → 0 < n → Left d pos (replicate n b) d₀ at whole → Left (set d pos b) (pos + 1) (replicate (n - 1) b) d₀ at whole
-      go zero h l = absurd (not-suc-le-zero h)
-      go (suc n) h l = let z : suc n - 1 ≡ n = omega arith in rw z (store l)
-
--- none is left
-pub repeat_end : (n b : ℕ) → n ≤ 0 → replicate n b ≡ []
-repeat_end zero b h = refl
-repeat_end (suc n) b h = absurd (not-suc-le-zero h)
+-- a part of n places that is filled with it
+pub repeat_put : (d : List ℕ) (at n k b : ℕ) (s : List ℕ) → at + n ≤ length d → k ≡ n → s ≡ replicate (length (take k (drop at d))) b
+    → Put d at (replicate n b) (put_mid at k d s) (at + n)
+unfolding overlay
+repeat_put d at n k b s h e f =
+    let long : length (take k (drop at d)) ≡ n = omega (arith, length-take k (drop at d), length-drop at d) in
+    let all : s ≡ replicate n b = f ∙ ap (λ (m : ℕ). replicate m b) long in
+    let q : at + k ≡ at + length (replicate n b) = omega (arith, length-replicate n b) in
+    record {
+      next = omega (arith, length-replicate n b);
+      text =
+          ap (λ (x : List ℕ). put_mid at k d x) all
+          ∙ sym (append_assoc (take at d) (replicate n b) (drop k (drop at d)))
+          ∙ ap (λ (x : List ℕ). take at d ++ replicate n b ++ x) (drop-drop k at d ∙ ap (λ (m : ℕ). drop m d) q);
+    }
 
 -- a byte that stands never, or once
 pub repeat_none : (d : List ℕ) (at n b : ℕ) → n ≡ 0 → Put d at (replicate n b) d at
@@ -48,19 +48,25 @@ repeat_once n b e = rw e
 
 -- Ranks from A down
 
--- the rank after k others of a suit in a deal, with its letter
-pub ranks_cons : (d : List ℕ) (seat suit k n b : ℕ) → k < 13 → suit < 4 → n ≡ get_or d (seat * 52 + suit * 13 + (12 - k)) 0
-    → b ≡ get_or (ascii "23456789TJQKA") (12 - k) 0
-    → ranks_from (part d (seat * 52) 52) (suit * 13) (13 - k) ≡ replicate n b ++ ranks_from (part d (seat * 52) 52) (suit * 13) (13 - (k + 1))
+-- the rank r of a suit in a deal, with its letter, and those below it
+ranks_cons : (d : List ℕ) (seat suit r n b : ℕ) → r < 13 → suit < 4 → n ≡ get_or d (seat * 52 + suit * 13 + r) 0
+    → b ≡ get_or (ascii "23456789TJQKA") r 0
+    → ranks_from (part d (seat * 52) 52) (suit * 13) (r + 1) ≡ replicate n b ++ ranks_from (part d (seat * 52) 52) (suit * 13) r
 unfolding ranks_from
-ranks_cons d seat suit k n b h l en eb =
-    let q : ℕ = 12 - k in
-    let i : ℕ = suit * 13 + q in
-    let x : 13 - k ≡ suc q = omega arith in
-    let y : 13 - (k + 1) ≡ q = omega arith in
-    let z : seat * 52 + suit * 13 + q ≡ seat * 52 + i = omega arith in
+ranks_cons d seat suit r n b h l en eb =
+    let i : ℕ = suit * 13 + r in
+    let z : seat * 52 + suit * 13 + r ≡ seat * 52 + i = omega arith in
     let e : get_or (part d (seat * 52) 52) i 0 ≡ n = sym (count_at d (seat * 52) 52 i (omega arith)) ∙ ap (λ (j : ℕ). get_or d j 0) (sym z) ∙ sym en in
-    rw (x, y, e, ← eb)
+    rw (add-one, e, ← eb) refl
+
+-- what is left to write of the ranks below r, one taken off
+pub ranks-left : (d : List ℕ) (seat suit r n b : ℕ) → 0 < r → r ≤ 13 → suit < 4 → n ≡ get_or d (seat * 52 + suit * 13 + (r - 1)) 0
+    → b ≡ get_or (ascii "23456789TJQKA") (r - 1) 0 → {o : List ℕ} {pos : ℕ} {o₀ : List ℕ} {at : ℕ} {whole : List ℕ}
+    → Left o pos (ranks_from (part d (seat * 52) 52) (suit * 13) r) o₀ at whole
+    → Left o pos (replicate n b ++ ranks_from (part d (seat * 52) 52) (suit * 13) (r - 1)) o₀ at whole
+ranks-left d seat suit r n b h m l en eb {o} {pos} {o₀} {at} {whole} v =
+    let e : r ≡ r - 1 + 1 = omega arith in
+    subst (λ (x : List ℕ). Left o pos x o₀ at whole) (ap (λ (k : ℕ). ranks_from (part d (seat * 52) 52) (suit * 13) k) e ∙ ranks_cons d seat suit (r - 1) n b (omega arith) l en eb) v
 
 -- a suit's letter, and its ranks
 pub suit_is : (h : List ℕ) (u b : ℕ) → b ≡ get_or (ascii "SHDC") u 0 → suit_text h u ≡ (b ∷ []) ++ ranks_from h (u * 13) 13
@@ -68,9 +74,9 @@ unfolding suit_text
 suit_is h u b e = ap (λ (x : ℕ). x ∷ ranks_from h (u * 13) 13) (sym e)
 
 -- no rank is left
-pub ranks-end : (h : List ℕ) (first k : ℕ) → 13 ≤ k → ranks_from h first (13 - k) ≡ []
+pub ranks-end : (h : List ℕ) (first r : ℕ) → r ≤ 0 → ranks_from h first r ≡ []
 unfolding ranks_from
-ranks-end h first k l = let z : 13 - k ≡ 0 = omega arith in rw z
+ranks-end h first r l = let z : r ≡ 0 = omega arith in rw z refl
 
 -- The length of a hand's text
 

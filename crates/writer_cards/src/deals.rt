@@ -11,7 +11,7 @@ ghost use Rattle.writer_cards.specs.Sizes.{Sized, Small};
 use crate::hands::{hand_text_len, put_hand};
 use crate::sizes::Sizes;
 use lin_spec::Seat;
-use output::{put_byte, put_bytes};
+use output::{put, put_all};
 
 const BARE: [u8; 3] = *b",,,";
 
@@ -35,7 +35,7 @@ fn put_east(out: &mut [u8], at: usize, counts: &[u32; 208], sizes: Sizes) -> usi
     if sizes.implied {
         return at;
     }
-    let a = put_byte(out, at, b',');
+    let a = put(out, at, b',');
     put_hand(out, a, counts, Seat::East, sizes.east)
 }
 
@@ -55,11 +55,11 @@ fn put_hands(out: &mut [u8], at: usize, dealer: Seat, counts: &[u32; 208], sizes
     requires { Room out.old at (md_text (record { dealer = dealer; deal = counts.now })) × Sized counts.now sizes }
     ensures { Put out.old at (md_text (record { dealer = dealer; deal = counts.now })) out.new result }
 {
-    let a = put_byte(out, at, dealer_digit(dealer));
+    let a = put(out, at, dealer_digit(dealer));
     let b = put_hand(out, a, counts, Seat::South, sizes.south);
-    let c = put_byte(out, b, b',');
+    let c = put(out, b, b',');
     let d = put_hand(out, c, counts, Seat::West, sizes.west);
-    let e = put_byte(out, d, b',');
+    let e = put(out, d, b',');
     let f = put_hand(out, e, counts, Seat::North, sizes.north);
     put_east(out, f, counts, sizes)
 }
@@ -69,8 +69,8 @@ fn put_bare(out: &mut [u8], at: usize, dealer: Seat) -> usize
     requires { Room out.old at (bare_text dealer) }
     ensures { Put out.old at (bare_text dealer) out.new result }
 {
-    let a = put_byte(out, at, dealer_digit(dealer));
-    put_bytes(out, a, &BARE)
+    let a = put(out, at, dealer_digit(dealer));
+    put_all(out, a, &BARE)
 }
 
 // Puts the value of md.

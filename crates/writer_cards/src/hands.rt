@@ -9,7 +9,7 @@ ghost use Rattle.writer_cards.specs.Hands.{suits_text};
 
 use crate::letters::{rank_letter, suit_letter};
 use lin_spec::{Deal, Seat};
-use output::put_byte;
+use output::put;
 
 // Puts a byte n times.
 fn put_repeated(out: &mut [u8], at: usize, b: u8, n: u32) -> usize
@@ -21,16 +21,11 @@ fn put_repeated(out: &mut [u8], at: usize, b: u8, n: u32) -> usize
     }
     // Most stand once.
     if n == 1 {
-        return put_byte(out, at, b);
+        return put(out, at, b);
     }
-    let mut o = at;
-    let mut left = n;
-    while 0 < left {
-        out[o] = b;
-        o += 1;
-        left -= 1;
-    }
-    o
+    let end = at + n as usize;
+    out[at..end].fill(b);
+    end
 }
 
 // Puts the ranks of a suit of a seat's hand, from A down.
@@ -40,11 +35,8 @@ fn put_ranks(out: &mut [u8], at: usize, counts: &[u32; 208], seat: usize, suit: 
 {
     let first = seat * Deal::CARDS + suit * 13;
     let mut o = at;
-    let mut k = 0;
-    while k < 13 {
-        let r = 12 - k;
+    for r in (0..13).rev() {
         o = put_repeated(out, o, rank_letter(r), counts[first + r]);
-        k += 1;
     }
     o
 }
@@ -54,7 +46,7 @@ fn put_suit(out: &mut [u8], at: usize, counts: &[u32; 208], seat: usize, suit: u
     requires { Room out.old at (suit_text (part counts.now (seat * 52) 52) suit) × (seat < 4) × (suit < 4) }
     ensures { Put out.old at (suit_text (part counts.now (seat * 52) 52) suit) out.new result }
 {
-    let a = put_byte(out, at, suit_letter(suit));
+    let a = put(out, at, suit_letter(suit));
     put_ranks(out, a, counts, seat, suit)
 }
 

@@ -4,7 +4,7 @@ ghost use Rattle.lin_spec.specs.Base.{ascii};
 ghost use Rattle.lin_spec.specs.Writer.{card_letters};
 ghost use Rattle.output.specs.Put.{Room, Put};
 
-use output::put_byte;
+use output::put;
 
 const SUITS: [u8; 4] = *b"SHDC";
 
@@ -31,6 +31,6 @@ pub(crate) fn put_card_letters(out: &mut [u8], at: usize, card: u8) -> usize
     requires { Room out.old at (card_letters card) × (card < 52) }
     ensures { Put out.old at (card_letters card) out.new result }
 {
-    let a = put_byte(out, at, suit_letter((card / 13) as usize));
-    put_byte(out, a, rank_letter((card % 13) as usize))
+    let a = put(out, at, suit_letter((card / 13) as usize));
+    put(out, a, rank_letter((card % 13) as usize))
 }

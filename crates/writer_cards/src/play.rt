@@ -1,7 +1,7 @@
 // The play as a text of its own, by tricks. (01: play text, `format_cardplay_by_trick`)
 ghost use Rattle.std.specs.Prelude.{◌≡◌, false, length};
 ghost use Rattle.lin_spec.specs.Refusals.{sat};
-ghost use Rattle.lin_spec.specs.Output.{Outcome, answer_of};
+ghost use Rattle.lin_spec.specs.Output.{Outcome};
 ghost use Rattle.lin_spec.specs.Lent.{bad_cards};
 ghost use Rattle.lin_spec.specs.Play.{play_text, format_cardplay};
 ghost use Rattle.output.specs.Put.{Room, Put};
@@ -9,8 +9,8 @@ ghost use Rattle.writer_cards.specs.Tricks.{before_card};
 
 use crate::letters::put_card_letters;
 use board_lent::bad_cards;
-use lin_spec::{Refusal, Written, room};
-use output::put_byte;
+use lin_spec::{Refusal, room};
+use output::put;
 
 // Puts what stands before a card: nothing before the first, a pipe before the first of another trick, else a space.
 fn put_between(out: &mut [u8], at: usize, played: usize) -> usize
@@ -21,9 +21,9 @@ fn put_between(out: &mut [u8], at: usize, played: usize) -> usize
         return at;
     }
     if played % 4 == 0 {
-        return put_byte(out, at, b'|');
+        return put(out, at, b'|');
     }
-    put_byte(out, at, b' ')
+    put(out, at, b' ')
 }
 
 // Puts the text of a play.
@@ -31,12 +31,10 @@ fn put_play(out: &mut [u8], cards: &[u8]) -> usize
     requires { Room out.old 0 (play_text cards.now) × (bad_cards cards.now ≡ false) }
     ensures { Put out.old 0 (play_text cards.now) out.new result }
 {
-    let mut i = 0;
     let mut o = 0;
-    while i < cards.len() {
+    for (i, &card) in cards.iter().enumerate() {
         let a = put_between(out, o, i);
-        o = put_card_letters(out, a, cards[i]);
-        i += 1;
+        o = put_card_letters(out, a, card);
     }
     o
 }
@@ -56,16 +54,16 @@ fn play_len(cards: &[u8]) -> u64
 }
 
 // The cards by tricks, `D2 DA D6 D5|S3 S2 SQ SA`, from the first byte of the output on; or a refusal, and nothing is changed.
-pub fn format_cardplay_by_trick(cards: &[u8], out: &mut [u8]) -> Written
-    ensures { ◌≡◌ {A = Outcome} (record { answer = answer_of result; output = out.new }) (format_cardplay cards.now out.old) }
+pub fn format_cardplay_by_trick(cards: &[u8], out: &mut [u8]) -> Result<usize, Refusal>
+    ensures { ◌≡◌ {A = Outcome} (record { answer = result; output = out.new }) (format_cardplay cards.now out.old) }
 {
     if bad_cards(cards) {
-        return Written::Refused(Refusal::OutOfRange);
+        return Err(Refusal::OutOfRange);
     }
     let need = play_len(cards);
     if (room(out.len()) as u64) < need {
-        return Written::Refused(Refusal::OutputTooSmall(need));
+        return Err(Refusal::OutputTooSmall(need));
     }
     let n = put_play(out, cards);
-    Written::Length(n)
+    Ok(n)
 }

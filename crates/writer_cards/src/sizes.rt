@@ -44,12 +44,10 @@ fn is_rest(counts: &[u32; 208], east: u64) -> bool
 {
     let mut n: u64 = 0;
     let mut held = true;
-    let mut c = 0;
-    while c < Deal::CARDS {
+    for c in 0..Deal::CARDS {
         let free = remainder_count(counts, c);
-        held = held & ((counts[3 * Deal::CARDS + c] == 0) | (free != 0));
+        held &= (counts[3 * Deal::CARDS + c] == 0) | (free != 0);
         n += free;
-        c += 1;
     }
     (east == n) & held
 }
@@ -68,16 +66,14 @@ fn is_implied(counts: &[u32; 208], s: u64, w: u64, n: u64, e: u64) -> bool
     is_rest(counts, e)
 }
 
-// Whether a hand has a card.
+// Whether a hand has a card. Each count is looked at, so that many are at once.
 fn has_cards(counts: &[u32; 208]) -> bool
     requires { length counts.now ≡ 208 }
     ensures { result ≡ any counted counts.now }
 {
     let mut found = false;
-    let mut c = 0;
-    while c < 208 {
-        found = found | (counts[c] != 0);
-        c += 1;
+    for &n in counts.iter() {
+        found |= n != 0;
     }
     found
 }

@@ -7,7 +7,7 @@ ghost use Rattle.output.specs.Put.{Room, Put};
 ghost use Rattle.writer_cards.specs.Tricks.{trick_end};
 
 use crate::letters::put_card_letters;
-use output::{put_byte, put_bytes, sat_add};
+use output::{put, put_all, sat_add};
 
 const PC_TEXT: [u8; 3] = *b"pc|";
 
@@ -18,9 +18,9 @@ fn put_pc(out: &mut [u8], at: usize, card: u8) -> usize
     requires { Room out.old at (card_text card) × (card < 52) }
     ensures { Put out.old at (card_text card) out.new result }
 {
-    let a = put_bytes(out, at, &PC_TEXT);
+    let a = put_all(out, at, &PC_TEXT);
     let b = put_card_letters(out, a, card);
-    put_byte(out, b, b'|')
+    put(out, b, b'|')
 }
 
 // Puts what follows a card: the end of the trick after each fourth card and after the last.
@@ -29,7 +29,7 @@ fn put_trick_end(out: &mut [u8], at: usize, played: usize, all: usize) -> usize
     ensures { Put out.old at (trick_end played all) out.new result }
 {
     if (played % 4 == 0) | (played == all) {
-        return put_bytes(out, at, &PG_TEXT);
+        return put_all(out, at, &PG_TEXT);
     }
     at
 }
@@ -39,12 +39,10 @@ pub fn put_tricks(out: &mut [u8], at: usize, cards: &[u8]) -> usize
     requires { Room out.old at (tricks_text cards.now) × (bad_cards cards.now ≡ false) }
     ensures { Put out.old at (tricks_text cards.now) out.new result }
 {
-    let mut i = 0;
     let mut o = at;
-    while i < cards.len() {
-        let a = put_pc(out, o, cards[i]);
-        i += 1;
-        o = put_trick_end(out, a, i, cards.len());
+    for (i, &card) in cards.iter().enumerate() {
+        let a = put_pc(out, o, card);
+        o = put_trick_end(out, a, i + 1, cards.len());
     }
     o
 }

@@ -1,23 +1,22 @@
 -- Laws of cleaned texts: byte by byte, what is left to write, and lengths. (01: Writer, clean)
 -- Assumes nothing.
+use Rattle.std.specs.Prelude.{Option, Some}
 use Prim.Native.Nat.{ℕ, suc, ◌+◌, ◌≤◌, ◌<◌}
 use native.Mathlib.Numerals.{add-one}
 use native.Mathlib.Omega.{arith}
 use mathlib.Core.Path.{◌≡◌, refl, ap, ◌∙◌}
-use mathlib.Core.Bool.{true, false, ◌||◌, not}
+use mathlib.Core.Bool.{Bool, true, false, not, cond}
 use mathlib.Core.List.{List, [], ◌∷◌, ◌++◌, append-nil}
 use lib.ListN.{length, get_or, drop, set, length-append, drop_of_length-le}
 use lib.Seq.{drop-cons}
+use Rattle.std.specs.List.{filter}
 use lib.Dec.{eqb}
-use borrow.Author.Tests.{eq-eqb, ne_eqb}
-use Rattle.lin_spec.specs.Base.{keep, ascii, join_by}
+use borrow.Author.Tests.{eq-eqb}
+use Rattle.lin_spec.specs.Base.{pick, keep, ascii, join_by}
 use Rattle.lin_spec.specs.Records.{bytes_at}
-use Rattle.lin_spec.specs.Tokens.{pipe}
 use Rattle.lin_spec.specs.Writer.{clean, clean_name}
 use Rattle.lin_spec.specs.declared.Span.{Span}
-use Rattle.lin_spec.specs.declared.MaybeSpan.{MaybeSpan}
-use Rattle.lin_spec.specs.declared.MaybeSpan.TheVariants.{Present}
-use Rattle.lin_spec.proofs.Base.{picked, keep_cons}
+use Rattle.lin_spec.proofs.Base.{keep_cons}
 use Rattle.output.specs.Put.{joined}
 use Rattle.output.proofs.Laws.{Left, store}
 use Rattle.writer_texts.specs.Texts.{clean_byte, kept, after_text, header_text, name_at, names_pieces, names_text}
@@ -66,32 +65,24 @@ module _ (p q : ℕ) where
   pub name_end : (s : List ℕ) (j : ℕ) → length s ≤ j → clean_name p q (drop j s) ≡ []
   name_end s j h = rw (drop_of_length-le s h) name_nil
 
-  -- a turn of a loop that writes each byte of a name, and of one that counts them
+  -- a turn of a loop that writes each byte of a name
   pub name_left : (s : List ℕ) (j : ℕ) (h : j < length s) (b : ℕ) → b ≡ clean_byte p q (get_or s j 0) → {d : List ℕ} {pos : ℕ} {d₀ : List ℕ} {at : ℕ} {whole : List ℕ}
       → Left d pos (clean_name p q (drop j s)) d₀ at whole → Left d pos (kept b ++ clean_name p q (drop (j + 1) s)) d₀ at whole
   name_left s j h b e l = rw (name_from s j h b e) at l
 
-  pub name_count : (s : List ℕ) (j : ℕ) (h : j < length s) (b : ℕ) → b ≡ clean_byte p q (get_or s j 0) → length (clean_name p q (drop j s)) ≡ length (kept b) + length (clean_name p q (drop (j + 1) s))
-  name_count s j h b e = ap length (name_from s j h b e) ∙ length-append (kept b) (clean_name p q (drop (j + 1) s))
-
-pub kept_most : (b : ℕ) → length (kept b) ≤ 1
-kept_most b = picked (λ (s : List ℕ). length s ≤ 1) (not (eqb b 0x2C)) (λ _. omega arith) (λ _. omega arith)
-
--- the cases of a byte
-pub byte_pipe : (p q b : ℕ) → b ≡ pipe → p ≡ clean_byte p q b
-byte_pipe p q b e = simp (eq-eqb b pipe e)
-
-pub byte_line : (p q b : ℕ) → (b ≡ pipe → ⊥) → (eqb b 0x0D || eqb b 0x0A) ≡ true → q ≡ clean_byte p q b
-byte_line p q b e f = simp (ne_eqb b pipe e, f)
-
-pub byte_other : (p q b : ℕ) → (b ≡ pipe → ⊥) → (eqb b 0x0D || eqb b 0x0A) ≡ false → b ≡ clean_byte p q b
-byte_other p q b e f = simp (ne_eqb b pipe e, f)
+  -- those of a name that are kept are as many as it is written with
+  pub name_many : (s : List ℕ) → length (filter (λ b. not (eqb (clean_byte p q b) 0x2C)) s) ≡ length (clean_name p q s)
+  unfolding clean keep
+  name_many [] = refl
+  name_many (b ∷ s) = go (not (eqb (clean_byte p q b) 0x2C)) (name_many s)
+    where
+      go : (t : Bool) → length (filter (λ b. not (eqb (clean_byte p q b) 0x2C)) s) ≡ length (clean_name p q s) → length (cond t (b ∷ filter (λ b. not (eqb (clean_byte p q b) 0x2C)) s) (filter (λ b. not (eqb (clean_byte p q b) 0x2C)) s))
+          ≡ length (pick t (clean_byte p q b ∷ clean_name p q s) (clean_name p q s))
+      go true h = ap suc h
+      go false h = h
 
 pub kept_comma : (b : ℕ) → b ≡ 0x2C → kept b ≡ []
 kept_comma b e = simp (eq-eqb b 0x2C e)
-
-pub kept-other : (b : ℕ) → (b ≡ 0x2C → ⊥) → kept b ≡ b ∷ []
-kept-other b e = simp (ne_eqb b 0x2C e)
 
 -- a text after a word
 pub after-length : (p q : ℕ) (w s : List ℕ) → length (after_text p q w s) ≡ length w + length s + 1
@@ -99,13 +90,13 @@ unfolding after_text
 after-length p q w s = simp (length-append, clean-length, append-nil) (omega arith)
 
 -- the header
-pub header-some : (p q : ℕ) (s : List ℕ) (x : Span) → header_text p q s (Present x) ≡ after_text p q (ascii "ah|") (bytes_at s x)
+pub header-some : (p q : ℕ) (s : List ℕ) (x : Span) → header_text p q s (Some x) ≡ after_text p q (ascii "ah|") (bytes_at s x)
 unfolding after_text
 header-some p q s x = simp append-nil
 
-pub header-long : (p q : ℕ) (s : List ℕ) (x : MaybeSpan) (y : Span) → x ≡ Present y → length (header_text p q s x) ≡ length (bytes_at s y) + 4
+pub header-long : (p q : ℕ) (s : List ℕ) (x : Option Span) (y : Span) → x ≡ Some y → length (header_text p q s x) ≡ length (bytes_at s y) + 4
 header-long p q s x y e =
-    let k = ap (λ (z : MaybeSpan). length (header_text p q s z)) e ∙ ap length (header-some p q s y) in
+    let k = ap (λ (z : Option Span). length (header_text p q s z)) e ∙ ap length (header-some p q s y) in
     let l = after-length p q (ascii "ah|") (bytes_at s y) in
     omega arith
 

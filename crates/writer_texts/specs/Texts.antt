@@ -1,12 +1,11 @@
 -- A byte cleaned, and the texts that are put, as pieces. (01: Writer, clean)
-use Rattle.std.specs.Prelude.{ℕ, ◌||◌, not, List, [], ◌∷◌, map, get_or, eqb}
+use Rattle.std.specs.Prelude.{ℕ, ◌||◌, not, List, [], ◌∷◌, map, get_or, eqb, Option}
 use Rattle.lin_spec.specs.Base.{pick, ascii, join_by}
-use Rattle.lin_spec.specs.Records.{span, bytes_at, option_of}
+use Rattle.lin_spec.specs.Records.{span, bytes_at}
 use Rattle.lin_spec.specs.Tokens.{pipe}
 use Rattle.lin_spec.specs.Board.{map_option}
 use Rattle.lin_spec.specs.Writer.{clean, clean_name, or_empty, optional}
 use Rattle.lin_spec.specs.declared.Span.{Span}
-use Rattle.lin_spec.specs.declared.MaybeSpan.{MaybeSpan}
 use Rattle.output.specs.Put.{joined}
 
 -- "pipe to `/`, CR and LF each to a space"
@@ -21,11 +20,11 @@ unfoldable pub after_text : (p q : ℕ) (word s : List ℕ) → List ℕ
 after_text p q w s = joined (after_pieces p q w s)
 
 -- the text of a title or a room, and of a header
-abbrev pub empty_or : (text : List ℕ) → MaybeSpan → List ℕ
-empty_or s x = or_empty (map_option (bytes_at s) (option_of x))
+abbrev pub empty_or : (text : List ℕ) → Option Span → List ℕ
+empty_or s x = or_empty (map_option (bytes_at s) x)
 
-abbrev pub header_text : (p q : ℕ) (text : List ℕ) → MaybeSpan → List ℕ
-header_text p q s x = optional (ascii "ah|") (map_option (clean p q) (map_option (bytes_at s) (option_of x)))
+abbrev pub header_text : (p q : ℕ) (text : List ℕ) → Option Span → List ℕ
+header_text p q s x = optional (ascii "ah|") (map_option (clean p q) (map_option (bytes_at s) x))
 
 -- "names then lose commas": a byte of a name
 abbrev pub kept : ℕ → List ℕ

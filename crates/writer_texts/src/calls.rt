@@ -5,9 +5,9 @@ ghost use Rattle.output.specs.Put.{Room, Put};
 ghost use Rattle.writer_texts.specs.Calls.{alert_text, an_text, call_bytes, calls_bytes};
 
 use crate::texts::{Marks, clean_len, put_after, put_clean};
-use board_lent::call_at;
+use board_lent::call_of;
 use lin_spec::Call;
-use output::{put_byte, put_bytes, sat_add};
+use output::{put, put_all, sat_add};
 
 const MB_TEXT: [u8; 3] = *b"mb|";
 
@@ -21,7 +21,7 @@ fn put_alert(out: &mut [u8], at: usize, alerted: u32) -> usize
     if alerted == 0 {
         return at;
     }
-    put_byte(out, at, b'!')
+    put(out, at, b'!')
 }
 
 fn alert_len(alerted: u32) -> u64
@@ -58,10 +58,10 @@ pub fn put_call(out: &mut [u8], at: usize, text: &[u8], c: Call, marks: Marks) -
     requires { Room out.old at (call_bytes marks.pipe marks.line text.now c) }
     ensures { Put out.old at (call_bytes marks.pipe marks.line text.now c) out.new result }
 {
-    let a = put_bytes(out, at, &MB_TEXT);
+    let a = put_all(out, at, &MB_TEXT);
     let b = put_clean(out, a, text, c.bid, marks);
     let d = put_alert(out, b, c.alerted);
-    let e = put_byte(out, d, b'|');
+    let e = put(out, d, b'|');
     put_an(out, e, text, c, marks)
 }
 
@@ -78,11 +78,9 @@ pub fn put_calls(out: &mut [u8], at: usize, text: &[u8], rows: &[u32], marks: Ma
     requires { Room out.old at (calls_bytes marks.pipe marks.line text.now rows.now) }
     ensures { Put out.old at (calls_bytes marks.pipe marks.line text.now rows.now) out.new result }
 {
-    let mut i = 0;
     let mut o = at;
-    while 6 <= rows.len() - i {
-        o = put_call(out, o, text, call_at(rows, i), marks);
-        i += 6;
+    for &row in rows.as_chunks::<6>().0 {
+        o = put_call(out, o, text, call_of(row), marks);
     }
     o
 }
@@ -90,11 +88,9 @@ pub fn put_calls(out: &mut [u8], at: usize, text: &[u8], rows: &[u32], marks: Ma
 pub fn calls_len(text: &[u8], rows: &[u32]) -> u64
     ensures { (p q : ℕ) → result ≡ sat (length (calls_bytes p q text.now rows.now)) }
 {
-    let mut i = 0;
     let mut n = 0;
-    while 6 <= rows.len() - i {
-        n = sat_add(n, call_len(text, call_at(rows, i)));
-        i += 6;
+    for &row in rows.as_chunks::<6>().0 {
+        n = sat_add(n, call_len(text, call_of(row)));
     }
     n
 }

@@ -8,7 +8,7 @@ ghost use Rattle.writer_texts.specs.Texts.{kept, names_text};
 
 use crate::texts::{Marks, clean_byte};
 use lin_spec::Span;
-use output::{put_byte, sat_add};
+use output::{put, sat_add};
 use text::shown;
 
 // Puts a byte of a name, unless it is a comma.
@@ -19,16 +19,7 @@ fn put_kept(out: &mut [u8], at: usize, b: u8) -> usize
     if b == b',' {
         return at;
     }
-    put_byte(out, at, b)
-}
-
-fn kept_len(b: u8) -> u64
-    ensures { result ≡ length (kept b) }
-{
-    if b != b',' {
-        return 1;
-    }
-    0
+    put(out, at, b)
 }
 
 // Puts a name.
@@ -36,11 +27,9 @@ fn put_name_bytes(out: &mut [u8], at: usize, s: &[u8], marks: Marks) -> usize
     requires { Room out.old at (clean_name marks.pipe marks.line s.now) }
     ensures { Put out.old at (clean_name marks.pipe marks.line s.now) out.new result }
 {
-    let mut j = 0;
     let mut o = at;
-    while j < s.len() {
-        o = put_kept(out, o, clean_byte(s[j], marks));
-        j += 1;
+    for &b in s {
+        o = put_kept(out, o, clean_byte(b, marks));
     }
     o
 }
@@ -48,13 +37,7 @@ fn put_name_bytes(out: &mut [u8], at: usize, s: &[u8], marks: Marks) -> usize
 fn name_bytes_len(s: &[u8], marks: Marks) -> u64
     ensures { result ≡ length (clean_name marks.pipe marks.line s.now) }
 {
-    let mut j = 0;
-    let mut n = 0;
-    while j < s.len() {
-        n += kept_len(clean_byte(s[j], marks));
-        j += 1;
-    }
-    n
+    s.iter().filter(|b| clean_byte(**b, marks) != b',').count() as u64
 }
 
 // Puts the name of a span.
@@ -77,11 +60,11 @@ pub fn put_names(out: &mut [u8], at: usize, text: &[u8], names: [Span; 4], marks
     ensures { Put out.old at (names_text marks.pipe marks.line text.now names) out.new result }
 {
     let a = put_name(out, at, text, names[0], marks);
-    let b = put_byte(out, a, b',');
+    let b = put(out, a, b',');
     let c = put_name(out, b, text, names[1], marks);
-    let d = put_byte(out, c, b',');
+    let d = put(out, c, b',');
     let e = put_name(out, d, text, names[2], marks);
-    let f = put_byte(out, e, b',');
+    let f = put(out, e, b',');
     put_name(out, f, text, names[3], marks)
 }
 

@@ -7,8 +7,8 @@ ghost use Rattle.lin_spec.specs.Writer.{clean};
 ghost use Rattle.output.specs.Put.{Room, Put};
 ghost use Rattle.writer_texts.specs.Texts.{clean_byte, after_text, empty_or, header_text};
 
-use lin_spec::{MaybeSpan, Span};
-use output::{put_byte, put_bytes, sat_add};
+use lin_spec::Span;
+use output::{put, put_all, sat_add};
 use text::shown;
 
 // What cleaning puts for a pipe, and for each CR and LF.
@@ -44,10 +44,8 @@ pub fn clean_part(out: &mut [u8], from: usize, to: usize, marks: Marks)
     requires { (from ≤ to) × (to ≤ length out.old) }
     ensures { out.new ≡ overlay out.old from (clean marks.pipe marks.line (part out.old from (to - from))) }
 {
-    let mut i = from;
-    while i < to {
-        out[i] = clean_byte(out[i], marks);
-        i += 1;
+    for b in out[from..to].iter_mut() {
+        *b = clean_byte(*b, marks);
     }
 }
 
@@ -56,12 +54,10 @@ fn put_clean_bytes(out: &mut [u8], at: usize, s: &[u8], marks: Marks) -> usize
     requires { Room out.old at (clean marks.pipe marks.line s.now) }
     ensures { Put out.old at (clean marks.pipe marks.line s.now) out.new result }
 {
-    let mut j = 0;
     let mut o = at;
-    while j < s.len() {
-        out[o] = clean_byte(s[j], marks);
+    for &b in s {
+        out[o] = clean_byte(b, marks);
         o += 1;
-        j += 1;
     }
     o
 }
@@ -92,47 +88,47 @@ pub(crate) fn put_after(
     requires { Room out.old at (after_text marks.pipe marks.line word.now (bytes_at text.now x)) }
     ensures { Put out.old at (after_text marks.pipe marks.line word.now (bytes_at text.now x)) out.new result }
 {
-    let a = put_bytes(out, at, word);
+    let a = put_all(out, at, word);
     let b = put_clean(out, a, text, x, marks);
-    put_byte(out, b, b'|')
+    put(out, b, b'|')
 }
 
 // Puts a text, cleaned, nothing where it is absent.
-pub fn put_text(out: &mut [u8], at: usize, text: &[u8], x: MaybeSpan, marks: Marks) -> usize
+pub fn put_text(out: &mut [u8], at: usize, text: &[u8], x: Option<Span>, marks: Marks) -> usize
     requires { Room out.old at (clean marks.pipe marks.line (empty_or text.now x)) }
     ensures { Put out.old at (clean marks.pipe marks.line (empty_or text.now x)) out.new result }
 {
     match x {
-        MaybeSpan::Absent => at,
-        MaybeSpan::Present(y) => put_clean(out, at, text, y, marks),
+        None => at,
+        Some(y) => put_clean(out, at, text, y, marks),
     }
 }
 
-pub fn text_len(text: &[u8], x: MaybeSpan) -> u64
+pub fn text_len(text: &[u8], x: Option<Span>) -> u64
     ensures { result ≡ length (empty_or text.now x) }
 {
     match x {
-        MaybeSpan::Absent => 0,
-        MaybeSpan::Present(y) => clean_len(text, y),
+        None => 0,
+        Some(y) => clean_len(text, y),
     }
 }
 
 // Puts the header, nothing where it is absent.
-pub fn put_ah(out: &mut [u8], at: usize, text: &[u8], x: MaybeSpan, marks: Marks) -> usize
+pub fn put_ah(out: &mut [u8], at: usize, text: &[u8], x: Option<Span>, marks: Marks) -> usize
     requires { Room out.old at (header_text marks.pipe marks.line text.now x) }
     ensures { Put out.old at (header_text marks.pipe marks.line text.now x) out.new result }
 {
     match x {
-        MaybeSpan::Absent => at,
-        MaybeSpan::Present(y) => put_after(out, at, &AH_TEXT, text, y, marks),
+        None => at,
+        Some(y) => put_after(out, at, &AH_TEXT, text, y, marks),
     }
 }
 
-pub fn header_len(text: &[u8], x: MaybeSpan) -> u64
+pub fn header_len(text: &[u8], x: Option<Span>) -> u64
     ensures { (p q : ℕ) → result ≡ sat (length (header_text p q text.now x)) }
 {
     match x {
-        MaybeSpan::Absent => 0,
-        MaybeSpan::Present(y) => sat_add(4, clean_len(text, y)),
+        None => 0,
+        Some(y) => sat_add(4, clean_len(text, y)),
     }
 }

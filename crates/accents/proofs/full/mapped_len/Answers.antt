@@ -1,16 +1,9 @@
 -- `accents::full::mapped_len` meets its contract. The loop's invariant: n are counted up to i. The measure is what is left of the length.
-use native.Mathlib.Omega.{arith}
 use Rattle.accents.proofs.FullLaws.{count-start, count_next, count-end}
 use Rattle.accents.proofs.full.mapped_len.Goals as goal
 
 pub loop-i-init : goal.loop-i-init
 loop-i-init c = count-start _
-
-pub overflow_add-n : goal.overflow_add-n
-overflow_add-n c = omega (arith, c.loop-i.invariant.most, c.full_of-f.ensures.few, c.requires.1)
-
-pub loop-i-smaller : goal.loop-i-smaller
-loop-i-smaller c = omega (arith, c.char_at-c.ensures.on)
 
 pub loop-i-preserved : goal.loop-i-preserved
 loop-i-preserved c = count_next c.args.s.now _ _ _ _ _ c.loop-i.invariant c.char_at-c.ensures c.full_of-f.ensures

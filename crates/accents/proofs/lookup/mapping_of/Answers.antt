@@ -1,11 +1,10 @@
 -- `accents::lookup::mapping_of` meets its contract: by the line that the search finds.
 use mathlib.Core.Path.{sym, ◌∙◌}
-use borrow.Author.Tests.{not-true}
 use Rattle.accents.proofs.LineLaws.{outside_lines, past-lines, other-there, one-there, two-there}
 use Rattle.accents.proofs.lookup.mapping_of.Goals as goal
 
 pub returns-then-not-near_lines : goal.returns-then-not-near_lines
-returns-then-not-near_lines c = outside_lines _ (sym c.near_lines.ensures ∙ not-true _ c.if-not-near_lines.true-raw)
+returns-then-not-near_lines c = outside_lines _ (sym c.near_lines.ensures ∙ c.if-not-near_lines.true)
 
 pub returns-then-i-ge501 : goal.returns-then-i-ge501
 returns-then-i-ge501 c = past-lines _ _ c.line_of-i.ensures c.if-i-ge501.true

@@ -1,10 +1,6 @@
 -- `accents_names::names::lay_sought` meets its contract: nothing is to be put, or the front holds what is put.
-use mathlib.Core.Path.{refl}
-use Rattle.accents_names.proofs.NameLaws.{laid-ascii, laid_put, put_long}
+use Rattle.accents_names.proofs.NameLaws.{laid_put, put_long}
 use Rattle.accents_names.proofs.names.lay_sought.Goals as goal
-
-pub returns-then-sought : goal.returns-then-sought
-returns-then-sought c = (laid-ascii c.args.name.now c.args.sought _ c.requires.0 c.if-sought.true, refl)
 
 pub returns : goal.returns
 returns c = (laid_put c.args.name.now c.args.sought _ _ _ c.requires.0 c.requires.1.room c.put_mapped.ensures, put_long _ _ _ _ _ c.requires.1.room c.put_mapped.ensures)

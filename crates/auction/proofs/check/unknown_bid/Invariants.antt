@@ -1,11 +1,6 @@
 -- `auction::unknown_bid` meets its contract: a turn looks at a row.
-use Prim.Native.Nat.{◌-◌}
-use lib.ListN.{length}
 use Rattle.auction.proofs.SearchLaws.{Searched}
 use Rattle.auction.proofs.check.unknown_bid.Given as goal
 
 abbrev pub invariant-loop-i : goal.invariant-loop-i
-invariant-loop-i l = Searched l.text l.rows l.i
-
-abbrev pub decreases-loop-i : goal.decreases-loop-i
-decreases-loop-i l = length l.rows - l.i
+invariant-loop-i l = Searched l.text l.row-items l.i

@@ -12,17 +12,17 @@ loop-c-init c = all-cards _ _ _ c.requires.0
 pub next_card-requires : goal.next_card-requires
 next_card-requires c = c.requires.1
 
-pub put_byte-n-requires : goal.put_byte-n-requires
-put_byte-n-requires c = roomy _ _ (card-left _ _ c.loop-c.invariant _ _ (given-card _ _ _ _ c.next_card.ensures c.in-Found.is))
+pub put-n-requires : goal.put-n-requires
+put-n-requires c = roomy _ _ (card-left _ _ c.loop-c.invariant _ _ (given-card _ _ _ _ c.next_card.ensures c.in-Some.is))
 
 pub loop-c-smaller : goal.loop-c-smaller
-loop-c-smaller c = let e = ap length (given-card _ _ _ _ c.next_card.ensures c.in-Found.is) in omega arith
+loop-c-smaller c = let e = ap length (given-card _ _ _ _ c.next_card.ensures c.in-Some.is) in omega arith
 
 pub loop-c-preserved : goal.loop-c-preserved
-loop-c-preserved c = step (card-left _ _ c.loop-c.invariant _ _ (given-card _ _ _ _ c.next_card.ensures c.in-Found.is)) c.put_byte-n.ensures
+loop-c-preserved c = step (card-left _ _ c.loop-c.invariant _ _ (given-card _ _ _ _ c.next_card.ensures c.in-Some.is)) c.put-n.ensures
 
-pub shape_of-cards-in-Ended : goal.shape_of-cards-in-Ended
-shape_of-cards-in-Ended c = c.loop-c.invariant.long
+pub shape_of-cards-in-None : goal.shape_of-cards-in-None
+shape_of-cards-in-None c = c.loop-c.invariant.long
 
-pub returns-in-Ended : goal.returns-in-Ended
-returns-in-Ended c = finish (cards-left _ _ c.loop-c.invariant (given-card _ _ _ _ c.next_card.ensures c.in-Ended.is))
+pub returns-in-None : goal.returns-in-None
+returns-in-None c = finish (cards-left _ _ c.loop-c.invariant (given-card _ _ _ _ c.next_card.ensures c.in-None.is))

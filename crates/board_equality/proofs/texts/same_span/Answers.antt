@@ -5,6 +5,3 @@ use Rattle.board_equality.proofs.texts.same_span.Goals as goal
 
 pub returns-then-near : goal.returns-then-near
 returns-then-near c = near-span c.args.text.now c.args.text2.now c.args.first c.requires c.args.x c.args.y (sym c.near.ensures ∙ c.if-near.true)
-
-pub returns : goal.returns
-returns c = rw (c.shown.ensures, c.shown-2.ensures) at c.same_bytes.ensures

@@ -4,11 +4,8 @@ use mathlib.Core.List.{List}
 use Prim.Native.Nat.{ℕ}
 use Rattle.lin_spec.specs.Tokens.{cut}
 use Rattle.board_fields.specs.Fields.{names_from}
-use Rattle.board_fields.proofs.FieldLaws.{off, changed, names-by, value-end}
+use Rattle.board_fields.proofs.FieldLaws.{changed, names-by, value-end}
 use Rattle.board_fields.proofs.fields.on_names.Goals as goal
-
-pub returns-then-not-on : goal.returns-then-not-on
-returns-then-not-on c = let a = c.args in off a.on _ _ c.if-not-on.true-raw
 
 pub split_names-requires : goal.split_names-requires
 split_names-requires c = value-end c.args.text.now c.args.v _ c.requires.0 c.requires.1 c.shown.ensures

@@ -4,8 +4,8 @@ use lib.Dec.{ltb}
 use Rattle.board_lent.proofs.LentLaws.{all-each, or_each}
 use Rattle.board_lent.proofs.checks.bad_cards.Goals as goal
 
-pub loop-i-preserved : goal.loop-i-preserved
-loop-i-preserved c = or_each (ltb 51) 0 _ _ c.loop-i.bad c.loop-i.invariant c.loop-i-test.true _ refl
+pub loop-card-preserved : goal.loop-card-preserved
+loop-card-preserved c = or_each (ltb 51) 0 _ _ c.loop-card.bad c.loop-card.invariant c.loop-card-test.true _ refl
 
 pub returns : goal.returns
-returns c = all-each (ltb 51) 0 _ _ _ c.loop-i.invariant c.loop-i-test.false
+returns c = all-each (ltb 51) 0 _ _ _ c.loop-card.invariant c.loop-card-test.false

@@ -2,7 +2,6 @@
 use native.Mathlib.Omega.{arith}
 use mathlib.Core.Path.{refl, ap, ◌∙◌}
 use lib.ListN.{length}
-use Rattle.lin_spec.specs.Records.{option_of}
 use Rattle.lin_spec.specs.Board.{without_end}
 use Rattle.board_loop.proofs.CallLaws.{call-row, bid-short}
 use Rattle.board_loop.proofs.calls.call_of.Goals as goal
@@ -15,4 +14,4 @@ returns c = let a = c.args in
     c.new.ensures
     ∙ call-row a.text.now a.v _ _ c.requires
     (c.bid_len-n.ensures.0 ∙ ap (λ x. length (without_end 0x21 x)) c.shown.ensures)
-    refl (option_of a.annotation) refl
+    refl a.annotation refl

@@ -11,4 +11,4 @@ pub returns-in_default : goal.returns-in_default
 returns-in_default c = none-dealt _ c.requires.0 ∙ md-none _ _ c.if-s-eq0.false (sym c.dealer_of.ensures ∙ ap seat_of c.in_default.is)
 
 pub returns : goal.returns
-returns c = md-given _ _ _ c.if-s-eq0.false (sym c.dealer_of.ensures ∙ ap seat_of c.in-Given.is) _ c.count_deal.ensures
+returns c = md-given _ _ _ c.if-s-eq0.false (sym c.dealer_of.ensures ∙ ap seat_of c.in-Some.is) _ c.count_deal.ensures

@@ -4,7 +4,7 @@ use mathlib.Core.Path.{refl}
 use Rattle.cards.specs.Letters.{table}
 use Rattle.document_commands.proofs.StepLaws.{tokened}
 use Rattle.board_loop.proofs.HeadLaws.{stepped_none}
-use Rattle.board_loop.proofs.StoringLaws.{into_begin, into_end, rows_long, cards-long, one-room, one_put, card-room, into_card, into_step, call-room, into_call, rows_most, into_note}
+use Rattle.board_loop.proofs.StoringLaws.{into_begin, into_end, one-room, one_put, card-room, into_card, into_step, call-room, into_call, rows_most, into_note}
 use Rattle.board_loop.proofs.storing.read_into.Goals as goal
 
 pub loop-card-init : goal.loop-card-init
@@ -13,14 +13,11 @@ loop-card-init c = rw c.fresh_head-h.ensures (into_begin _ _ _ _ c.requires)
 pub board_token-requires : goal.board_token-requires
 board_token-requires c = (unfold table in refl, c.requires.short)
 
-pub put_byte-requires : goal.put_byte-requires
-put_byte-requires c = let t = tokened _ _ _ _ c.board_token.ensures c.in-Card.is in one-room _ _ _ _ _ t.card (card-room _ _ _ _ c.requires _ _ _ _ c.loop-card.invariant _ _ _ t.token refl)
-
-pub loop-card-smaller-in-Card : goal.loop-card-smaller-in-Card
-loop-card-smaller-in-Card c = let t = (tokened _ _ _ _ c.board_token.ensures c.in-Card.is).token in omega (arith, t.later, t.within)
+pub put-requires : goal.put-requires
+put-requires c = let t = tokened _ _ _ _ c.board_token.ensures c.in-Card.is in one-room _ _ _ _ _ t.card (card-room _ _ _ _ c.requires _ _ _ _ c.loop-card.invariant _ _ _ t.token refl)
 
 pub loop-card-preserved-in-Card : goal.loop-card-preserved-in-Card
-loop-card-preserved-in-Card c = let t = tokened _ _ _ _ c.board_token.ensures c.in-Card.is in into_card _ _ _ _ c.requires _ _ _ _ c.loop-card.invariant _ _ _ t.token refl _ _ (one_put _ _ _ _ _ t.card _ _ c.put_byte.ensures)
+loop-card-preserved-in-Card c = let t = tokened _ _ _ _ c.board_token.ensures c.in-Card.is in into_card _ _ _ _ c.requires _ _ _ _ c.loop-card.invariant _ _ _ t.token refl _ _ (one_put _ _ _ _ _ t.card _ _ c.put.ensures)
 
 pub store_card-requires : goal.store_card-requires
 store_card-requires c = card-room _ _ _ _ c.requires _ _ _ _ c.loop-card.invariant _ _ _ (tokened _ _ _ _ c.board_token.ensures c.in-Known.is) c.if-k-eq-PC.true
@@ -31,44 +28,20 @@ store_bid-requires c = let t = tokened _ _ _ _ c.board_token.ensures c.in-Known.
 pub store_last-requires : goal.store_last-requires
 store_last-requires c = rows_most _ _ _ _ c.requires _ _ _ _ c.loop-card.invariant
 
-pub step-h-requires : goal.step-h-requires
-step-h-requires c = ((tokened _ _ _ _ c.board_token.ensures c.in-Known.is).value, c.requires.short, c.if-k-eq-PC.false, c.if-k-eq-MB.false)
-
-pub loop-card-smaller-then-k-eq-PC : goal.loop-card-smaller-then-k-eq-PC
-loop-card-smaller-then-k-eq-PC c = let t = (tokened _ _ _ _ c.board_token.ensures c.in-Known.is) in omega (arith, t.later, t.within)
-
 pub loop-card-preserved-then-k-eq-PC : goal.loop-card-preserved-then-k-eq-PC
 loop-card-preserved-then-k-eq-PC c = into_card _ _ _ _ c.requires _ _ _ _ c.loop-card.invariant _ _ _ (tokened _ _ _ _ c.board_token.ensures c.in-Known.is) c.if-k-eq-PC.true _ _ c.store_card.ensures
-
-pub loop-card-smaller-then-k-eq-MB : goal.loop-card-smaller-then-k-eq-MB
-loop-card-smaller-then-k-eq-MB c = let t = (tokened _ _ _ _ c.board_token.ensures c.in-Known.is) in omega (arith, t.later, t.within)
 
 pub loop-card-preserved-then-k-eq-MB : goal.loop-card-preserved-then-k-eq-MB
 loop-card-preserved-then-k-eq-MB c = into_call _ _ _ _ c.requires _ _ _ _ c.loop-card.invariant _ _ _ (tokened _ _ _ _ c.board_token.ensures c.in-Known.is) c.if-k-eq-MB.true _ c.store_bid.ensures.1 _ c.store_bid.ensures.0
 
-pub loop-card-smaller-then-k-eq-AN : goal.loop-card-smaller-then-k-eq-AN
-loop-card-smaller-then-k-eq-AN c = let t = (tokened _ _ _ _ c.board_token.ensures c.in-Known.is) in omega (arith, t.later, t.within)
-
 pub loop-card-preserved-then-k-eq-AN : goal.loop-card-preserved-then-k-eq-AN
 loop-card-preserved-then-k-eq-AN c = into_note _ _ _ _ c.requires _ _ _ _ c.loop-card.invariant _ _ _ (tokened _ _ _ _ c.board_token.ensures c.in-Known.is) c.if-k-eq-AN.true _ c.store_last.ensures
-
-pub loop-card-smaller-else-k-eq-AN : goal.loop-card-smaller-else-k-eq-AN
-loop-card-smaller-else-k-eq-AN c = let t = (tokened _ _ _ _ c.board_token.ensures c.in-Known.is) in omega (arith, t.later, t.within)
 
 pub loop-card-preserved-else-k-eq-AN : goal.loop-card-preserved-else-k-eq-AN
 loop-card-preserved-else-k-eq-AN c = into_step _ _ _ _ c.requires _ _ _ _ c.loop-card.invariant _ _ _ (tokened _ _ _ _ c.board_token.ensures c.in-Known.is) c.if-k-eq-PC.false c.if-k-eq-MB.false c.if-k-eq-AN.false _ c.step-h.ensures
 
-pub loop-card-smaller : goal.loop-card-smaller
-loop-card-smaller c = let t = (tokened _ _ _ _ c.board_token.ensures c.in-Other.is).token in omega (arith, t.later, t.within)
-
 pub loop-card-preserved : goal.loop-card-preserved
 loop-card-preserved c = let t = tokened _ _ _ _ c.board_token.ensures c.in-Other.is in into_step _ _ _ _ c.requires _ _ _ _ c.loop-card.invariant _ _ _ t.token (λ e. omega (arith, e, t.unknown)) (λ e. omega (arith, e, t.unknown)) (λ e. omega (arith, e, t.unknown)) _ (stepped_none _ _ _ _ t.unknown)
-
-pub shape_of-rows-in-Ended : goal.shape_of-rows-in-Ended
-shape_of-rows-in-Ended c = rows_long _ _ _ _ c.requires _ _ _ _ c.loop-card.invariant
-
-pub shape_of-cards-in-Ended : goal.shape_of-cards-in-Ended
-shape_of-cards-in-Ended c = cards-long _ _ _ _ c.requires _ _ _ _ c.loop-card.invariant
 
 pub returns-in-Ended : goal.returns-in-Ended
 returns-in-Ended c = into_end _ _ _ _ c.requires _ _ _ _ c.loop-card.invariant (tokened _ _ _ _ c.board_token.ensures c.in-Ended.is)

@@ -19,13 +19,13 @@ pub returns-then-is_page : goal.returns-then-is_page
 returns-then-is_page c = record { number = _; value = _; token = page_token _ _ _ c.after_line-a.ensures (c.is_page.ensures c.if-is_page.true); unknown = omega arith }
 
 pub returns-then-k-gt-MC : goal.returns-then-k-gt-MC
-returns-then-k-gt-MC c = record { number = _; value = _; token = commanded _ _ _ _ c.next_command.ensures c.in-Token.is; unknown = c.if-k-gt-MC.true }
+returns-then-k-gt-MC c = record { number = _; value = _; token = commanded _ _ _ _ c.next_command.ensures c.in-Some.is; unknown = c.if-k-gt-MC.true }
 
 pub span_of-requires : goal.span_of-requires
-span_of-requires c = value-short _ _ _ _ _ (commanded _ _ _ _ c.next_command.ensures c.in-Token.is) c.requires.1
+span_of-requires c = value-short _ _ _ _ _ (commanded _ _ _ _ c.next_command.ensures c.in-Some.is) c.requires.1
 
 pub returns-else-k-gt-MC : goal.returns-else-k-gt-MC
-returns-else-k-gt-MC c = spanned _ _ _ _ _ _ c.span_of.ensures (commanded _ _ _ _ c.next_command.ensures c.in-Token.is)
+returns-else-k-gt-MC c = spanned _ _ _ _ _ _ c.span_of.ensures (commanded _ _ _ _ c.next_command.ensures c.in-Some.is)
 
-pub returns-in-Ended : goal.returns-in-Ended
-returns-in-Ended c = commanded _ _ _ _ c.next_command.ensures c.in-Ended.is
+pub returns-in-None : goal.returns-in-None
+returns-in-None c = commanded _ _ _ _ c.next_command.ensures c.in-None.is

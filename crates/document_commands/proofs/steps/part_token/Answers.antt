@@ -13,8 +13,8 @@ returns-then-text-q c = pair-none _ _ _ _ c.after_line-a.ensures (c.is_unmarked.
 pub returns-then-is_unmarked : goal.returns-then-is_unmarked
 returns-then-is_unmarked c = passed-token _ _ _ _ c.after_line-a.ensures (c.is_unmarked.ensures c.if-is_unmarked.true) c.next_pipe-q.ensures c.if-text-q.false
 
-pub returns-in-Token : goal.returns-in-Token
-returns-in-Token c = record { value = _; token = commanded _ _ _ _ c.next_command.ensures c.in-Token.is }
+pub returns-in-Some : goal.returns-in-Some
+returns-in-Some c = record { value = _; token = commanded _ _ _ _ c.next_command.ensures c.in-Some.is }
 
-pub returns-in-Ended : goal.returns-in-Ended
-returns-in-Ended c = commanded _ _ _ _ c.next_command.ensures c.in-Ended.is
+pub returns-in-None : goal.returns-in-None
+returns-in-None c = commanded _ _ _ _ c.next_command.ensures c.in-None.is

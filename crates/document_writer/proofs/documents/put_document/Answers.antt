@@ -7,24 +7,10 @@ use Rattle.lin_spec.specs.Records.{bytes_at}
 use Rattle.lin_spec.specs.Document.{document_text}
 use Rattle.document_writer.specs.declared.documents.Run.{Run}
 use Rattle.document_writer.specs.Rows.{run_text, RunAt}
-use Rattle.output.proofs.Laws.{Left, start, roomy, step, finish}
+use Rattle.output.proofs.Laws.{Left, roomy, step, finish}
 use Rattle.document_writer.proofs.RowLaws.{trailing-left}
 use Rattle.document_writer.proofs.RunLaws.{run-left}
 use Rattle.document_writer.proofs.documents.put_document.Goals as goal
-
-pub loop-i-init : goal.loop-i-init
-loop-i-init c = (omega arith, start c.requires)
-
-pub put_run-o-requires : goal.put_run-o-requires
-put_run-o-requires c =
-    let turn : (r : Run) → RunAt c.args.text.now c.args.rows.now c.loop-i.i r → Left c.loop-i.out c.loop-i.o (run_text c.args.text.now c.args.rows.now c.loop-i.i r ++ document_text c.args.text.now (drop (c.loop-i.i + r.words) c.args.rows.now) c.args.trailing) c.args.out.now 0 (document_text c.args.text.now c.args.rows.now c.args.trailing) = λ r v. run-left c.args.text.now c.args.rows.now c.loop-i.i c.args.trailing c.loop-i.invariant.1 r v in
-    (roomy _ _ (turn _ c.run_at-run.ensures), omega arith)
-
-pub overflow_add-i : goal.overflow_add-i
-overflow_add-i c = omega (arith, c.run_at-run.ensures.within)
-
-pub loop-i-smaller : goal.loop-i-smaller
-loop-i-smaller c = omega (arith, c.run_at-run.ensures.within, c.run_at-run.ensures.some)
 
 pub loop-i-preserved : goal.loop-i-preserved
 loop-i-preserved c =
@@ -36,11 +22,6 @@ pub put_span-requires : goal.put_span-requires
 put_span-requires c =
     let last : Left c.loop-i.out c.loop-i.o (bytes_at c.args.text.now c.args.trailing ++ []) c.args.out.now 0 (document_text c.args.text.now c.args.rows.now c.args.trailing) = trailing-left c.args.text.now c.args.rows.now c.args.trailing c.loop-i.i c.loop-i.invariant.1 (omega arith) in
     roomy _ _ (last)
-
-pub shape_of-out : goal.shape_of-out
-shape_of-out c =
-    let last : Left c.loop-i.out c.loop-i.o (bytes_at c.args.text.now c.args.trailing ++ []) c.args.out.now 0 (document_text c.args.text.now c.args.rows.now c.args.trailing) = trailing-left c.args.text.now c.args.rows.now c.args.trailing c.loop-i.i c.loop-i.invariant.1 (omega arith) in
-    (step (last) c.put_span.ensures).long
 
 pub returns : goal.returns
 returns c =

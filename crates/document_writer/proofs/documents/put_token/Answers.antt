@@ -11,8 +11,8 @@ put_span-a-requires c =
     let after-0 : (Left c.args.out.now c.args.at (joined (drop 0 (token_pieces c.args.text.now c.args.row))) c.args.out.now c.args.at (token_text c.args.text.now c.args.row)) = unfold token_text in start c.requires in
     roomy _ _ (after-0)
 
-pub put_byte-b-requires : goal.put_byte-b-requires
-put_byte-b-requires c =
+pub put-b-requires : goal.put-b-requires
+put-b-requires c =
     let after-0 : (Left c.args.out.now c.args.at (joined (drop 0 (token_pieces c.args.text.now c.args.row))) c.args.out.now c.args.at (token_text c.args.text.now c.args.row)) = unfold token_text in start c.requires in
     let after-1 : (Left c.put_span-a.new.out c.put_span-a.result (joined (drop 1 (token_pieces c.args.text.now c.args.row))) c.args.out.now c.args.at (token_text c.args.text.now c.args.row)) = step (after-0) c.put_span-a.ensures in
     roomy _ _ (after-1)
@@ -21,31 +21,22 @@ pub put_span-c-requires : goal.put_span-c-requires
 put_span-c-requires c =
     let after-0 : (Left c.args.out.now c.args.at (joined (drop 0 (token_pieces c.args.text.now c.args.row))) c.args.out.now c.args.at (token_text c.args.text.now c.args.row)) = unfold token_text in start c.requires in
     let after-1 : (Left c.put_span-a.new.out c.put_span-a.result (joined (drop 1 (token_pieces c.args.text.now c.args.row))) c.args.out.now c.args.at (token_text c.args.text.now c.args.row)) = step (after-0) c.put_span-a.ensures in
-    let after-2 : (Left c.put_byte-b.new.out c.put_byte-b.result (joined (drop 2 (token_pieces c.args.text.now c.args.row))) c.args.out.now c.args.at (token_text c.args.text.now c.args.row)) = step (after-1) c.put_byte-b.ensures in
+    let after-2 : (Left c.put-b.new.out c.put-b.result (joined (drop 2 (token_pieces c.args.text.now c.args.row))) c.args.out.now c.args.at (token_text c.args.text.now c.args.row)) = step (after-1) c.put-b.ensures in
     roomy _ _ (after-2)
 
-pub put_byte-requires : goal.put_byte-requires
-put_byte-requires c =
+pub put-requires : goal.put-requires
+put-requires c =
     let after-0 : (Left c.args.out.now c.args.at (joined (drop 0 (token_pieces c.args.text.now c.args.row))) c.args.out.now c.args.at (token_text c.args.text.now c.args.row)) = unfold token_text in start c.requires in
     let after-1 : (Left c.put_span-a.new.out c.put_span-a.result (joined (drop 1 (token_pieces c.args.text.now c.args.row))) c.args.out.now c.args.at (token_text c.args.text.now c.args.row)) = step (after-0) c.put_span-a.ensures in
-    let after-2 : (Left c.put_byte-b.new.out c.put_byte-b.result (joined (drop 2 (token_pieces c.args.text.now c.args.row))) c.args.out.now c.args.at (token_text c.args.text.now c.args.row)) = step (after-1) c.put_byte-b.ensures in
+    let after-2 : (Left c.put-b.new.out c.put-b.result (joined (drop 2 (token_pieces c.args.text.now c.args.row))) c.args.out.now c.args.at (token_text c.args.text.now c.args.row)) = step (after-1) c.put-b.ensures in
     let after-3 : (Left c.put_span-c.new.out c.put_span-c.result (joined (drop 3 (token_pieces c.args.text.now c.args.row))) c.args.out.now c.args.at (token_text c.args.text.now c.args.row)) = step (after-2) c.put_span-c.ensures in
     roomy _ _ (after-3)
-
-pub shape_of-out : goal.shape_of-out
-shape_of-out c =
-    let after-0 : (Left c.args.out.now c.args.at (joined (drop 0 (token_pieces c.args.text.now c.args.row))) c.args.out.now c.args.at (token_text c.args.text.now c.args.row)) = unfold token_text in start c.requires in
-    let after-1 : (Left c.put_span-a.new.out c.put_span-a.result (joined (drop 1 (token_pieces c.args.text.now c.args.row))) c.args.out.now c.args.at (token_text c.args.text.now c.args.row)) = step (after-0) c.put_span-a.ensures in
-    let after-2 : (Left c.put_byte-b.new.out c.put_byte-b.result (joined (drop 2 (token_pieces c.args.text.now c.args.row))) c.args.out.now c.args.at (token_text c.args.text.now c.args.row)) = step (after-1) c.put_byte-b.ensures in
-    let after-3 : (Left c.put_span-c.new.out c.put_span-c.result (joined (drop 3 (token_pieces c.args.text.now c.args.row))) c.args.out.now c.args.at (token_text c.args.text.now c.args.row)) = step (after-2) c.put_span-c.ensures in
-    let after-4 : (Left c.put_byte.new.out c.put_byte.result (joined (drop 4 (token_pieces c.args.text.now c.args.row))) c.args.out.now c.args.at (token_text c.args.text.now c.args.row)) = step (after-3) c.put_byte.ensures in
-    (after-4).long
 
 pub returns : goal.returns
 returns c =
     let after-0 : (Left c.args.out.now c.args.at (joined (drop 0 (token_pieces c.args.text.now c.args.row))) c.args.out.now c.args.at (token_text c.args.text.now c.args.row)) = unfold token_text in start c.requires in
     let after-1 : (Left c.put_span-a.new.out c.put_span-a.result (joined (drop 1 (token_pieces c.args.text.now c.args.row))) c.args.out.now c.args.at (token_text c.args.text.now c.args.row)) = step (after-0) c.put_span-a.ensures in
-    let after-2 : (Left c.put_byte-b.new.out c.put_byte-b.result (joined (drop 2 (token_pieces c.args.text.now c.args.row))) c.args.out.now c.args.at (token_text c.args.text.now c.args.row)) = step (after-1) c.put_byte-b.ensures in
+    let after-2 : (Left c.put-b.new.out c.put-b.result (joined (drop 2 (token_pieces c.args.text.now c.args.row))) c.args.out.now c.args.at (token_text c.args.text.now c.args.row)) = step (after-1) c.put-b.ensures in
     let after-3 : (Left c.put_span-c.new.out c.put_span-c.result (joined (drop 3 (token_pieces c.args.text.now c.args.row))) c.args.out.now c.args.at (token_text c.args.text.now c.args.row)) = step (after-2) c.put_span-c.ensures in
-    let after-4 : (Left c.put_byte.new.out c.put_byte.result (joined (drop 4 (token_pieces c.args.text.now c.args.row))) c.args.out.now c.args.at (token_text c.args.text.now c.args.row)) = step (after-3) c.put_byte.ensures in
+    let after-4 : (Left c.put.new.out c.put.result (joined (drop 4 (token_pieces c.args.text.now c.args.row))) c.args.out.now c.args.at (token_text c.args.text.now c.args.row)) = step (after-3) c.put.ensures in
     finish (after-4)

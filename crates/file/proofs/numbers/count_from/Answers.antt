@@ -4,14 +4,14 @@ use Rattle.file_sections.proofs.WayLaws.{way_begin, way_on, way_end}
 use native.Mathlib.Omega.{arith}
 use Rattle.file.proofs.numbers.count_from.Goals as goal
 
-pub loop-next-init : goal.loop-next-init
-loop-next-init c = way_begin _ _ c.requires
+pub loop-c-init : goal.loop-c-init
+loop-c-init c = way_begin _ _ c.requires
 
-pub loop-next-smaller : goal.loop-next-smaller
-loop-next-smaller c = let f = seen _ _ _ _ c.next.ensures c.in-Found.is in omega (arith, f.later, f.within)
+pub loop-c-smaller : goal.loop-c-smaller
+loop-c-smaller c = let f = seen _ _ _ _ c.next-step.ensures c.in-Some.is in omega (arith, f.later, f.within)
 
-pub loop-next-preserved : goal.loop-next-preserved
-loop-next-preserved c = way_on _ _ c.loop-next.invariant _ _ _ (seen _ _ _ _ c.next.ensures c.in-Found.is)
+pub loop-c-preserved : goal.loop-c-preserved
+loop-c-preserved c = way_on _ _ c.loop-c.invariant _ _ _ (seen _ _ _ _ c.next-step.ensures c.in-Some.is)
 
-pub returns-in-Ended : goal.returns-in-Ended
-returns-in-Ended c = way_end _ _ c.loop-next.invariant (seen _ _ _ _ c.next.ensures c.in-Ended.is).1
+pub returns-in_default : goal.returns-in_default
+returns-in_default c = way_end _ _ c.loop-c.invariant (seen _ _ _ _ c.next-step.ensures c.in_default.is).1

@@ -5,8 +5,8 @@ use lib.ListN.{length}
 use Prim.Native.Nat.{◌+◌, ◌-◌}
 use Rattle.file.proofs.numbers.count_from.Given as goal
 
-abbrev pub invariant-loop-next : goal.invariant-loop-next
-invariant-loop-next l = Way l.text (standing_of l.c)
+abbrev pub invariant-loop-c : goal.invariant-loop-c
+invariant-loop-c l = Way l.text (standing_of l.c)
 
-abbrev pub decreases-loop-next : goal.decreases-loop-next
-decreases-loop-next l = length l.text + 2 - l.c.at
+abbrev pub decreases-loop-c : goal.decreases-loop-c
+decreases-loop-c l = length l.text + 2 - l.c.at

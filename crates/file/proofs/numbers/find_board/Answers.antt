@@ -8,13 +8,13 @@ pub loop-n-init : goal.loop-n-init
 loop-n-init c = seeks_begin _ _ _ c.requires
 
 pub returns-then-p-n : goal.returns-then-p-n
-returns-then-p-n c = seeks_found _ _ _ c.loop-n.invariant _ _ _ (seen _ _ _ _ c.next.ensures c.in-Found.is) c.if-p-n.true
+returns-then-p-n c = seeks_found _ _ _ c.loop-n.invariant _ _ _ (seen _ _ _ _ c.next-step.ensures c.in-Some.is) c.if-p-n.true
 
 pub loop-n-smaller : goal.loop-n-smaller
-loop-n-smaller c = let f = seen _ _ _ _ c.next.ensures c.in-Found.is in omega (arith, f.later, f.within)
+loop-n-smaller c = let f = seen _ _ _ _ c.next-step.ensures c.in-Some.is in omega (arith, f.later, f.within)
 
 pub loop-n-preserved : goal.loop-n-preserved
-loop-n-preserved c = seeks_on _ _ _ c.loop-n.invariant _ _ _ (seen _ _ _ _ c.next.ensures c.in-Found.is) c.if-p-n.false
+loop-n-preserved c = seeks_on _ _ _ c.loop-n.invariant _ _ _ (seen _ _ _ _ c.next-step.ensures c.in-Some.is) c.if-p-n.false
 
-pub returns-in-Ended : goal.returns-in-Ended
-returns-in-Ended c = seeks_missing _ _ _ c.loop-n.invariant (seen _ _ _ _ c.next.ensures c.in-Ended.is).1
+pub returns-in_default : goal.returns-in_default
+returns-in_default c = seeks_missing _ _ _ c.loop-n.invariant (seen _ _ _ _ c.next-step.ensures c.in_default.is).1

@@ -1,15 +1,24 @@
 -- `file_reader::read_board` meets its contract: each answer by the step that was found.
-use Rattle.file_reader.proofs.StepLaws.{step_long, step_inside, step_found, step_ended}
+use mathlib.Core.Path.{◌∙◌, ap}
+use Rattle.file_reader.specs.Steps.{read_of}
+use Rattle.file_reader.proofs.StepLaws.{step_long, step_inside, step_read, step_ended}
 use Rattle.file_reader.proofs.steps.read_board.Goals as goal
 
 pub returns-then-text-gt-LIMIT : goal.returns-then-text-gt-LIMIT
-returns-then-text-gt-LIMIT c = step_long c.args.text.now c.args.c c.args.rows.now c.args.cards.now c.if-text-gt-LIMIT.true _ c.unread.ensures
+returns-then-text-gt-LIMIT c =
+    ap (λ x. read_of x c.args.rows.now c.args.cards.now) c.refused.ensures
+    ∙ step_long c.args.text.now c.args.cursor c.args.rows.now c.args.cards.now c.if-text-gt-LIMIT.true
+
+pub returns-in_default : goal.returns-in_default
+returns-in_default c = step_ended c.args.text.now c.args.cursor c.args.rows.now c.args.cards.now c.if-text-gt-LIMIT.false _ c.next_board-step.ensures c.in_default.is _ c.none_left.ensures
 
 pub read_found-requires : goal.read_found-requires
-read_found-requires c = step_inside c.args.text.now c.args.c c.args.rows.now c.args.cards.now c.if-text-gt-LIMIT.false _ c.next_board.ensures _ _ _ c.in-Found.is
+read_found-requires c = step_inside c.args.text.now c.args.cursor c.args.rows.now c.args.cards.now c.if-text-gt-LIMIT.false _ c.next_board-step.ensures _ _ c.in-Some.is
 
-pub returns-in-Found : goal.returns-in-Found
-returns-in-Found c = step_found c.args.text.now c.args.c c.args.rows.now c.args.cards.now c.if-text-gt-LIMIT.false _ c.next_board.ensures _ _ _ c.in-Found.is c.read_found.ensures
+pub returns-in-Ok : goal.returns-in-Ok
+returns-in-Ok c = step_read c.args.text.now c.args.cursor c.args.rows.now c.args.cards.now c.if-text-gt-LIMIT.false _ c.next_board-step.ensures _ _ c.in-Some.is _ _ _ c.read_found.ensures _ c.in-Ok.is
 
-pub returns-in-Ended : goal.returns-in-Ended
-returns-in-Ended c = step_ended c.args.text.now c.args.c c.args.rows.now c.args.cards.now c.if-text-gt-LIMIT.false _ c.next_board.ensures _ c.in-Ended.is _ c.none_left.ensures _ c.unread-in-Ended.ensures
+pub returns-in-Err : goal.returns-in-Err
+returns-in-Err c =
+    ap (λ x. read_of x c.read_found.new.rows c.read_found.new.cards) c.refused-in-Err.ensures
+    ∙ step_read c.args.text.now c.args.cursor c.args.rows.now c.args.cards.now c.if-text-gt-LIMIT.false _ c.next_board-step.ensures _ _ c.in-Some.is _ _ _ c.read_found.ensures _ c.in-Err.is

@@ -6,13 +6,13 @@ use native.Mathlib.Omega.{arith}
 use Rattle.file_sections.proofs.sections.holds_qx.Goals as goal
 
 pub returns-then-k-eq-QX : goal.returns-then-k-eq-QX
-returns-then-k-eq-QX c = qx-here _ _ _ _ _ (commanded _ _ _ _ c.next_command.ensures c.in-Token.is) c.if-k-eq-QX.true ∙ c.loop-k.invariant
+returns-then-k-eq-QX c = qx-here _ _ _ _ _ (commanded _ _ _ _ c.next_command.ensures c.in-Some.is) c.if-k-eq-QX.true ∙ c.loop-k.invariant
 
 pub loop-k-smaller : goal.loop-k-smaller
-loop-k-smaller c = let t = commanded _ _ _ _ c.next_command.ensures c.in-Token.is in omega (arith, t.later, t.within)
+loop-k-smaller c = let t = commanded _ _ _ _ c.next_command.ensures c.in-Some.is in omega (arith, t.later, t.within)
 
 pub loop-k-preserved : goal.loop-k-preserved
-loop-k-preserved c = qx-later _ _ _ _ _ (commanded _ _ _ _ c.next_command.ensures c.in-Token.is) c.if-k-eq-QX.false ∙ c.loop-k.invariant
+loop-k-preserved c = qx-later _ _ _ _ _ (commanded _ _ _ _ c.next_command.ensures c.in-Some.is) c.if-k-eq-QX.false ∙ c.loop-k.invariant
 
-pub returns-in-Ended : goal.returns-in-Ended
-returns-in-Ended c = no_qx _ _ (commanded _ _ _ _ c.next_command.ensures c.in-Ended.is) ∙ c.loop-k.invariant
+pub returns : goal.returns
+returns c = no_qx _ _ (commanded _ _ _ _ c.next_command.ensures c.in_default.is) ∙ c.loop-k.invariant

@@ -5,8 +5,8 @@ use lib.ListN.{length}
 use Prim.Native.Nat.{◌+◌, ◌-◌}
 use Rattle.file_sections.proofs.sections.next_board.Given as goal
 
-abbrev pub invariant-loop-n : goal.invariant-loop-n
-invariant-loop-n l = Seeking l.text (standing_of l.cursor) (standing_of l.c)
+abbrev pub invariant-loop-p : goal.invariant-loop-p
+invariant-loop-p l = Seeking l.text (standing_of l.cursor) (standing_of l.c)
 
-abbrev pub decreases-loop-n : goal.decreases-loop-n
-decreases-loop-n l = length l.text + 2 - l.c.at
+abbrev pub decreases-loop-p : goal.decreases-loop-p
+decreases-loop-p l = length l.text + 2 - l.c.at

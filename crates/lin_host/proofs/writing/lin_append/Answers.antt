@@ -13,9 +13,6 @@ use Rattle.lin_host.proofs.writing.lin_append.Goals as goal
 lent_typed : (s : Lts.Start Tie.the-claims Reads.Pre Reads.Post) → TypedNumbers s.args.board
 lent_typed s = numbers_typed s.args.board _ s.well_formed.1.0
 
-pub append_head-requires : goal.append_head-requires
-append_head-requires c = (numbers_typed c.args.board _ c.well_formed.1.0).counts
-
 pub returns : goal.returns
-returns c = rw c.written.ensures
-    (ap outcome_numbers c.append_head.ensures ∙ appending c.args.text.now c.args.board c.args.rows.now c.args.cards.now c.args.out.now c.args.used c.bad_codes-other.ensures c.coded_head-head.ensures)
+returns c = rw c.answer_numbers.ensures
+    (ap outcome_numbers c.append_head.ensures ∙ appending c.args.text.now c.args.board c.args.rows.now c.args.cards.now c.args.out.now c.args.used c.bad_codes.ensures c.coded_head.ensures)

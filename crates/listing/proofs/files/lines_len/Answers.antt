@@ -9,13 +9,13 @@ pub loop-number-init : goal.loop-number-init
 loop-number-init c = measured_begin _ _ c.requires
 
 pub section_len-requires : goal.section_len-requires
-section_len-requires c = found_inside _ _ c.loop-number.invariant.way _ _ _ (seen _ _ _ _ c.next.ensures c.in-Found.is)
+section_len-requires c = found_inside _ _ c.loop-number.invariant.way _ _ _ (seen _ _ _ _ c.next-step.ensures c.in-Some.is)
 
 pub loop-number-smaller : goal.loop-number-smaller
-loop-number-smaller c = let f = seen _ _ _ _ c.next.ensures c.in-Found.is in omega (arith, f.later, f.within)
+loop-number-smaller c = let f = seen _ _ _ _ c.next-step.ensures c.in-Some.is in omega (arith, f.later, f.within)
 
 pub loop-number-preserved : goal.loop-number-preserved
-loop-number-preserved c = measured-on _ _ _ c.loop-number.invariant _ _ _ (seen _ _ _ _ c.next.ensures c.in-Found.is) _ c.section_len.ensures _ c.sat_add-n.ensures
+loop-number-preserved c = measured-on _ _ _ c.loop-number.invariant _ _ _ (seen _ _ _ _ c.next-step.ensures c.in-Some.is) _ c.section_len.ensures _ c.sat_add-n.ensures
 
-pub returns-in-Ended : goal.returns-in-Ended
-returns-in-Ended c = measured-end _ _ _ c.loop-number.invariant (seen _ _ _ _ c.next.ensures c.in-Ended.is).1
+pub returns-in_default : goal.returns-in_default
+returns-in_default c = measured-end _ _ _ c.loop-number.invariant (seen _ _ _ _ c.next-step.ensures c.in_default.is).1

@@ -7,10 +7,10 @@ pub returns-then-text-gt-LIST_LIMIT : goal.returns-then-text-gt-LIST_LIMIT
 returns-then-text-gt-LIST_LIMIT c = as_listed _ _ _ c.refusal_line.ensures (list_over _ c.if-text-gt-LIST_LIMIT.true)
 
 pub list_from-requires : goal.list_from-requires
-list_from-requires c = at_first _ _ c.open_boards.ensures _ c.in-At.is
+list_from-requires c = at_first _ _ c.open_boards.ensures _ c.in-Ok.is
 
-pub returns-in-At : goal.returns-in-At
-returns-in-At c = as_listed _ _ _ c.list_from.ensures (list_boards _ c.if-text-gt-LIST_LIMIT.false _ c.open_boards.ensures _ c.in-At.is)
+pub returns-in-Ok : goal.returns-in-Ok
+returns-in-Ok c = as_listed _ _ _ c.list_from.ensures (list_boards _ c.if-text-gt-LIST_LIMIT.false _ c.open_boards.ensures _ c.in-Ok.is)
 
-pub returns-in-Refused : goal.returns-in-Refused
-returns-in-Refused c = as_listed _ _ _ c.refusal_line-in-Refused.ensures (list_refused _ c.if-text-gt-LIST_LIMIT.false _ c.open_boards.ensures _ c.in-Refused.is)
+pub returns-in-Err : goal.returns-in-Err
+returns-in-Err c = as_listed _ _ _ c.refusal_line-in-Err.ensures (list_refused _ c.if-text-gt-LIST_LIMIT.false _ c.open_boards.ensures _ c.in-Err.is)

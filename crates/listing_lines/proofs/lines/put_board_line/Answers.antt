@@ -43,8 +43,8 @@ put_field-e-requires c =
     let after-4 : (Left c.put_field-d.new.out c.put_field-d.result (joined (drop 4 (line_pieces c.args.number c.args.heading))) c.args.out.now c.args.at (board_line c.args.number c.args.heading)) = step (after-3) c.put_field-d.ensures in
     roomy _ _ (after-4)
 
-pub put_byte-f-requires : goal.put_byte-f-requires
-put_byte-f-requires c =
+pub put-f-requires : goal.put-f-requires
+put-f-requires c =
     let after-0 : (Left c.args.out.now c.args.at (joined (drop 0 (line_pieces c.args.number c.args.heading))) c.args.out.now c.args.at (board_line c.args.number c.args.heading)) = rw (← board-is c.args.number c.args.heading) (start c.requires) in
     let after-1 : (Left c.put_decimal-a.new.out c.put_decimal-a.result (joined (drop 1 (line_pieces c.args.number c.args.heading))) c.args.out.now c.args.at (board_line c.args.number c.args.heading)) = step (after-0) c.put_decimal-a.ensures in
     let after-2 : (Left c.put_letters-b.new.out c.put_letters-b.result (joined (drop 2 (line_pieces c.args.number c.args.heading))) c.args.out.now c.args.at (board_line c.args.number c.args.heading)) = step (after-1) c.put_letters-b.ensures in
@@ -61,33 +61,20 @@ put_claim-g-requires c =
     let after-3 : (Left c.put_lengths-c.new.out c.put_lengths-c.result (joined (drop 3 (line_pieces c.args.number c.args.heading))) c.args.out.now c.args.at (board_line c.args.number c.args.heading)) = step (after-2) c.put_lengths-c.ensures in
     let after-4 : (Left c.put_field-d.new.out c.put_field-d.result (joined (drop 4 (line_pieces c.args.number c.args.heading))) c.args.out.now c.args.at (board_line c.args.number c.args.heading)) = step (after-3) c.put_field-d.ensures in
     let after-5 : (Left c.put_field-e.new.out c.put_field-e.result (joined (drop 5 (line_pieces c.args.number c.args.heading))) c.args.out.now c.args.at (board_line c.args.number c.args.heading)) = step (after-4) c.put_field-e.ensures in
-    let after-6 : (Left c.put_byte-f.new.out c.put_byte-f.result (joined (drop 6 (line_pieces c.args.number c.args.heading))) c.args.out.now c.args.at (board_line c.args.number c.args.heading)) = step (after-5) c.put_byte-f.ensures in
+    let after-6 : (Left c.put-f.new.out c.put-f.result (joined (drop 6 (line_pieces c.args.number c.args.heading))) c.args.out.now c.args.at (board_line c.args.number c.args.heading)) = step (after-5) c.put-f.ensures in
     roomy _ _ (after-6)
 
-pub put_byte-requires : goal.put_byte-requires
-put_byte-requires c =
+pub put-requires : goal.put-requires
+put-requires c =
     let after-0 : (Left c.args.out.now c.args.at (joined (drop 0 (line_pieces c.args.number c.args.heading))) c.args.out.now c.args.at (board_line c.args.number c.args.heading)) = rw (← board-is c.args.number c.args.heading) (start c.requires) in
     let after-1 : (Left c.put_decimal-a.new.out c.put_decimal-a.result (joined (drop 1 (line_pieces c.args.number c.args.heading))) c.args.out.now c.args.at (board_line c.args.number c.args.heading)) = step (after-0) c.put_decimal-a.ensures in
     let after-2 : (Left c.put_letters-b.new.out c.put_letters-b.result (joined (drop 2 (line_pieces c.args.number c.args.heading))) c.args.out.now c.args.at (board_line c.args.number c.args.heading)) = step (after-1) c.put_letters-b.ensures in
     let after-3 : (Left c.put_lengths-c.new.out c.put_lengths-c.result (joined (drop 3 (line_pieces c.args.number c.args.heading))) c.args.out.now c.args.at (board_line c.args.number c.args.heading)) = step (after-2) c.put_lengths-c.ensures in
     let after-4 : (Left c.put_field-d.new.out c.put_field-d.result (joined (drop 4 (line_pieces c.args.number c.args.heading))) c.args.out.now c.args.at (board_line c.args.number c.args.heading)) = step (after-3) c.put_field-d.ensures in
     let after-5 : (Left c.put_field-e.new.out c.put_field-e.result (joined (drop 5 (line_pieces c.args.number c.args.heading))) c.args.out.now c.args.at (board_line c.args.number c.args.heading)) = step (after-4) c.put_field-e.ensures in
-    let after-6 : (Left c.put_byte-f.new.out c.put_byte-f.result (joined (drop 6 (line_pieces c.args.number c.args.heading))) c.args.out.now c.args.at (board_line c.args.number c.args.heading)) = step (after-5) c.put_byte-f.ensures in
+    let after-6 : (Left c.put-f.new.out c.put-f.result (joined (drop 6 (line_pieces c.args.number c.args.heading))) c.args.out.now c.args.at (board_line c.args.number c.args.heading)) = step (after-5) c.put-f.ensures in
     let after-7 : (Left c.put_claim-g.new.out c.put_claim-g.result (joined (drop 7 (line_pieces c.args.number c.args.heading))) c.args.out.now c.args.at (board_line c.args.number c.args.heading)) = step (after-6) c.put_claim-g.ensures in
     roomy _ _ (after-7)
-
-pub shape_of-out : goal.shape_of-out
-shape_of-out c =
-    let after-0 : (Left c.args.out.now c.args.at (joined (drop 0 (line_pieces c.args.number c.args.heading))) c.args.out.now c.args.at (board_line c.args.number c.args.heading)) = rw (← board-is c.args.number c.args.heading) (start c.requires) in
-    let after-1 : (Left c.put_decimal-a.new.out c.put_decimal-a.result (joined (drop 1 (line_pieces c.args.number c.args.heading))) c.args.out.now c.args.at (board_line c.args.number c.args.heading)) = step (after-0) c.put_decimal-a.ensures in
-    let after-2 : (Left c.put_letters-b.new.out c.put_letters-b.result (joined (drop 2 (line_pieces c.args.number c.args.heading))) c.args.out.now c.args.at (board_line c.args.number c.args.heading)) = step (after-1) c.put_letters-b.ensures in
-    let after-3 : (Left c.put_lengths-c.new.out c.put_lengths-c.result (joined (drop 3 (line_pieces c.args.number c.args.heading))) c.args.out.now c.args.at (board_line c.args.number c.args.heading)) = step (after-2) c.put_lengths-c.ensures in
-    let after-4 : (Left c.put_field-d.new.out c.put_field-d.result (joined (drop 4 (line_pieces c.args.number c.args.heading))) c.args.out.now c.args.at (board_line c.args.number c.args.heading)) = step (after-3) c.put_field-d.ensures in
-    let after-5 : (Left c.put_field-e.new.out c.put_field-e.result (joined (drop 5 (line_pieces c.args.number c.args.heading))) c.args.out.now c.args.at (board_line c.args.number c.args.heading)) = step (after-4) c.put_field-e.ensures in
-    let after-6 : (Left c.put_byte-f.new.out c.put_byte-f.result (joined (drop 6 (line_pieces c.args.number c.args.heading))) c.args.out.now c.args.at (board_line c.args.number c.args.heading)) = step (after-5) c.put_byte-f.ensures in
-    let after-7 : (Left c.put_claim-g.new.out c.put_claim-g.result (joined (drop 7 (line_pieces c.args.number c.args.heading))) c.args.out.now c.args.at (board_line c.args.number c.args.heading)) = step (after-6) c.put_claim-g.ensures in
-    let after-8 : (Left c.put_byte.new.out c.put_byte.result (joined (drop 8 (line_pieces c.args.number c.args.heading))) c.args.out.now c.args.at (board_line c.args.number c.args.heading)) = step (after-7) c.put_byte.ensures in
-    (after-8).long
 
 pub returns : goal.returns
 returns c =
@@ -97,7 +84,7 @@ returns c =
     let after-3 : (Left c.put_lengths-c.new.out c.put_lengths-c.result (joined (drop 3 (line_pieces c.args.number c.args.heading))) c.args.out.now c.args.at (board_line c.args.number c.args.heading)) = step (after-2) c.put_lengths-c.ensures in
     let after-4 : (Left c.put_field-d.new.out c.put_field-d.result (joined (drop 4 (line_pieces c.args.number c.args.heading))) c.args.out.now c.args.at (board_line c.args.number c.args.heading)) = step (after-3) c.put_field-d.ensures in
     let after-5 : (Left c.put_field-e.new.out c.put_field-e.result (joined (drop 5 (line_pieces c.args.number c.args.heading))) c.args.out.now c.args.at (board_line c.args.number c.args.heading)) = step (after-4) c.put_field-e.ensures in
-    let after-6 : (Left c.put_byte-f.new.out c.put_byte-f.result (joined (drop 6 (line_pieces c.args.number c.args.heading))) c.args.out.now c.args.at (board_line c.args.number c.args.heading)) = step (after-5) c.put_byte-f.ensures in
+    let after-6 : (Left c.put-f.new.out c.put-f.result (joined (drop 6 (line_pieces c.args.number c.args.heading))) c.args.out.now c.args.at (board_line c.args.number c.args.heading)) = step (after-5) c.put-f.ensures in
     let after-7 : (Left c.put_claim-g.new.out c.put_claim-g.result (joined (drop 7 (line_pieces c.args.number c.args.heading))) c.args.out.now c.args.at (board_line c.args.number c.args.heading)) = step (after-6) c.put_claim-g.ensures in
-    let after-8 : (Left c.put_byte.new.out c.put_byte.result (joined (drop 8 (line_pieces c.args.number c.args.heading))) c.args.out.now c.args.at (board_line c.args.number c.args.heading)) = step (after-7) c.put_byte.ensures in
+    let after-8 : (Left c.put.new.out c.put.result (joined (drop 8 (line_pieces c.args.number c.args.heading))) c.args.out.now c.args.at (board_line c.args.number c.args.heading)) = step (after-7) c.put.ensures in
     finish (after-8)

@@ -2,8 +2,8 @@
 use Rattle.listing_lines.proofs.LineLaws.{header_is}
 use Rattle.listing_lines.proofs.lines.put_header.Goals as goal
 
-pub put_bytes-requires : goal.put_bytes-requires
-put_bytes-requires c = record { room = (rw header_is at c.requires).room }
+pub put_all-requires : goal.put_all-requires
+put_all-requires c = record { room = (rw header_is at c.requires).room }
 
 pub returns : goal.returns
-returns c = rw header_is c.put_bytes.ensures
+returns c = rw header_is c.put_all.ensures

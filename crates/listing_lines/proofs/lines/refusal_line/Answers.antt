@@ -1,12 +1,9 @@
 -- `listing_lines::refusal_line` meets its contract: its answer by the test that led there.
-use Rattle.listing_lines.proofs.Answers.{line_small, line-fits, line-done}
+use Rattle.listing_lines.proofs.Answers.{line_small, line-done}
 use Rattle.listing_lines.proofs.lines.refusal_line.Goals as goal
 
 pub returns-then-room-need : goal.returns-then-room-need
 returns-then-room-need c = line_small _ _ _ c.refusal_line_len-need.ensures _ c.room.ensures c.if-room-need.true
-
-pub put_refusal_line-n-requires : goal.put_refusal_line-n-requires
-put_refusal_line-n-requires c = line-fits _ _ _ c.refusal_line_len-need.ensures _ c.room.ensures c.if-room-need.false
 
 pub returns : goal.returns
 returns c = line-done _ _ _ c.refusal_line_len-need.ensures _ c.room.ensures c.if-room-need.false c.put_refusal_line-n.ensures

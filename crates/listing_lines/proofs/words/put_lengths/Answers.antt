@@ -32,15 +32,6 @@ put_length-requires c =
     let after-3 : (Left c.put_length-c.new.out c.put_length-c.result (joined (drop 3 (lengths_pieces c.args.deal.counts))) c.args.out.now c.args.at (lengths_text c.args.deal.counts)) = step (after-2) c.put_length-c.ensures in
     roomy _ _ (after-3)
 
-pub shape_of-out : goal.shape_of-out
-shape_of-out c =
-    let after-0 : (Left c.args.out.now c.args.at (joined (drop 0 (lengths_pieces c.args.deal.counts))) c.args.out.now c.args.at (lengths_text c.args.deal.counts)) = unfold lengths_text in start c.requires in
-    let after-1 : (Left c.put_length-a.new.out c.put_length-a.result (joined (drop 1 (lengths_pieces c.args.deal.counts))) c.args.out.now c.args.at (lengths_text c.args.deal.counts)) = step (after-0) c.put_length-a.ensures in
-    let after-2 : (Left c.put_length-b.new.out c.put_length-b.result (joined (drop 2 (lengths_pieces c.args.deal.counts))) c.args.out.now c.args.at (lengths_text c.args.deal.counts)) = step (after-1) c.put_length-b.ensures in
-    let after-3 : (Left c.put_length-c.new.out c.put_length-c.result (joined (drop 3 (lengths_pieces c.args.deal.counts))) c.args.out.now c.args.at (lengths_text c.args.deal.counts)) = step (after-2) c.put_length-c.ensures in
-    let after-4 : (Left c.put_length.new.out c.put_length.result (joined (drop 4 (lengths_pieces c.args.deal.counts))) c.args.out.now c.args.at (lengths_text c.args.deal.counts)) = step (after-3) c.put_length.ensures in
-    (after-4).long
-
 pub returns : goal.returns
 returns c =
     let after-0 : (Left c.args.out.now c.args.at (joined (drop 0 (lengths_pieces c.args.deal.counts))) c.args.out.now c.args.at (lengths_text c.args.deal.counts)) = unfold lengths_text in start c.requires in

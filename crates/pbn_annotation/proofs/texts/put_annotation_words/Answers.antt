@@ -1,31 +1,29 @@
 -- `pbn_annotation::put_annotation_words` meets its contract: a turn takes one part off what is left to put.
+use Prim.Native.Nat.{◌<◌}
 use native.Mathlib.Omega.{arith}
+use lib.ListN.{length}
+use borrow.Author.Rules.{rules}
+use borrow.Author.Tests.{tests}
 use Rattle.output.proofs.Laws.{roomy, finish}
-use Rattle.pbn_annotation.proofs.AnnotationLaws.{part_taken, part_moves, put_start, put_left, put_turn, put_end}
+use Rattle.pbn_annotation.proofs.AnnotationLaws.{part_moves, put_start, put_left, put_turn, put_end}
 use Rattle.pbn_annotation.proofs.texts.put_annotation_words.Goals as goal
 
-pub loop-i-init : goal.loop-i-init
-loop-i-init c = (omega arith, omega arith, put_start c.args.text.now c.args.notes.now c.args.raw.now c.requires)
-
-pub slice_bounds-part-end : goal.slice_bounds-part-end
-slice_bounds-part-end c = part_taken _ _ c.part_len-k.ensures
+pub loop-rest-init : goal.loop-rest-init
+loop-rest-init c = (omega arith, put_start c.args.text.now c.args.notes.now c.args.raw.now c.requires)
 
 pub put_spaced_word-o-requires : goal.put_spaced_word-o-requires
-put_spaced_word-o-requires c = roomy _ _ (put_left c.args.text.now c.args.notes.now c.args.raw.now c.loop-i.i c.loop-i-test.true _ c.part_len-k.ensures _ c.part_word.ensures c.loop-i.invariant.1 c.loop-i.invariant.2)
+put_spaced_word-o-requires c = let s = c.split_at in
+    let h : 0 < length c.loop-rest.rest.now = search (rules, tests) in
+    roomy _ _ (put_left c.args.text.now c.args.notes.now c.loop-rest.rest.now h _ c.part_len.ensures s.result.0.now s.result.1.now s.ensures.front s.ensures.back _ c.part_word.ensures c.loop-rest.invariant.0 c.loop-rest.invariant.1)
 
-pub overflow_add-i : goal.overflow_add-i
-overflow_add-i c = omega (arith, part_moves c.args.text.now c.args.notes.now c.args.raw.now c.loop-i.i c.loop-i-test.true _ c.part_len-k.ensures)
+pub loop-rest-smaller : goal.loop-rest-smaller
+loop-rest-smaller c = let h : 0 < length c.loop-rest.rest.now = search (rules, tests) in
+    omega (arith, part_moves c.args.text.now c.args.notes.now c.loop-rest.rest.now h _ c.part_len.ensures, c.split_at.ensures.back_len)
 
-pub loop-i-smaller : goal.loop-i-smaller
-loop-i-smaller c = omega (arith, part_moves c.args.text.now c.args.notes.now c.args.raw.now c.loop-i.i c.loop-i-test.true _ c.part_len-k.ensures)
-
-pub loop-i-preserved : goal.loop-i-preserved
-loop-i-preserved c = let m = part_moves c.args.text.now c.args.notes.now c.args.raw.now c.loop-i.i c.loop-i-test.true _ c.part_len-k.ensures in
-    let t = put_turn c.args.text.now c.args.notes.now c.args.raw.now c.loop-i.i c.loop-i-test.true _ c.part_len-k.ensures _ c.part_word.ensures c.loop-i.invariant.1 c.loop-i.invariant.2 c.put_spaced_word-o.ensures in
-    (omega (arith, m), t.0, t.1)
-
-pub shape_of-out : goal.shape_of-out
-shape_of-out c = c.loop-i.invariant.2.long
+pub loop-rest-preserved : goal.loop-rest-preserved
+loop-rest-preserved c = let s = c.split_at in
+    let h : 0 < length c.loop-rest.rest.now = search (rules, tests) in
+    put_turn c.args.text.now c.args.notes.now c.loop-rest.rest.now h _ c.part_len.ensures s.result.0.now s.result.1.now s.ensures.front s.ensures.back _ c.part_word.ensures c.loop-rest.invariant.0 c.loop-rest.invariant.1 c.put_spaced_word-o.ensures
 
 pub returns : goal.returns
-returns c = finish (put_end c.args.text.now c.args.notes.now c.args.raw.now c.loop-i.i c.loop-i-test.false c.loop-i.invariant.2)
+returns c = finish (put_end c.args.text.now c.args.notes.now c.loop-rest.rest.now (search (rules, tests)) c.loop-rest.invariant.1)

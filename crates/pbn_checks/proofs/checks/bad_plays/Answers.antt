@@ -1,13 +1,10 @@
--- `pbn_checks::bad_plays` meets its contract: a turn passes a card or a gap.
+-- `pbn_checks::bad_plays` meets its contract.
+use Rattle.std.proofs.Common.{rules, ◌∙◌}
+use Rattle.std.proofs.lemmas.Iterator.{YieldsList-from_slice}
+use Rattle.std.proofs.lemmas.Iterator.Search.{any_from_yields_List}
 use Rattle.lin_spec.specs.Pbn.{bad_entry}
-use Rattle.text.proofs.ListLaws.{any-end, any_found, any_next}
+use Rattle.board_lent.proofs.LentLaws.{any_is}
 use Rattle.pbn_checks.proofs.checks.bad_plays.Goals as goal
 
-pub returns-then-bad_entry : goal.returns-then-bad_entry
-returns-then-bad_entry c = any_found bad_entry 0 _ _ c.loop-i.invariant c.loop-i-test.true _ c.bad_entry.ensures c.if-bad_entry.true
-
-pub loop-i-preserved : goal.loop-i-preserved
-loop-i-preserved c = any_next bad_entry 0 _ _ c.loop-i.invariant c.loop-i-test.true _ c.bad_entry.ensures c.if-bad_entry.false
-
 pub returns : goal.returns
-returns c = any-end bad_entry 0 _ _ c.loop-i.invariant c.loop-i-test.false
+returns c = any_from_yields_List bad_entry _ _ _ c.any.ensures.ran (YieldsList-from_slice c.args.plays.now cc) (λ x b q k. search rules) ∙ any_is _ _

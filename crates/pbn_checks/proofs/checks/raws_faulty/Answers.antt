@@ -1,22 +1,19 @@
--- `pbn_checks::raws_faulty` meets its contract: a turn passes a call whose annotation is without the fault.
-use native.Mathlib.Omega.{arith}
-use mathlib.Core.Path.{refl, sym, ◌∙◌}
-use Rattle.lin_spec.specs.Pbn.{pbn_row}
-use Rattle.board_lent.proofs.LentLaws.{none_row, found-row, next_row}
-use Rattle.pbn_checks.proofs.CheckLaws.{raws-any}
+-- `pbn_checks::raws_faulty` meets its contract: a row is a call.
+use Rattle.std.proofs.Common.{rules, ◌∙◌}
+use Rattle.std.proofs.lemmas.Iterator.{YieldsList-from_slice}
+use Rattle.std.proofs.lemmas.Iterator.Search.{any_from_yields_List}
+use Rattle.lin_spec.specs.Base.{any}
+use Rattle.lin_spec.specs.Lent.{span_in}
+use Rattle.lin_spec.specs.Pbn.{pbn_row, raw_of}
+use Rattle.text.specs.Fault.{fault_of}
+use Rattle.board_lent.specs.Calls.{of_row}
+use Rattle.board_lent.proofs.LentLaws.{any_is, any-chunks}
+use Rattle.pbn_checks.proofs.CheckLaws.{any-each}
 use Rattle.pbn_checks.proofs.checks.raws_faulty.Goals as goal
 
-pub loop-i-init : goal.loop-i-init
-loop-i-init c = (omega arith, refl)
-
-pub raw_faulty-requires : goal.raw_faulty-requires
-raw_faulty-requires c = c.requires
-
-pub returns-then-raw_faulty : goal.returns-then-raw_faulty
-returns-then-raw_faulty c = (found-row pbn_row _ _ _ c.loop-i.invariant.1 c.loop-i-test.true _ c.pbn_call_at.ensures _ c.raw_faulty.ensures c.if-raw_faulty.true) ∙ sym (raws-any _ _)
-
-pub loop-i-preserved : goal.loop-i-preserved
-loop-i-preserved c = (omega arith, next_row pbn_row _ _ _ c.loop-i.invariant.1 c.loop-i-test.true _ c.pbn_call_at.ensures _ c.raw_faulty.ensures c.if-raw_faulty.false)
-
 pub returns : goal.returns
-returns c = (none_row pbn_row _ _ _ c.loop-i.invariant.1 c.loop-i-test.false) ∙ sym (raws-any _ _)
+returns c =
+    any_from_yields_List (λ r. any (fault_of c.args.fault c.args.text.now) (span_in (raw_of (of_row pbn_row r)))) _ _ _ c.any.ensures.ran (YieldsList-from_slice c.as_chunks.result.0.now cc) (λ x b q k. search rules)
+    ∙ any_is _ _
+    ∙ any-chunks pbn_row (λ x. any (fault_of c.args.fault c.args.text.now) (span_in (raw_of x))) c.args.calls.now _ c.as_chunks.ensures.front
+    ∙ any-each _ (λ x. span_in (raw_of x)) _

@@ -17,13 +17,6 @@ put_noted-requires c =
     let after-1 : (Left c.put_three-a.new.out c.put_three-a.result (joined (drop 1 (kept_row_pieces c.args.bid c.args.len c.args.start c.args.note))) c.args.out.now c.args.at (kept_row_text c.args.bid c.args.len c.args.start c.args.note)) = step (after-0) c.put_three-a.ensures in
     roomy _ _ (after-1)
 
-pub shape_of-out : goal.shape_of-out
-shape_of-out c =
-    let after-0 : (Left c.args.out.now c.args.at (joined (drop 0 (kept_row_pieces c.args.bid c.args.len c.args.start c.args.note))) c.args.out.now c.args.at (kept_row_text c.args.bid c.args.len c.args.start c.args.note)) = unfold kept_row_text in start c.requires in
-    let after-1 : (Left c.put_three-a.new.out c.put_three-a.result (joined (drop 1 (kept_row_pieces c.args.bid c.args.len c.args.start c.args.note))) c.args.out.now c.args.at (kept_row_text c.args.bid c.args.len c.args.start c.args.note)) = step (after-0) c.put_three-a.ensures in
-    let after-2 : (Left c.put_noted.new.out c.put_noted.result (joined (drop 2 (kept_row_pieces c.args.bid c.args.len c.args.start c.args.note))) c.args.out.now c.args.at (kept_row_text c.args.bid c.args.len c.args.start c.args.note)) = step (after-1) c.put_noted.ensures in
-    (after-2).long
-
 pub returns : goal.returns
 returns c =
     let after-0 : (Left c.args.out.now c.args.at (joined (drop 0 (kept_row_pieces c.args.bid c.args.len c.args.start c.args.note))) c.args.out.now c.args.at (kept_row_text c.args.bid c.args.len c.args.start c.args.note)) = unfold kept_row_text in start c.requires in

@@ -9,14 +9,8 @@ returns-then-not-is_kept c = row_dropped c.args.text.now c.args.notes.now c.args
 pub overflow_cast-note : goal.overflow_cast-note
 overflow_cast-note c = omega (arith, row-after c.args.text.now c.args.notes.now c.args.c c.args.p.text _ c.is_kept.ensures c.if-not-is_kept.false-raw c.requires.1 _ c.pbn_bid_len-bid.ensures.0 _ c.pbn_note_len-note.ensures, c.requires.1)
 
-pub overflow_add-at : goal.overflow_add-at
-overflow_add-at c = omega (arith, row-after c.args.text.now c.args.notes.now c.args.c c.args.p.text _ c.is_kept.ensures c.if-not-is_kept.false-raw c.requires.1 _ c.pbn_bid_len-bid.ensures.0 _ c.pbn_note_len-note.ensures, c.requires.1)
-
 pub put_kept_row-row-requires : goal.put_kept_row-row-requires
 put_kept_row-row-requires c = rw (row_kept c.args.text.now c.args.notes.now c.args.c c.args.p.text _ c.is_kept.ensures c.if-not-is_kept.false-raw c.requires.1 _ c.pbn_bid_len-bid.ensures.0 _ c.pbn_note_len-note.ensures) c.requires.0
-
-pub overflow_add-result : goal.overflow_add-result
-overflow_add-result c = omega (arith, row-after c.args.text.now c.args.notes.now c.args.c c.args.p.text _ c.is_kept.ensures c.if-not-is_kept.false-raw c.requires.1 _ c.pbn_bid_len-bid.ensures.0 _ c.pbn_note_len-note.ensures, c.requires.1)
 
 pub overflow_add-result-2 : goal.overflow_add-result-2
 overflow_add-result-2 c = omega (arith, row-after c.args.text.now c.args.notes.now c.args.c c.args.p.text _ c.is_kept.ensures c.if-not-is_kept.false-raw c.requires.1 _ c.pbn_bid_len-bid.ensures.0 _ c.pbn_note_len-note.ensures, c.requires.1)

@@ -1,16 +1,17 @@
--- `pbn_texts::kept_calls` meets its contract: a turn takes one call off those that are left to count.
-use native.Mathlib.Omega.{arith}
-use Rattle.pbn_texts.proofs.CallLaws.{many-next, many-none}
+-- `pbn_texts::kept_calls` meets its contract: a row is a call.
+use mathlib.Core.Path.{ap, ◌∙◌}
+use borrow.Author.Tests.{tests}
+use Rattle.std.proofs.Common.{rules}
+use Rattle.std.proofs.lemmas.Iterator.{YieldsList-from_slice}
+use Rattle.std.proofs.lemmas.Iterator.Consumers.{YieldsList-from_filter, count_from_yields_List}
+use Rattle.lin_spec.specs.Pbn.{pbn_row}
+use Rattle.board_lent.specs.Calls.{of_row}
+use Rattle.pbn_texts.specs.Calls.{is_kept, kept_many}
+use Rattle.pbn_texts.proofs.CallLaws.{calls-are, many-kept}
 use Rattle.pbn_texts.proofs.calls.kept_calls.Goals as goal
 
-pub loop-i-init : goal.loop-i-init
-loop-i-init c = (omega arith, omega arith, omega arith)
-
-pub overflow_add-n : goal.overflow_add-n
-overflow_add-n c = omega (arith, c.kept_one-n.ensures.1)
-
-pub loop-i-preserved : goal.loop-i-preserved
-loop-i-preserved c = (omega arith, omega (arith, many-next c.args.calls.now c.loop-i.i c.loop-i-test.true c.pbn_call_at.result c.pbn_call_at.ensures, c.kept_one-n.ensures.0), omega (arith, c.kept_one-n.ensures.1))
-
 pub returns : goal.returns
-returns c = omega (arith, many-none c.args.calls.now c.loop-i.i c.loop-i-test.false)
+returns c =
+    count_from_yields_List c.filter.result _ c.count.ensures.ran (YieldsList-from_filter _ (λ r. is_kept (of_row pbn_row r)) (YieldsList-from_slice c.as_chunks.result.0.now cc) c.filter.ensures.closure (λ x b q k. search (rules, tests)))
+    ∙ many-kept _
+    ∙ ap kept_many (calls-are _ _ c.as_chunks.ensures.front)

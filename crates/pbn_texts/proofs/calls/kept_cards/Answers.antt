@@ -1,18 +1,16 @@
--- `pbn_texts::kept_cards` meets its contract: a turn takes one entry off those that are left to count.
-use native.Mathlib.Omega.{arith}
-use mathlib.Core.Path.{ap}
+-- `pbn_texts::kept_cards` meets its contract: the entries that are no gap are counted.
+use mathlib.Core.Path.{ap, ◌∙◌}
+use mathlib.Core.Bool.{not}
 use lib.ListN.{length}
-use Rattle.pbn_texts.proofs.CallLaws.{cards-count, cards-end}
+use lib.Dec.{eqb}
+use borrow.Author.Tests.{tests}
+use Rattle.std.proofs.Common.{rules}
+use Rattle.std.proofs.lemmas.Iterator.{YieldsList-from_slice}
+use Rattle.std.proofs.lemmas.Iterator.Consumers.{YieldsList-from_filter, count_from_yields_List}
+use Rattle.pbn_texts.proofs.CallLaws.{keep-filter}
 use Rattle.pbn_texts.proofs.calls.kept_cards.Goals as goal
 
-pub loop-i-init : goal.loop-i-init
-loop-i-init c = (omega arith, omega arith, omega arith)
-
-pub overflow_add-n : goal.overflow_add-n
-overflow_add-n c = omega (arith, c.kept_card-n.ensures.1)
-
-pub loop-i-preserved : goal.loop-i-preserved
-loop-i-preserved c = (omega arith, omega (arith, cards-count c.args.plays.now c.loop-i.i c.loop-i-test.true, c.kept_card-n.ensures.0), omega (arith, c.kept_card-n.ensures.1))
-
 pub returns : goal.returns
-returns c = omega (arith, ap length (cards-end c.args.plays.now c.loop-i.i c.loop-i-test.false))
+returns c =
+    count_from_yields_List c.filter.result _ c.count.ensures.ran (YieldsList-from_filter _ (λ b. not (eqb b 255)) (YieldsList-from_slice c.args.plays.now cc) c.filter.ensures.closure (λ x b q k. search (rules, tests)))
+    ∙ ap length (keep-filter _ c.args.plays.now)

@@ -1,13 +1,7 @@
 -- `pbn_texts::put_kept_card` meets its contract: nothing, or one put.
 use Rattle.output.proofs.Laws.{start, finish}
-use Rattle.pbn_texts.proofs.CallLaws.{card-gap, card-kept}
+use Rattle.pbn_texts.proofs.CallLaws.{card-gap}
 use Rattle.pbn_texts.proofs.calls.put_kept_card.Goals as goal
 
 pub returns-then-b-eq-GAP : goal.returns-then-b-eq-GAP
 returns-then-b-eq-GAP c = rw (card-gap c.args.b c.if-b-eq-GAP.true) (finish (start (rw (card-gap c.args.b c.if-b-eq-GAP.true) at c.requires)))
-
-pub put_byte-requires : goal.put_byte-requires
-put_byte-requires c = rw (card-kept c.args.b c.if-b-eq-GAP.false) at c.requires
-
-pub returns : goal.returns
-returns c = rw (card-kept c.args.b c.if-b-eq-GAP.false) c.put_byte.ensures

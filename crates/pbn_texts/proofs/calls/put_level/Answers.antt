@@ -7,4 +7,4 @@ use Rattle.output.proofs.Laws.{start, step, finish}
 use Rattle.pbn_texts.proofs.calls.put_level.Goals as goal
 
 pub returns : goal.returns
-returns c = finish (step (step {s = digit c.args.level ∷ []} {t = get_or (ascii "CDHSN") c.args.strain 0 ∷ []} (start c.requires.0) c.put_byte-a.ensures) c.put_byte.ensures)
+returns c = finish (step (step {s = digit c.args.level ∷ []} {t = get_or (ascii "CDHSN") c.args.strain 0 ∷ []} (start c.requires.0) c.put-a.ensures) c.put.ensures)

@@ -2,7 +2,8 @@
 -- the names and the title, by how many bytes they have
 use Prim.Native.Nat.{◌+◌, ◌*◌, ◌≤◌}
 use native.Mathlib.Omega.{arith}
-use mathlib.Core.Path.{◌≡◌}
+use mathlib.Core.Path.{◌≡◌, ◌∙◌, ap}
+use Rattle.std.specs.Prelude.{not}
 use lib.ListN.{length, get_or}
 use Rattle.lin_spec.specs.Records.{span}
 use Rattle.pbn_texts.specs.Texts.{title_text}
@@ -39,8 +40,8 @@ overflow_add-room_board c =
     (omega (arith, m, c.title_len.ensures, c.requires), z.0, omega (arith, z.1, m, c.requires)) in
     let z = room_at in omega (arith, z.0, z.1, z.2)
 
-pub returns-then-not-is_labelled : goal.returns-then-not-is_labelled
-returns-then-not-is_labelled c =
+pub returns-then-is_none : goal.returns-then-is_none
+returns-then-is_none c =
     let title-at : (((get_or c.name_spans-spans.result 3 (span 0 0))).start + ((get_or c.name_spans-spans.result 3 (span 0 0))).len ≡ (length (pbn_names_text c.args.marks.pipe c.args.marks.line c.args.text.now c.args.names))) × ((length (pbn_names_text c.args.marks.pipe c.args.marks.line c.args.text.now c.args.names)) ≤ 4 * length c.args.text.now) = let a = c.args in
     (names-end a.marks.pipe a.marks.line a.text.now a.names (search rules) _ c.name_spans-spans.ensures, names_most a.marks.pipe a.marks.line a.text.now a.names (search rules)) in
     let room_at : (c.title_len.result ≡ (length (title_text c.args.text.now c.args.sources.event c.args.sources.date))) × (((get_or c.name_spans-spans.result 3 (span 0 0))).start + ((get_or c.name_spans-spans.result 3 (span 0 0))).len ≡ (length (pbn_names_text c.args.marks.pipe c.args.marks.line c.args.text.now c.args.names))) × ((length (pbn_names_text c.args.marks.pipe c.args.marks.line c.args.text.now c.args.names)) + (length (title_text c.args.text.now c.args.sources.event c.args.sources.date)) ≤ 6291459) = let a = c.args in
@@ -49,10 +50,7 @@ returns-then-not-is_labelled c =
     (omega (arith, m, c.title_len.ensures, c.requires), z.0, omega (arith, z.1, m, c.requires)) in
     let a = c.args in
     let z = room_at in
-    layout_plain a.marks.pipe a.marks.line a.text.now a.names a.sources _ c.name_spans-spans.ensures _ z.1 _ (omega (arith, z.0)) _ c.is_labelled.ensures c.if-not-is_labelled.true-raw
-
-pub overflow_cast-n : goal.overflow_cast-n
-overflow_cast-n c = omega (arith, c.label_len-n.ensures.1, c.requires)
+    layout_plain a.marks.pipe a.marks.line a.text.now a.names a.sources _ c.name_spans-spans.ensures _ z.1 _ (omega (arith, z.0)) (c.is_none.ensures ∙ ap not c.if-is_none.true)
 
 pub overflow_add-header : goal.overflow_add-header
 overflow_add-header c =
@@ -114,4 +112,4 @@ returns c =
     (omega (arith, m, c.title_len.ensures, c.requires), z.0, omega (arith, z.1, m, c.requires)) in
     let a = c.args in
     let z = room_at in
-    layout_labelled a.marks.pipe a.marks.line a.text.now a.names a.sources _ c.name_spans-spans.ensures _ z.1 _ (omega (arith, z.0)) _ c.is_labelled.ensures c.if-not-is_labelled.false-raw c.label_len-n.result c.label_len-n.ensures.0
+    layout_labelled a.marks.pipe a.marks.line a.text.now a.names a.sources _ c.name_spans-spans.ensures _ z.1 _ (omega (arith, z.0)) (c.is_none.ensures ∙ ap not c.if-is_none.false) c.label_len-n.result c.label_len-n.ensures.0

@@ -34,15 +34,6 @@ put_one-requires c =
     let after-3 : (Left c.put_one-c.new.out c.put_one-c.result (joined (drop 3 (pbn_names_pieces c.args.marks.pipe c.args.marks.line c.args.text.now c.args.names))) c.args.out.now c.args.at (pbn_names_text c.args.marks.pipe c.args.marks.line c.args.text.now c.args.names)) = step (after-2) c.put_one-c.ensures in
     roomy _ _ (after-3)
 
-pub shape_of-out : goal.shape_of-out
-shape_of-out c =
-    let after-0 : (Left c.args.out.now c.args.at (joined (drop 0 (pbn_names_pieces c.args.marks.pipe c.args.marks.line c.args.text.now c.args.names))) c.args.out.now c.args.at (pbn_names_text c.args.marks.pipe c.args.marks.line c.args.text.now c.args.names)) = rw (← names-are c.args.marks.pipe c.args.marks.line c.args.text.now c.args.names (search rules)) (start c.requires) in
-    let after-1 : (Left c.put_one-a.new.out c.put_one-a.result (joined (drop 1 (pbn_names_pieces c.args.marks.pipe c.args.marks.line c.args.text.now c.args.names))) c.args.out.now c.args.at (pbn_names_text c.args.marks.pipe c.args.marks.line c.args.text.now c.args.names)) = step (after-0) c.put_one-a.ensures in
-    let after-2 : (Left c.put_one-b.new.out c.put_one-b.result (joined (drop 2 (pbn_names_pieces c.args.marks.pipe c.args.marks.line c.args.text.now c.args.names))) c.args.out.now c.args.at (pbn_names_text c.args.marks.pipe c.args.marks.line c.args.text.now c.args.names)) = step (after-1) c.put_one-b.ensures in
-    let after-3 : (Left c.put_one-c.new.out c.put_one-c.result (joined (drop 3 (pbn_names_pieces c.args.marks.pipe c.args.marks.line c.args.text.now c.args.names))) c.args.out.now c.args.at (pbn_names_text c.args.marks.pipe c.args.marks.line c.args.text.now c.args.names)) = step (after-2) c.put_one-c.ensures in
-    let after-4 : (Left c.put_one.new.out c.put_one.result (joined (drop 4 (pbn_names_pieces c.args.marks.pipe c.args.marks.line c.args.text.now c.args.names))) c.args.out.now c.args.at (pbn_names_text c.args.marks.pipe c.args.marks.line c.args.text.now c.args.names)) = step (after-3) c.put_one.ensures in
-    (after-4).long
-
 pub returns : goal.returns
 returns c =
     let after-0 : (Left c.args.out.now c.args.at (joined (drop 0 (pbn_names_pieces c.args.marks.pipe c.args.marks.line c.args.text.now c.args.names))) c.args.out.now c.args.at (pbn_names_text c.args.marks.pipe c.args.marks.line c.args.text.now c.args.names)) = rw (← names-are c.args.marks.pipe c.args.marks.line c.args.text.now c.args.names (search rules)) (start c.requires) in

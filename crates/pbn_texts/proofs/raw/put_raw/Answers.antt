@@ -24,14 +24,6 @@ put_pbn_calls-requires c =
     let after-2 : (Left c.put_labelled-b.new.out c.put_labelled-b.result (joined (drop 2 (raw_pieces c.args.text.now c.args.sources c.args.notes.now c.args.calls.now))) c.args.out.now c.args.at (raw_text c.args.text.now c.args.sources c.args.notes.now c.args.calls.now)) = step (after-1) c.put_labelled-b.ensures in
     (roomy _ _ (after-2), c.requires.1)
 
-pub shape_of-out : goal.shape_of-out
-shape_of-out c =
-    let after-0 : (Left c.args.out.now c.args.at (joined (drop 0 (raw_pieces c.args.text.now c.args.sources c.args.notes.now c.args.calls.now))) c.args.out.now c.args.at (raw_text c.args.text.now c.args.sources c.args.notes.now c.args.calls.now)) = unfold raw_text in start c.requires.0 in
-    let after-1 : (Left c.put_title-a.new.out c.put_title-a.result (joined (drop 1 (raw_pieces c.args.text.now c.args.sources c.args.notes.now c.args.calls.now))) c.args.out.now c.args.at (raw_text c.args.text.now c.args.sources c.args.notes.now c.args.calls.now)) = step (after-0) c.put_title-a.ensures in
-    let after-2 : (Left c.put_labelled-b.new.out c.put_labelled-b.result (joined (drop 2 (raw_pieces c.args.text.now c.args.sources c.args.notes.now c.args.calls.now))) c.args.out.now c.args.at (raw_text c.args.text.now c.args.sources c.args.notes.now c.args.calls.now)) = step (after-1) c.put_labelled-b.ensures in
-    let after-3 : (Left c.put_pbn_calls.new.out c.put_pbn_calls.result (joined (drop 3 (raw_pieces c.args.text.now c.args.sources c.args.notes.now c.args.calls.now))) c.args.out.now c.args.at (raw_text c.args.text.now c.args.sources c.args.notes.now c.args.calls.now)) = step (after-2) c.put_pbn_calls.ensures in
-    (after-3).long
-
 pub returns : goal.returns
 returns c =
     let after-0 : (Left c.args.out.now c.args.at (joined (drop 0 (raw_pieces c.args.text.now c.args.sources c.args.notes.now c.args.calls.now))) c.args.out.now c.args.at (raw_text c.args.text.now c.args.sources c.args.notes.now c.args.calls.now)) = unfold raw_text in start c.requires.0 in

@@ -2,11 +2,5 @@
 use Rattle.output.proofs.Laws.{start, finish}
 use Rattle.pbn_texts.proofs.texts.put_uncleaned.Goals as goal
 
-pub put_span-requires : goal.put_span-requires
-put_span-requires c = rw c.in-Present.is at c.requires
-
-pub returns-in-Absent : goal.returns-in-Absent
-returns-in-Absent c = rw c.in-Absent.is (finish (start (rw c.in-Absent.is at c.requires)))
-
-pub returns-in-Present : goal.returns-in-Present
-returns-in-Present c = rw c.in-Present.is c.put_span.ensures
+pub returns-in-None : goal.returns-in-None
+returns-in-None c = rw c.in-None.is (finish (start (rw c.in-None.is at c.requires)))

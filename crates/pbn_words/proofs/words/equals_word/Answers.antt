@@ -11,10 +11,10 @@ pub returns-then-part-last-ne61 : goal.returns-then-part-last-ne61
 returns-then-part-last-ne61 c = equals_open _ _ c.if-part-lt2.false c.if-part-last-ne61.true
 
 pub note_named-requires : goal.note_named-requires
-note_named-requires c = omega (arith, number_most 255 _ _ _ c.read_number.ensures c.in-Number.is)
+note_named-requires c = omega (arith, number_most 255 _ _ _ c.read_number.ensures c.in-Some.is)
 
-pub returns-in-Number : goal.returns-in-Number
-returns-in-Number c = equals_note _ _ c.if-part-lt2.false c.if-part-last-ne61.false _ c.read_number.ensures _ c.in-Number.is _ c.note_named.ensures
+pub returns-in-Some : goal.returns-in-Some
+returns-in-Some c = equals_note _ _ c.if-part-lt2.false c.if-part-last-ne61.false _ c.read_number.ensures _ c.in-Some.is _ c.note_named.ensures
 
-pub returns-in-Absent : goal.returns-in-Absent
-returns-in-Absent c = equals_itself _ _ c.if-part-lt2.false c.if-part-last-ne61.false _ c.read_number.ensures c.in-Absent.is
+pub returns-in-None : goal.returns-in-None
+returns-in-None c = equals_itself _ _ c.if-part-lt2.false c.if-part-last-ne61.false _ c.read_number.ensures c.in-None.is

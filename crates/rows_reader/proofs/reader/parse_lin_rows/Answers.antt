@@ -1,8 +1,16 @@
 -- `rows_reader::parse_lin_rows` meets its contract: its calls are stored where it is accepted, and none is where it is refused.
+use Rattle.lin_spec.proofs.Checks.{handed}
 use Rattle.rows_reader.specs.Reader.{read_rows}
-use Rattle.rows_reader.proofs.ReaderLaws.{rows-read}
+use Rattle.rows_reader.proofs.ReaderLaws.{heads-fit, rows-read, rows-refused}
 use Rattle.rows_reader.proofs.reader.parse_lin_rows.Goals as goal
+
+pub store_rows-requires : goal.store_rows-requires
+store_rows-requires c = heads-fit _ _ _ _ _ _ c.text_headed.ensures _ c.in_ok-h.was
+
+pub returns-in_err-h : goal.returns-in_err-h
+unfolding read_rows
+returns-in_err-h c = rows-refused _ _ _ _ _ _ c.text_headed.ensures _ c.in_err-h.was _ (handed _ _ c.from_residual.ensures)
 
 pub returns : goal.returns
 unfolding read_rows
-returns c = rows-read _ _ _ _ _ _ c.text_headed-h.ensures _ c.heading_alone.ensures _ c.store_rows.ensures
+returns c = rows-read _ _ _ _ _ _ c.text_headed.ensures _ c.in_ok-h.was _ c.store_rows.ensures

@@ -8,10 +8,10 @@ pub heading_at-heading-requires : goal.heading_at-heading-requires
 heading_at-heading-requires c = (rw (← cut-is c.args.text.now c.args.stop c.requires.1) c.requires.0, cut_short c.args.text.now c.args.stop c.requires.2)
 
 pub returns-then-rows-heading : goal.returns-then-rows-heading
-returns-then-rows-heading c = few-rows c.args.text.now c.args.start c.args.stop c.args.rows c.args.cards.now _ c.heading_at-heading.ensures c.if-rows-heading.true _ c.headed_refused.ensures
+returns-then-rows-heading c = few-rows c.args.text.now c.args.start c.args.stop c.args.rows c.args.cards.now _ c.heading_at-heading.ensures c.if-rows-heading.true
 
 pub returns-then-cards-heading : goal.returns-then-cards-heading
-returns-then-cards-heading c = few-places c.args.text.now c.args.start c.args.stop c.args.rows c.args.cards.now _ c.heading_at-heading.ensures c.if-rows-heading.false c.if-cards-heading.true _ c.headed_refused-then-cards-heading.ensures
+returns-then-cards-heading c = few-places c.args.text.now c.args.start c.args.stop c.args.rows c.args.cards.now _ c.heading_at-heading.ensures c.if-rows-heading.false c.if-cards-heading.true
 
 pub slice_bounds-put_cards-end : goal.slice_bounds-put_cards-end
 slice_bounds-put_cards-end c = cut-is _ _ c.requires.1

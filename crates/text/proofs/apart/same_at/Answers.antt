@@ -6,36 +6,15 @@ use lib.ListN.{length}
 use Rattle.text.proofs.ApartLaws.{looked_up, by_place, block_differs, block_same, word-here, word_next}
 use Rattle.text.proofs.apart.same_at.Goals as goal
 
-pub returns-then-len-over : goal.returns-then-len-over
-returns-then-len-over c = rw (c.part.ensures, c.part-then-len-over.ensures) at c.same_bytes.ensures
-
-pub bounds-next-k : goal.bounds-next-k
-bounds-next-k c = let q = looked_up c.args.start c.args.end (length c.args.a.now) (length c.args.b.now) (length c.args.next.now) c.if-len-over.false in
-    omega (arith, q.3)
-
-pub overflow_cast-here : goal.overflow_cast-here
-overflow_cast-here c = omega (arith, c.shared_slice_known-4-1.given (c.args.start / 1024))
-
 pub returns-then-start-here : goal.returns-then-start-here
 returns-then-start-here c = let q = looked_up c.args.start c.args.end (length c.args.a.now) (length c.args.b.now) (length c.args.next.now) c.if-len-over.false in
     by_place c.args.a.now c.args.b.now c.args.start c.args.end c.requires.1 q.1 q.2 _ (word-here c.args.a.now c.args.b.now c.args.next.now c.requires.0 c.args.start (omega (arith, q.3)) c.if-start-here.true)
 
-pub overflow_mul-block : goal.overflow_mul-block
-overflow_mul-block c = let q = looked_up c.args.start c.args.end (length c.args.a.now) (length c.args.b.now) (length c.args.next.now) c.if-len-over.false in
-    omega (arith, q.0, q.1)
-
 pub returns-then-not-same_bytes : goal.returns-then-not-same_bytes
 returns-then-not-same_bytes c = let q = looked_up c.args.start c.args.end (length c.args.a.now) (length c.args.b.now) (length c.args.next.now) c.if-len-over.false in
-    block_differs c.args.a.now c.args.b.now c.args.start c.args.end c.requires.1 q.1 q.2 ((c.args.start / 1024 + 1) * 1024 - c.args.start) (omega (arith, q.0)) _ (rw (c.part-2.ensures, c.part-3.ensures) at c.same_bytes-2.ensures) c.if-not-same_bytes.true-raw
-
-pub bounds-next-k-2 : goal.bounds-next-k-2
-bounds-next-k-2 c = let q = looked_up c.args.start c.args.end (length c.args.a.now) (length c.args.b.now) (length c.args.next.now) c.if-len-over.false in
-    omega (arith, q.3)
-
-pub overflow_cast-result : goal.overflow_cast-result
-overflow_cast-result c = omega (arith, c.shared_slice_known-5-1.given (c.args.start / 1024 + 1))
+    block_differs c.args.a.now c.args.b.now c.args.start c.args.end c.requires.1 q.1 q.2 ((c.args.start / 1024 + 1) * 1024 - c.args.start) (omega (arith, q.0)) _ (rw (c.part-2.ensures, c.part-3.ensures) at c.same_bytes-2.ensures) c.if-not-same_bytes.true
 
 pub returns : goal.returns
 returns c = let q = looked_up c.args.start c.args.end (length c.args.a.now) (length c.args.b.now) (length c.args.next.now) c.if-len-over.false in
-    let m = block_same c.args.a.now c.args.b.now c.args.start c.args.end c.requires.1 q.1 q.2 ((c.args.start / 1024 + 1) * 1024 - c.args.start) (omega (arith, q.0)) _ (rw (c.part-2.ensures, c.part-3.ensures) at c.same_bytes-2.ensures) c.if-not-same_bytes.false-raw in
+    let m = block_same c.args.a.now c.args.b.now c.args.start c.args.end c.requires.1 q.1 q.2 ((c.args.start / 1024 + 1) * 1024 - c.args.start) (omega (arith, q.0)) _ (rw (c.part-2.ensures, c.part-3.ensures) at c.same_bytes-2.ensures) c.if-not-same_bytes.false in
     by_place c.args.a.now c.args.b.now c.args.start c.args.end c.requires.1 q.1 q.2 _ (word_next c.args.a.now c.args.b.now c.args.next.now c.requires.0 c.args.start q.3 _ refl m)

@@ -3,9 +3,6 @@ use mathlib.Core.Path.{sym, ◌∙◌}
 use Rattle.lin_spec.proofs.Cursor.{find-end, find-here, find-next}
 use Rattle.text.proofs.parts.find_far.Goals as goal
 
-pub loop-i-init : goal.loop-i-init
-loop-i-init c = c.sixteens_without-i.ensures
-
 pub returns-then-s-i : goal.returns-then-s-i
 returns-then-s-i c = sym (find-here _ _ _ c.loop-i-test.true c.if-s-i.true) ∙ c.loop-i.invariant
 

@@ -1,14 +1,7 @@
 -- `text::sixteens::sixteen_same` meets its contract.
 use native.Mathlib.Omega.{arith}
-use mathlib.Core.Bool.{false≢true}
 use Rattle.text.proofs.ApartLaws.{sixteen_same_lem}
 use Rattle.text.proofs.sixteens.sixteen_same.Goals as goal
-
-pub returns-then-m-lt16 : goal.returns-then-m-lt16
-returns-then-m-lt16 c = λ e. absurd (false≢true e)
-
-pub returns-then-m-i : goal.returns-then-m-i
-returns-then-m-i c = λ e. absurd (false≢true e)
 
 pub returns : goal.returns
 returns c = sixteen_same_lem c.args.a.now c.args.b.now c.args.m c.requires.0 c.requires.1 c.args.i (omega arith)

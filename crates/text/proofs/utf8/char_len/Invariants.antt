@@ -1,10 +1,7 @@
 -- `text::utf8::char_len` meets its contract. The loop's invariant: the first k bytes are those of a character of n bytes so far, whose next byte is to be
-use Prim.Native.Nat.{◌-◌}
+-- from low to high.
 use Rattle.text.proofs.Utf8Laws.{Seen}
 use Rattle.text.proofs.utf8.char_len.Given as goal
 
 abbrev pub invariant-loop-k : goal.invariant-loop-k
 invariant-loop-k l = Seen l.t l.n l.low l.high l.k
-
-abbrev pub decreases-loop-k : goal.decreases-loop-k
-decreases-loop-k l = l.n - l.k

@@ -1,8 +1,8 @@
 -- `writer::put_sv` meets its contract: the letter of the vulnerability is what is put.
 use Rattle.writer.proofs.front.put_sv.Goals as goal
 
-pub put_byte-requires : goal.put_byte-requires
-put_byte-requires c = rw c.letter.ensures c.requires
+pub put-requires : goal.put-requires
+put-requires c = rw c.letter.ensures c.requires
 
 pub returns : goal.returns
-returns c = rw c.letter.ensures at c.put_byte.ensures
+returns c = rw c.letter.ensures at c.put.ensures

@@ -8,5 +8,5 @@ use Rattle.writer_cards.specs.Hands.{bare_text}
 use Rattle.writer_cards.proofs.deals.put_bare.Goals as goal
 
 pub returns : goal.returns
-returns c = let q = rw c.dealer_digit.ensures at c.put_byte-a.ensures in
-    put_both (bare_text c.args.dealer) (dealer_digit c.args.dealer ∷ []) (ascii ",,,") refl c.requires q c.put_bytes.ensures
+returns c = let q = rw c.dealer_digit.ensures at c.put-a.ensures in
+    put_both (bare_text c.args.dealer) (dealer_digit c.args.dealer ∷ []) (ascii ",,,") refl c.requires q c.put_all.ensures

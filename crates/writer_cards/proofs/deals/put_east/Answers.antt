@@ -6,11 +6,11 @@ use Rattle.writer_cards.proofs.deals.put_east.Goals as goal
 pub returns-then-sizes : goal.returns-then-sizes
 returns-then-sizes c = put_none _ _ _ (east_out _ _ c.requires.1.implied c.if-sizes.true)
 
-pub put_byte-a-requires : goal.put_byte-a-requires
-put_byte-a-requires c = first-room _ _ _ (east_in _ _ c.requires.1.implied c.if-sizes.false) c.requires.0
+pub put-a-requires : goal.put-a-requires
+put-a-requires c = first-room _ _ _ (east_in _ _ c.requires.1.implied c.if-sizes.false) c.requires.0
 
 pub put_hand-requires : goal.put_hand-requires
-put_hand-requires c = (second-room _ _ _ (east_in _ _ c.requires.1.implied c.if-sizes.false) c.requires.0 c.put_byte-a.ensures, c.requires.1.east)
+put_hand-requires c = (second-room _ _ _ (east_in _ _ c.requires.1.implied c.if-sizes.false) c.requires.0 c.put-a.ensures, c.requires.1.east)
 
 pub returns : goal.returns
-returns c = put_both _ _ _ (east_in _ _ c.requires.1.implied c.if-sizes.false) c.requires.0 c.put_byte-a.ensures c.put_hand.ensures
+returns c = put_both _ _ _ (east_in _ _ c.requires.1.implied c.if-sizes.false) c.requires.0 c.put-a.ensures c.put_hand.ensures

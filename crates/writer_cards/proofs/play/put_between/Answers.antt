@@ -6,14 +6,14 @@ use Rattle.writer_cards.proofs.play.put_between.Goals as goal
 pub returns-then-played-eq0 : goal.returns-then-played-eq0
 returns-then-played-eq0 c = put_none _ _ _ (none_between _ c.if-played-eq0.true)
 
-pub put_byte-requires : goal.put_byte-requires
-put_byte-requires c = room_as _ _ (pipe-between _ c.if-played-eq0.false c.if-played-eq0-2.true) c.requires
+pub put-requires : goal.put-requires
+put-requires c = room_as _ _ (pipe-between _ c.if-played-eq0.false c.if-played-eq0-2.true) c.requires
 
 pub returns-then-played-eq0-2 : goal.returns-then-played-eq0-2
-returns-then-played-eq0-2 c = put_as _ _ (pipe-between _ c.if-played-eq0.false c.if-played-eq0-2.true) c.put_byte.ensures
+returns-then-played-eq0-2 c = put_as _ _ (pipe-between _ c.if-played-eq0.false c.if-played-eq0-2.true) c.put.ensures
 
-pub put_byte-requires-2 : goal.put_byte-requires-2
-put_byte-requires-2 c = room_as _ _ (space_between _ c.if-played-eq0.false c.if-played-eq0-2.false) c.requires
+pub put-requires-2 : goal.put-requires-2
+put-requires-2 c = room_as _ _ (space_between _ c.if-played-eq0.false c.if-played-eq0-2.false) c.requires
 
 pub returns : goal.returns
-returns c = put_as _ _ (space_between _ c.if-played-eq0.false c.if-played-eq0-2.false) c.put_byte-2.ensures
+returns c = put_as _ _ (space_between _ c.if-played-eq0.false c.if-played-eq0-2.false) c.put-2.ensures

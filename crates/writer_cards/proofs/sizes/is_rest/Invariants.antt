@@ -1,6 +1,5 @@
 -- `writer_cards::sizes::is_rest` meets its contract. The loop's invariant: the remainder's cards passed are counted, and `held` says whether those of East are in it.
--- The measure is what is left.
-use Prim.Native.Nat.{◌+◌, ◌-◌, ◌≤◌}
+use Prim.Native.Nat.{◌+◌, ◌≤◌}
 use mathlib.Core.Path.{◌≡◌}
 use mathlib.Core.Bool.{◌&&◌}
 use lib.ListN.{drop}
@@ -12,7 +11,4 @@ use Rattle.writer_cards.specs.Hands.{rest_of}
 use Rattle.writer_cards.proofs.sizes.is_rest.Given as goal
 
 abbrev pub invariant-loop-c : goal.invariant-loop-c
-invariant-loop-c l = (l.n + sum (drop l.c (rest_of l.counts)) ≡ sum (rest_of l.counts)) × ((l.held && held_in (drop l.c (hand_at l.counts East)) (drop l.c (rest_of l.counts))) ≡ held_in (hand_at l.counts East) (rest_of l.counts)) × (l.n ≤ l.c) × (l.c ≤ 52)
-
-abbrev pub decreases-loop-c : goal.decreases-loop-c
-decreases-loop-c l = 52 - l.c
+invariant-loop-c l = (l.n + sum (drop l.c (rest_of l.counts)) ≡ sum (rest_of l.counts)) × ((l.held && held_in (drop l.c (hand_at l.counts East)) (drop l.c (rest_of l.counts))) ≡ held_in (hand_at l.counts East) (rest_of l.counts)) × (l.n ≤ l.c)

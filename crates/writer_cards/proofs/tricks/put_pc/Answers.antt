@@ -3,4 +3,4 @@ use Rattle.output.proofs.Laws.{start, step, finish}
 use Rattle.writer_cards.proofs.tricks.put_pc.Goals as goal
 
 pub returns : goal.returns
-returns c = finish (step (step (step (start c.requires.0) c.put_bytes-a.ensures) c.put_card_letters-b.ensures) c.put_byte.ensures)
+returns c = finish (step (step (step (start c.requires.0) c.put_all-a.ensures) c.put_card_letters-b.ensures) c.put.ensures)

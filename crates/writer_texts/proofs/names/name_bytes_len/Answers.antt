@@ -1,18 +1,12 @@
--- `writer_texts::name_bytes_len` meets its contract: a turn takes one byte off what is left to count.
-use mathlib.Core.Path.{ap}
-use lib.ListN.{length}
-use Rattle.writer_texts.proofs.TextLaws.{name_count, name_end, kept_most}
-use native.Mathlib.Omega.{arith}
+-- `writer_texts::name_bytes_len` meets its contract: the bytes that are kept are counted.
+use Rattle.std.proofs.Common.{rules, not, eqb, ◌∙◌}
+use Rattle.std.proofs.lemmas.Iterator.{YieldsList-from_slice}
+use Rattle.std.proofs.lemmas.Iterator.Consumers.{YieldsList-at, YieldsList-from_filter, count_from_yields_List}
+use Rattle.writer_texts.specs.Texts.{clean_byte}
+use Rattle.writer_texts.proofs.TextLaws.{name_many}
 use Rattle.writer_texts.proofs.names.name_bytes_len.Goals as goal
 
-pub loop-j-init : goal.loop-j-init
-loop-j-init c = (omega arith, omega arith, omega arith)
-
-pub overflow_add-n : goal.overflow_add-n
-overflow_add-n c = omega (arith, c.kept_len-n.ensures, kept_most c.clean_byte.result)
-
-pub loop-j-preserved : goal.loop-j-preserved
-loop-j-preserved c = (omega (arith, c.kept_len-n.ensures, kept_most c.clean_byte.result), omega arith, omega (arith, c.kept_len-n.ensures, name_count c.args.marks.pipe c.args.marks.line c.args.s.now c.loop-j.j c.loop-j-test.true c.clean_byte.result c.clean_byte.ensures))
-
 pub returns : goal.returns
-returns c = omega (arith, ap length (name_end c.args.marks.pipe c.args.marks.line c.args.s.now c.loop-j.j c.loop-j-test.false))
+returns c = let a = c.args in
+    count_from_yields_List _ _ c.count.ensures.ran (YieldsList-from_filter _ (λ b. not (eqb (clean_byte a.marks.pipe a.marks.line b) 0x2C)) (YieldsList-at c.filter.ensures.source (YieldsList-from_slice a.s.now c.iter.ensures.rest)) c.filter.ensures.closure (λ x b q k. search rules))
+    ∙ name_many a.marks.pipe a.marks.line a.s.now

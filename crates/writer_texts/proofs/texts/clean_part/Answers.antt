@@ -1,27 +1,15 @@
--- `writer_texts::clean_part` meets its contract: a turn cleans one byte of those that are left.
-use native.Mathlib.Omega.{arith}
+-- `writer_texts::clean_part` meets its contract: the bytes before this one are cleaned.
 use mathlib.Core.Path.{refl}
-use Rattle.output.proofs.Laws.{start, finish}
-use Rattle.writer_texts.proofs.PartLaws.{part_room, part_end, part-turn, part-rest}
+use lib.ListN.{get_or}
+use borrow.Author.Rules.{rules}
+use Rattle.std.proofs.lemmas.List.Edits.{map_over_more}
+use Rattle.writer_texts.specs.Texts.{clean_byte}
+use Rattle.writer_texts.proofs.PartLaws.{part_done}
 use Rattle.writer_texts.proofs.texts.clean_part.Goals as goal
 
-pub loop-i-init : goal.loop-i-init
-loop-i-init c = (omega arith, omega arith, start (part_room _ _ _ _ _ c.requires.0 c.requires.1), refl)
-
-pub bounds-out-i : goal.bounds-out-i
-bounds-out-i c = omega (arith, c.loop-i.invariant.2.long, c.requires.1)
-
-pub bounds-out-i-in-loop-i : goal.bounds-out-i-in-loop-i
-bounds-out-i-in-loop-i c = omega (arith, c.loop-i.invariant.2.long, c.requires.1)
-
-pub overflow_add-i : goal.overflow_add-i
-overflow_add-i c = omega (arith, c.loop-i.invariant.2.long, c.requires.1)
-
-pub loop-i-preserved : goal.loop-i-preserved
-loop-i-preserved c = (omega arith, omega arith, part-turn c.args.marks.pipe c.args.marks.line c.args.out.now c.loop-i.i c.args.to c.loop-i.invariant.2 c.loop-i.invariant.3 c.loop-i-test.true c.requires.1 c.loop-i.invariant.2.long _ c.clean_byte.ensures, part-rest c.args.marks.pipe c.args.marks.line c.args.out.now c.loop-i.i c.args.to c.loop-i.invariant.2 c.loop-i.invariant.3 c.loop-i-test.true c.requires.1 c.loop-i.invariant.2.long _)
-
-pub shape_of-out : goal.shape_of-out
-shape_of-out c = c.loop-i.invariant.2.long
+pub loop-b-preserved : goal.loop-b-preserved
+loop-b-preserved c = let m = c.args.marks in
+    rw c.clean_byte.ensures (map_over_more (clean_byte m.pipe m.line) _ _ _ (get_or c.loop-b.b-items c.loop-b.b-index 0) c.loop-b-test.true c.loop-b.invariant (search rules))
 
 pub returns : goal.returns
-returns c = (finish (part_end c.args.marks.pipe c.args.marks.line c.args.out.now c.loop-i.i c.args.to c.loop-i.invariant.2 c.loop-i-test.false)).text
+returns c = let a = c.args in part_done a.marks.pipe a.marks.line a.out.now a.from a.to c.requires.0 c.requires.1 _ refl _ _ c.loop-b.invariant c.loop-b-test.false

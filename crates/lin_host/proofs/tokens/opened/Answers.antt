@@ -1,8 +1,0 @@
--- `lin_host::opened` meets its contract: by the case of the answer.
-use Rattle.lin_host.proofs.tokens.opened.Goals as goal
-
-pub returns-in-At : goal.returns-in-At
-returns-in-At c = rw c.in-At.is
-
-pub returns-in-Refused : goal.returns-in-Refused
-returns-in-Refused c = rw c.in-Refused.is c.refusal.ensures

@@ -1,8 +1,0 @@
--- `lin_host::stepped` meets its contract: by the case of the step.
-use Rattle.lin_host.proofs.tokens.stepped.Goals as goal
-
-pub returns-in-Found : goal.returns-in-Found
-returns-in-Found c = rw c.in-Found.is
-
-pub returns-in-Ended : goal.returns-in-Ended
-returns-in-Ended c = rw c.in-Ended.is

@@ -1,6 +1,0 @@
-use borrow.Author.Rules.{rules}
-use Rattle.output.proofs.Laws.{set-overlay}
-use Rattle.output.proofs.put_word.Goals as goal
-
-pub returns : goal.returns
-returns c = record { next = search rules; text = set-overlay _ _ _ (search rules) }
