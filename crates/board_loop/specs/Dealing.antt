@@ -6,10 +6,6 @@ use Rattle.lin_spec.specs.Board.{Dealt as DealtBy, undealt, read_md}
 use Rattle.lin_spec.specs.declared.Span.{Span}
 use Rattle.lin_spec.specs.declared.Seat.{Seat}
 
-abbrev pub seat_of : Option Seat → Option Seat
-seat_of (Some x) = Some x
-seat_of None = None
-
 abbrev pub held : Seat → (counts : List ℕ) → DealtBy
 held x d = record { dealer = x; deal = d }
 

@@ -1,7 +1,7 @@
 // The dealer and the deal of an md value. (01: Board, md)
 ghost use Rattle.std.specs.Prelude.{◌≡◌, ◌<◌, ◌^◌, length, replicate};
 ghost use Rattle.lin_spec.specs.Board.{dealer_of, undealt, read_md};
-ghost use Rattle.board_loop.specs.Dealing.{seat_of, held, dealt_from};
+ghost use Rattle.board_loop.specs.Dealing.{held, dealt_from};
 
 use cards::count_deal;
 use lin_spec::{Seat, Span};
@@ -10,7 +10,7 @@ use white::trim;
 
 // 1 2 3 4 is dealer S W N E.
 fn dealer_of(b: u8) -> Option<Seat>
-    ensures { seat_of result ≡ dealer_of b }
+    ensures { result ≡ dealer_of b }
 {
     if b == b'1' {
         return Some(Seat::South);

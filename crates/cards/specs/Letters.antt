@@ -1,4 +1,4 @@
--- What the enums of letters and cards stand for. (01: Records)
+-- What the numbers of letters stand for, and the bytes that are a card. (01: Records)
 use Rattle.std.specs.Prelude.{ℕ, ◌-◌, ◌&&◌, ◌≡◌, List, [], ◌∷◌, leb, ltb, Option, None, Some}
 use Rattle.lin_spec.specs.Base.{pick, ascii}
 use Rattle.lin_spec.specs.White.{trim}

@@ -11,7 +11,7 @@ use Rattle.file_sections.specs.declared.sections.BoardCursor.{BoardCursor}
 use Rattle.file_reader.specs.declared.steps.ReadBoard.{ReadBoard}
 use Rattle.file_reader.specs.declared.steps.BoardRead.{BoardRead}
 
--- one check, by its verdict
+-- one check, by its answer
 abbrev pub check_of : Answer Unit → Option Refusal
 check_of (Ok tt) = None
 check_of (Err r) = Some r

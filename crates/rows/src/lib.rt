@@ -5,7 +5,7 @@
 mod answers;
 mod words;
 
-use lin_spec::{Refusal, Span};
+use lin_spec::Span;
 pub use words::{fill_rows, row_numbers, row_of, spill_rows};
 
 // A call: "bid span, alerted or not, annotation span or absent".
