@@ -1,16 +1,14 @@
 -- Laws of the code that compares a name with the one that is looked for, whose mapped characters stand at the front of the work space. (02: N3)
 -- Assumes nothing.
-use Prim.Native.Nat.{ℕ, zero, suc, ◌+◌, ◌-◌, ◌≤◌}
+use Prim.Native.Nat.{ℕ, ◌+◌, ◌-◌, ◌≤◌}
 use native.Mathlib.Omega.{arith}
 use mathlib.Core.Path.{◌≡◌, refl, ap, sym, ◌∙◌}
-use mathlib.Core.Bool.{Bool, true, false, and-false}
+use mathlib.Core.Bool.{Bool, true, false, ◌&&◌}
 use mathlib.Core.List.{List, [], ◌∷◌, ◌++◌, append_assoc}
-use lib.ListN.{length, take, drop, get_or, length-take}
+use lib.ListN.{length, take, drop, length-take}
 use lib.Seq.{take-append_seam, drop-append_seam}
 use lib.Dec.{ltb}
-use Rattle.std.specs.Bool.{MatchBool}
-use Rattle.std.specs.Str.{IsAscii, IsNotAscii}
-use borrow.Author.Tests.{lt-ltb, le-ltb}
+use Rattle.std.specs.List.{list_all}
 use Rattle.lin_spec.specs.Base.{all, eq_list}
 use Rattle.lin_spec.specs.Output.{overlay}
 use Rattle.lin_spec.proofs.Base.{eq_list_lem}
@@ -26,21 +24,11 @@ use Rattle.accents_names.specs.declared.names.Sought.{Sought}
 
 -- The bytes of a name
 
-all-ascii : (s : List ℕ) → IsAscii s → true ≡ only_ascii s
+-- the test of each byte is the definition's
+pub ascii-is : (s : List ℕ) → list_all (λ (b : ℕ). ltb b 0x80) s ≡ only_ascii s
 unfolding only_ascii all
-all-ascii [] h = refl
-all-ascii (b ∷ s) h = simp (lt-ltb b 0x80 (h 0)) (all-ascii s (λ i. h (suc i)))
-
-not-ascii : (s : List ℕ) (i : ℕ) → 0x80 ≤ get_or s i 0 → false ≡ only_ascii s
-unfolding only_ascii all
-not-ascii [] i h = absurd (omega arith)
-not-ascii (b ∷ s) zero h = simp (le-ltb b 0x80 h)
-not-ascii (b ∷ s) (suc i) h = rw (← not-ascii s i h) (sym (and-false (ltb b 0x80)))
-
--- std's test is the definition's
-pub ascii-is : (s : List ℕ) (t : Bool) → MatchBool t (IsAscii s) (IsNotAscii s) → t ≡ only_ascii s
-ascii-is s true h = all-ascii s h
-ascii-is s false h = not-ascii s h.0 h.1
+ascii-is [] = refl
+ascii-is (b ∷ s) = ap (λ t. ltb b 0x80 && t) (ascii-is s)
 
 -- A text put into work space
 

@@ -22,7 +22,7 @@ pub fn sought_of(mappings: &[u64; 501], name: &[u8]) -> Sought
     ensures { Known name.now result }
 {
     let places = mapped_len(mappings, name);
-    let ascii = name.is_ascii();
+    let ascii = name.iter().all(|&b| b < 0x80);
     Sought { places, ascii }
 }
 
