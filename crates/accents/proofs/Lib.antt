@@ -4,6 +4,7 @@ pub mod ClassLaws
 pub mod CanonicalLaws
 pub mod MarkLaws
 pub mod LineLaws
+pub mod BlockLaws
 pub mod CharLaws
 pub mod FullLaws
 pub mod AsciiLaws

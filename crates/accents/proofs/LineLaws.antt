@@ -1,13 +1,14 @@
 -- Laws of the table in lines and numbers: what a search by halves goes by, and what the line that it finds says. (02: N3) Assumes nothing.
-use Prim.Native.Nat.{ℕ, zero, suc, ◌+◌, ◌*◌, ◌/◌, ◌%◌, ◌<◌, ◌≤◌}
+use Prim.Native.Nat.{ℕ, zero, suc, ◌+◌, ◌-◌, ◌*◌, ◌/◌, ◌%◌, ◌<◌, ◌≤◌}
 use native.Mathlib.Nat.{not-suc-le-zero, le_of_suc-le-suc}
 use native.Mathlib.Omega.{arith}
 use mathlib.Core.Path.{◌≡◌, refl, ap, sym, ◌∙◌}
 use mathlib.Core.Bool.{Bool, true, false, ◌&&◌, false≢true}
 use mathlib.Core.List.{List, [], ◌∷◌}
 use lib.Dec.{eqb, ltb}
-use lib.ListN.{length, get_or}
+use lib.ListN.{length, take, drop, get_or, length-take, length-drop}
 use Rattle.std.specs.List.Sorted.{IsPartitionPoint, IsPartitionedBy, IsNonDecreasingBy}
+use Rattle.std.proofs.lemmas.List.{get_or-take, get_or-drop}
 use Rattle.std.proofs.lemmas.List.Sorted.{IsNonDecreasingBy-from_default, IsPartitionedBy-ltb}
 use borrow.Author.Tests.{eq-eqb, ne_eqb, ltb-true, ltb-false, lt-ltb, le-ltb, lt-leb}
 use Rattle.lin_spec.specs.Base.{pick, All, all, eq_all, eq_list}
@@ -230,31 +231,53 @@ below_lines c h =
     let b : c < 0x1E00 = omega arith in
     outside_lines c (simp (lt-leb 0xC0 c h, lt-leb 0x340 c a, lt-leb 0x1E00 c b))
 
--- The numbers rise, so a search by halves finds the first line that is not for a character below c
+-- The numbers rise, so a search by halves finds the first line that is not for a character below c, in any part that has it or ends at it
 
-module _ (w : List ℕ) (e : w ≡ table_words mapping_table) where
+module _ (w : List ℕ) (e : w ≡ table_words mapping_table) (low high : ℕ) (ends : high ≤ 501) where
+  abbrev part : List ℕ
+  part = take (high - low) (drop low w)
+
   all-words : length w ≡ 501
   all-words = ap length e ∙ words-length mapping_table ∙ lines
 
-  words_rise : IsNonDecreasingBy (λ v. v / 4294967296) w
-  words_rise = IsNonDecreasingBy-from_default (λ v. v / 4294967296) w 0 (λ i j h l. split i j (λ k. more i j k l) (λ k. let d : i ≡ j = omega arith in rw d (omega arith)))
+  pub part-long : low ≤ high → length part ≡ high - low
+  part-long b = omega (arith, length-take (high - low) (drop low w), length-drop low w, all-words)
+
+  part-at : (i : ℕ) → i < length part → get_or part i 0 ≡ get_or w (low + i) 0
+  part-at i h = get_or-take (high - low) (drop low w) i 0 (omega (arith, length-take (high - low) (drop low w))) ∙ get_or-drop low w i 0
+
+  part_ends : (i : ℕ) → i < length part → low + i < 501
+  part_ends i h = omega (arith, length-take (high - low) (drop low w), length-drop low w, all-words)
+
+  part-rises : IsNonDecreasingBy (λ v. v / 4294967296) part
+  part-rises = IsNonDecreasingBy-from_default (λ v. v / 4294967296) part 0 (λ i j h l. split i j (λ k. more i j k l) (λ k. let d : i ≡ j = omega arith in rw d (omega arith)))
     where
-      more : (i j : ℕ) → i < j → j < length w → get_or w i 0 / 4294967296 ≤ get_or w j 0 / 4294967296
+      more : (i j : ℕ) → i < j → j < length part → get_or part i 0 / 4294967296 ≤ get_or part j 0 / 4294967296
       more i j k l =
-          let a = char_is w e 0 i _ refl (omega (arith, all-words)) in
-          let b = char_is w e 0 j _ refl (omega (arith, all-words)) in
-          omega (arith, rises_two mapping_table i j table_rises k (omega (arith, all-words, lines)))
+          let i-in : i < length part = omega arith in
+          let a = char_is w e 0 (low + i) _ refl (part_ends i i-in) in
+          let b = char_is w e 0 (low + j) _ refl (part_ends j l) in
+          let r = rises_two mapping_table (low + i) (low + j) table_rises (omega arith) (omega (arith, part_ends j l, lines)) in
+          rw (part-at i i-in, part-at j l) (omega (arith, a, b, r))
 
-  pub halves : (c : ℕ) → IsPartitionedBy (λ v. ltb (v / 4294967296) c) w
-  halves c = IsPartitionedBy-ltb (λ v. v / 4294967296) w c words_rise
+  pub halves : (c : ℕ) → IsPartitionedBy (λ v. ltb (v / 4294967296) c) part
+  halves c = IsPartitionedBy-ltb (λ v. v / 4294967296) part c part-rises
 
-  pub halved : (c i : ℕ) → i ≤ length w → IsPartitionPoint (λ v. ltb (v / 4294967296) c ≡ true) (λ v. ltb (v / 4294967296) c ≡ false) w i → i ≡ lines_below mapping_table c
-  halved c i h p =
+  pub halved : (c i : ℕ) → low ≤ lines_below mapping_table c → lines_below mapping_table c ≤ high → i ≤ length part
+      → IsPartitionPoint (λ v. ltb (v / 4294967296) c ≡ true) (λ v. ltb (v / 4294967296) c ≡ false) part i → low + i ≡ lines_below mapping_table c
+  halved c i from to h p =
       let n = lines_below mapping_table c in
-      let m = place_most mapping_table c in
-      split i n
-      (λ l. let d = go_down w e c i _ refl (omega (arith, m, lines)) (ltb-false (get_or w i 0 / 4294967296) c (p.1 i 0 (omega arith) (omega (arith, all-words, m, lines)))) in absurd (omega arith))
+      let j = n - low in
+      let long = part-long (omega arith) in
+      split i j
+      (λ l.
+      let k : i < length part = omega (arith, long) in
+      let d = go_down w e c (low + i) _ refl (part_ends i k) (rw (part-at i k) at (ltb-false (get_or part i 0 / 4294967296) c (p.1 i 0 (omega arith) k))) in
+      absurd (omega arith))
       (λ k.
-      split n i
-      (λ l. let u = go_up w e c n _ refl (omega (arith, all-words)) (ltb-true (get_or w n 0 / 4294967296) c (p.0 n 0 (omega arith) l)) in absurd (omega arith))
+      split j i
+      (λ l.
+      let q : j < length part = omega arith in
+      let u = go_up w e c (low + j) _ refl (part_ends j q) (rw (part-at j q) at (ltb-true (get_or part j 0 / 4294967296) c (p.0 j 0 (omega arith) l))) in
+      absurd (omega arith))
       (λ l. omega arith))

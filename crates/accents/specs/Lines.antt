@@ -38,6 +38,20 @@ unfoldable pub lines_below : List Mapping → ℕ → ℕ
 lines_below [] c = 0
 lines_below (m ∷ t) c = pick (ltb (char_of m) c) (suc (lines_below t c)) 0
 
+-- where the block of sixteen characters of a number begins: those from C0 to 34F hex, and then those from 1E00 to 1EFF
+abbrev pub block_begin : ℕ → ℕ
+block_begin k = pick (ltb k 41) (16 * (k + 12)) (16 * (k + 439))
+
+-- c stands in the block of the number k
+pub record InBlock (c k : ℕ) : Type 0 where
+  pub within : k < 57
+  pub from : block_begin k ≤ c
+  pub before : c < block_begin (k + 1)
+
+-- how many lines are for characters below each block
+unfoldable pub blocks : List ℕ
+blocks = 0 ∷ 15 ∷ 26 ∷ 41 ∷ 53 ∷ 69 ∷ 83 ∷ 97 ∷ 108 ∷ 118 ∷ 132 ∷ 146 ∷ 161 ∷ 161 ∷ 161 ∷ 164 ∷ 165 ∷ 168 ∷ 183 ∷ 197 ∷ 208 ∷ 224 ∷ 238 ∷ 248 ∷ 252 ∷ 252 ∷ 252 ∷ 252 ∷ 252 ∷ 252 ∷ 252 ∷ 252 ∷ 252 ∷ 252 ∷ 252 ∷ 252 ∷ 252 ∷ 252 ∷ 252 ∷ 252 ∷ 252 ∷ 256 ∷ 272 ∷ 288 ∷ 304 ∷ 320 ∷ 336 ∷ 352 ∷ 368 ∷ 384 ∷ 400 ∷ 411 ∷ 427 ∷ 443 ∷ 459 ∷ 475 ∷ 491 ∷ []
+
 -- what an answer says that c is mapped to
 abbrev pub answered : ℕ → Mapped → List ℕ
 answered c Itself = c ∷ []

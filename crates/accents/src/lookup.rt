@@ -1,11 +1,11 @@
 // What a character is mapped to, and its class, by the tables. (02: N3)
-ghost use Rattle.std.specs.Prelude.{◌≡◌, ◌/◌, ◌%◌};
+ghost use Rattle.std.specs.Prelude.{◌≡◌, ◌<◌, ◌≤◌, ◌/◌, ◌%◌, true};
 ghost use Rattle.accents.specs.Table.{mapping_table, classes as the_classes};
 ghost use Rattle.accents.specs.Mapping.{lookup};
 ghost use Rattle.accents.specs.Ordering.{class};
-ghost use Rattle.accents.specs.Lines.{table_words, near, lines_below, answered};
+ghost use Rattle.accents.specs.Lines.{table_words, near, block_begin, InBlock, lines_below, answered};
 
-use crate::table::{CLASSES, MAPPINGS};
+use crate::table::{BLOCKS, CLASSES, MAPPINGS};
 
 // What a character is mapped to.
 #[derive(Clone, Copy)]
@@ -48,19 +48,41 @@ fn second_of(w: u64) -> u32
     (w % 0x1_0000) as u32
 }
 
-// The number of the first line that is not for a character below `c`, by halves.
-fn line_of(mappings: &[u64; 501], c: u32) -> usize
-    requires { mappings.now ≡ table_words mapping_table }
-    ensures { result ≡ lines_below mapping_table c }
-{
-    mappings.partition_point(|&w| char_of(w) < c)
-}
-
 // Whether `c` stands where lines are: from the first to the last of each of three runs. Most characters do not.
 fn near_lines(c: u32) -> bool
     ensures { result ≡ near c }
 {
     ((0xC0 <= c) & (c <= 0x233)) | ((0x340 <= c) & (c <= 0x344)) | ((0x1E00 <= c) & (c <= 0x1EF9))
+}
+
+// The number of the block of sixteen characters in which `c` stands.
+fn block_of(c: u32) -> usize
+    requires { near c ≡ true }
+    ensures { InBlock c result }
+{
+    if c < 0x1E00 {
+        return (c / 16 - 12) as usize;
+    }
+    (c / 16 - 439) as usize
+}
+
+// How many lines are for characters below the block of a number.
+fn lines_before(k: usize) -> usize
+    requires { k < 57 }
+    ensures { (result ≡ lines_below mapping_table (block_begin k)) × (result ≤ 501) }
+{
+    BLOCKS[k] as usize
+}
+
+// The number of the first line that is not for a character below `c`, by halves. It is within sixteen lines of the first of its block, and as many are
+// searched in every block but the last, so that each search takes as many steps.
+fn line_of(mappings: &[u64; 501], c: u32) -> usize
+    requires { (mappings.now ≡ table_words mapping_table) × (near c ≡ true) }
+    ensures { result ≡ lines_below mapping_table c }
+{
+    let low = lines_before(block_of(c));
+    let high = (low + 16).min(501);
+    low + mappings[low..high].partition_point(|&w| char_of(w) < c)
 }
 
 // What `c` is mapped to, by a copy of the table.

@@ -52,8 +52,12 @@ pub fn read_card(s: &[u8]) -> Option<u8>
     if s.len() != 2 {
         return None;
     }
-    let suit = suit_of(s[0])?;
-    let rank = rank_of(s[1])?;
+    let Some(suit) = suit_of(s[0]) else {
+        return None;
+    };
+    let Some(rank) = rank_of(s[1]) else {
+        return None;
+    };
     Some(suit * 13 + rank)
 }
 

@@ -141,12 +141,6 @@ module _ (s : List ℕ) (c : BoardCursor) (rows cards : List ℕ) where
     unfolding read_step unless
     step_found n p g {t} k = k ∙ sym (let z = sym (is _ g) in simp (z, le-ltb limit (length s) l))
 
-    -- by what its reading gave
-    pub step_read : (n : ℕ) (p : Section) → r.found ≡ Some (n, p) → (t : Answer ReadBoard) (rows' cards' : List ℕ)
-        → ((b d : BoardCursor) → read_of (read_as b d t) rows' cards' ≡ read_by s (standing_of b) (unless (not_utf8_from c.at (part s c.at (p.stop - c.at)) ∷ few_rows (board_in s (section_of p)) rows cards) (found n (section_of p) (standing_of d))) rows cards)
-        → (k : Answer ReadBoard) → t ≡ k → read_of (read_as c r.cursor k) rows' cards' ≡ read_step s (standing_of c) rows cards
-    step_read n p g t rows' cards' f k e = step_found n p g (ap (λ x. read_of (read_as c r.cursor x) rows' cards') (sym e) ∙ f c r.cursor)
-
     pub step_ended : r.found ≡ None → (a : Answer (Option ReadBoard)) → NoneLeft s c.at a
         → read_of (record { board = a; cursor = c }) rows cards ≡ read_step s (standing_of c) rows cards
     unfolding read_step unless

@@ -3,11 +3,10 @@ ghost use Rattle.std.specs.Prelude.{◌≡◌, [], ◌∷◌, ◌-◌, ◌≤◌
 ghost use Rattle.lin_spec.specs.Records.{part};
 ghost use Rattle.lin_spec.specs.Refusals.{unless};
 ghost use Rattle.lin_spec.specs.Reading.{few_rows};
-ghost use Rattle.lin_spec.specs.File.{board_in, not_utf8_from, Standing, read_by, read_step};
+ghost use Rattle.lin_spec.specs.File.{board_in, not_utf8_from, read_by, read_step};
 ghost use Rattle.lin_spec.specs.File.Visit.{found};
-ghost use Rattle.file_sections.specs.declared.sections.BoardCursor.{BoardCursor};
 ghost use Rattle.file_sections.specs.Sections.{section_of, standing_of, Inside};
-ghost use Rattle.file_reader.specs.Steps.{check_of, NoneLeft, read_as, read_of};
+ghost use Rattle.file_reader.specs.Steps.{check_of, NoneLeft, read_of};
 
 use board::board_at;
 use file_sections::{BoardCursor, Section, next_board};
@@ -41,27 +40,6 @@ fn check_utf8(text: &[u8], at: usize, stop: usize) -> Result<(), Refusal>
     Ok(())
 }
 
-// The board of a section that was found after a place, read if 2 and 3 do not refuse it.
-fn read_found(
-    text: &[u8],
-    at: usize,
-    number: usize,
-    section: Section,
-    rows: &mut [u32],
-    cards: &mut [u8],
-) -> Result<ReadBoard, Refusal>
-    requires { (at ≤ section.start) × Inside text.now section }
-    ensures { (c d : BoardCursor) → read_of (read_as c d result) rows.new cards.new ≡ read_by text.now (standing_of c) (unless (not_utf8_from at (part text.now at (section.stop - at)) ∷ few_rows (board_in text.now (section_of section)) rows.old cards.old) (found number (section_of section) (standing_of d))) rows.old cards.old }
-{
-    check_utf8(text, at, section.stop)?;
-    let heading = board_at(&text[..section.stop], section.start, rows, cards)?;
-    Ok(ReadBoard {
-        number,
-        section,
-        heading,
-    })
-}
-
 // None from a place on, if 2 does not refuse the bytes that are left.
 fn none_left(text: &[u8], at: usize) -> Result<Option<ReadBoard>, Refusal>
     ensures { NoneLeft text.now at result }
@@ -82,6 +60,35 @@ fn refused(r: Refusal, cursor: BoardCursor) -> BoardRead
     }
 }
 
+// The board of a section that was found, with the cursor after it, read if 2 and 3 do not refuse it.
+fn read_found(
+    text: &[u8],
+    cursor: BoardCursor,
+    number: usize,
+    section: Section,
+    next: BoardCursor,
+    rows: &mut [u32],
+    cards: &mut [u8],
+) -> BoardRead
+    requires { (cursor.at ≤ section.start) × Inside text.now section }
+    ensures { read_of result rows.new cards.new ≡ read_by text.now (standing_of cursor) (unless (not_utf8_from cursor.at (part text.now cursor.at (section.stop - cursor.at)) ∷ few_rows (board_in text.now (section_of section)) rows.old cards.old) (found number (section_of section) (standing_of next))) rows.old cards.old }
+{
+    if let Err(ill) = check_utf8(text, cursor.at, section.stop) {
+        return refused(ill, cursor);
+    }
+    match board_at(&text[..section.stop], section.start, rows, cards) {
+        Ok(heading) => BoardRead {
+            board: Ok(Some(ReadBoard {
+                number,
+                section,
+                heading,
+            })),
+            cursor: next,
+        },
+        Err(few) => refused(few, cursor),
+    }
+}
+
 // The next board from a cursor on; sections that are none are passed. Its calls go into the rows, six words each, and its play into the cards. 1, 2 and 3
 // refuse the step.
 pub fn read_board(text: &[u8], cursor: BoardCursor, rows: &mut [u32], cards: &mut [u8]) -> BoardRead
@@ -97,11 +104,5 @@ pub fn read_board(text: &[u8], cursor: BoardCursor, rows: &mut [u32], cards: &mu
             cursor,
         };
     };
-    match read_found(text, cursor.at, number, section, rows, cards) {
-        Ok(board) => BoardRead {
-            board: Ok(Some(board)),
-            cursor: step.cursor,
-        },
-        Err(r) => refused(r, cursor),
-    }
+    read_found(text, cursor, number, section, step.cursor, rows, cards)
 }

@@ -1,13 +1,12 @@
 -- Laws of `overlay`, of a run of puts: what is left to write, and of lengths. (01: Writer)
 -- Assumes nothing.
 use mathlib.Core.Path.{◌≡◌, refl, sym, ap, ◌∙◌}
-use Prim.Native.Nat.{ℕ, zero, suc, ◌+◌, ◌-◌, ◌≤◌, ◌<◌}
-use borrow.Rule.Slice.PartMut.{put_mid, Post-is}
-use native.Mathlib.Nat.{add-zero, zero-add, suc-add}
+use Prim.Native.Nat.{ℕ, zero, suc, ◌+◌, ◌≤◌, ◌<◌}
+use native.Mathlib.Nat.{add-zero, zero-add, suc-add, add-suc}
 use native.Mathlib.Numerals.{add-one}
 use native.Mathlib.Omega.{arith}
 use mathlib.Core.List.{List, [], ◌∷◌, ◌++◌, append_assoc, append-nil}
-use lib.ListN.{length, take, drop, get_or, set, length-append, length-take, length-drop, take-append-drop, drop_of_length-le}
+use lib.ListN.{length, drop, get_or, set, length-append, length-take, length-drop, take-append-drop, drop_of_length-le}
 use lib.Seq.{take-append_seam, drop-append-add, drop-drop, drop-nil, take-nil, take_all, set_split, drop-cons}
 use Rattle.lin_spec.specs.Refusals.{sat}
 use Rattle.lin_spec.specs.Output.{overlay}
@@ -53,11 +52,6 @@ pub set-overlay : {A : Type 0} (o : List A) (at : ℕ) (x : A) → at < length o
 unfolding overlay
 set-overlay o at x h = set_split o at x h ∙ simp (add-one, append_assoc)
 
--- and so is a part that the text is copied to
-pub part-overlay : {A : Type 0} (o : List A) (at : ℕ) (s y : List A) → y ≡ s → put_mid at (at + length s - at) o y ≡ overlay o at s
-unfolding overlay
-part-overlay o at s y e = rw e (rw (Post-is at (at + length s) o (omega arith)) (sym (append_assoc (take at o) s (drop (at + length s) o))))
-
 -- A run of puts
 
 -- into d, from index pos on, the text rest is still to be written, and then d₀ has the text whole from index at on
@@ -102,6 +96,13 @@ turn s j h l = rw (add-one j) (store (rw (drop-cons s j 0 h) at l))
 pub inside : {A : Type 0} (s : List A) (j : ℕ) {d : List A} {pos : ℕ} {d₀ : List A} {at : ℕ} {whole : List A} → j < length s
     → Left d pos (drop j s) d₀ at whole → pos < length d
 inside s j h l = omega (arith, l.room, length-drop j s)
+
+-- a turn of a loop that writes each element of s, at the element j, from the index b on
+pub next_put : {A : Type 0} (s : List A) (j b : ℕ) (x : A) {d d₀ : List A} {at : ℕ} {whole : List A} → j < length s → x ≡ get_or s j x
+    → Left d (b + j) (drop j s) d₀ at whole → Left (set d (b + j) x) (b + (j + 1)) (drop (j + 1) s) d₀ at whole
+next_put s j b x h e l =
+    let z = rw (drop-cons s j x h, ← e) at l in
+    rw (add-one j) (rw (add-suc b j) (rw (← add-one (b + j)) (store z)))
 
 -- past the last byte nothing is left
 pub end_of : {A : Type 0} (s : List A) (j : ℕ) → length s ≤ j → drop j s ≡ []

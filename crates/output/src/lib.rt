@@ -29,9 +29,10 @@ pub fn put_all<T: Copy>(out: &mut [T], at: usize, s: &[T]) -> usize
     requires { Room out.old at s.now }
     ensures { Put out.old at s.now out.new result }
 {
-    let end = at + s.len();
-    out[at..end].copy_from_slice(s);
-    end
+    for (j, &x) in s.iter().enumerate() {
+        out[at + j] = x;
+    }
+    at + s.len()
 }
 
 // Puts the bytes of a span.

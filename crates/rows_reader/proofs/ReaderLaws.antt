@@ -1,6 +1,6 @@
 -- Laws of reading a board into rows of calls as structs: its calls stored, and what the entries give. (01: Board; File)
 -- Assumes nothing.
-use Rattle.std.specs.Prelude.{Err, Ok, None, Option, Some}
+use Rattle.std.specs.Prelude.{Err, Ok}
 use Prim.Native.Nat.{ℕ, zero, suc, ◌+◌, ◌≤◌, ◌<◌, ◌^◌}
 use native.Mathlib.Numerals.{add-one}
 use native.Mathlib.Omega.{arith}
@@ -35,45 +35,20 @@ pub store-start : (s : List ℕ) (start n : ℕ) (ys : List CallRow) → Storing
 unfolding board_from
 store-start s start n ys = (sym (calls_are s (stream s start)), laid-start (map row_in (take n (board_at s start).calls)) ys)
 
--- the row and the place of a step
-abbrev step_row : Option (CallRow × ℕ) → CallRow
-step_row (Some (r, m)) = r
-step_row None = empty_row
-
-abbrev step_place : Option (CallRow × ℕ) → ℕ
-step_place (Some (r, m)) = m
-step_place None = 0
-
 module _ (s : List ℕ) (start n : ℕ) (ys : List CallRow) (i at : ℕ) (zs : List CallRow) (h : Storing s start n ys i at zs) (le : n ≤ length (board_at s start).calls) where
-  next-call : i < n → drop i (board_at s start).calls ≡ get_or (board_at s start).calls i (called empty_row) ∷ drop (i + 1) (board_at s start).calls
-  next-call l =
-      let k = (board_at s start).calls in
-      drop-cons k i (called empty_row) (omega arith) ∙ ap (λ (m : ℕ). get_or k i (called empty_row) ∷ drop m k) (sym (add-one i))
-
-  -- the next row that was called for and taken apart: there is one
-  pub store-more : i < n → (v : Option (CallRow × ℕ)) → StepsTo s at v → (r : CallRow) (m : ℕ) → v ≡ Some (r, m) → Storing s start n ys (i + 1) m (set zs i r)
-  store-more l v g r m is =
+  pub store-more : i < n → (r : CallRow × ℕ) → StepsTo s at r → Storing s start n ys (i + 1) r.1 (set zs i r.0)
+  store-more l r g =
       let k = (board_at s start).calls in
       let c = get_or k i (called empty_row) in
-      let e = g c (drop (i + 1) k) (h.0 ∙ next-call l) in
-      let same : ◌≡◌ {A = Option (CallRow × ℕ)} (Some (r, m)) (Some (row_in c, e.0)) = sym is ∙ e.1.0 in
-      let row : r ≡ row_in c = ap step_row same in
-      let place : m ≡ e.0 = ap step_place same in
+      let f : drop i k ≡ c ∷ drop (i + 1) k = drop-cons k i (called empty_row) (omega arith) ∙ ap (λ (m : ℕ). c ∷ drop m k) (sym (add-one i)) in
+      let e = g.next c (drop (i + 1) k) (h.0 ∙ f) in
       let w : drop i (take n k) ≡ c ∷ drop (i + 1) (take n k) = front k n i (called empty_row) (omega arith) in (
-        ap (λ (j : ℕ). calls_from s (stream s j)) place ∙ e.1.1,
-        laid_more i r (map row_in (drop (i + 1) (take n k))) zs
-            ∙ ap (λ (x : CallRow). laid_at i (x ∷ map row_in (drop (i + 1) (take n k))) zs) row
+        e.1,
+        laid_more i r.0 (map row_in (drop (i + 1) (take n k))) zs
+            ∙ ap (λ (x : CallRow). laid_at i (x ∷ map row_in (drop (i + 1) (take n k))) zs) e.0
             ∙ ap (λ (cs : List (CallOf Span)). laid_at i (map row_in cs) zs) (sym w)
             ∙ h.1,
       )
-
-  pub store-none : i < n → (v : Option (CallRow × ℕ)) → StepsTo s at v → v ≡ None → {P : Type 0} → P
-  store-none l v g is =
-      let k = (board_at s start).calls in
-      let c = get_or k i (called empty_row) in
-      let e = g c (drop (i + 1) k) (h.0 ∙ next-call l) in
-      let z : ◌≡◌ {A = Option (CallRow × ℕ)} None (Some (row_in c, e.0)) = sym is ∙ e.1.0 in
-      absurd (let y : ◌≡◌ {A = ℕ} 0 1 = cc in let x : ⊥ = omega arith in x)
 
   pub store-end : n ≤ i → zs ≡ laid_over (map row_in (take n (board_at s start).calls)) ys
   store-end l =

@@ -15,10 +15,9 @@ fn store_rows(rows: &mut [CallRow], text: &[u8], n: usize, start: usize, stop: u
 {
     let mut at = start;
     for row in rows[..n].iter_mut() {
-        if let Some((call, next)) = next_row(text, stop, at) {
-            *row = call;
-            at = next;
-        }
+        let (call, next) = next_row(text, stop, at);
+        *row = call;
+        at = next;
     }
 }
 

@@ -30,7 +30,7 @@ use Rattle.board_loop.specs.Calls.{calls_from, CallAt, GivesCall}
 use Rattle.board_loop.specs.Head.{board_at}
 use Rattle.rows.specs.declared.CallRow.{CallRow}
 use Rattle.rows_steps.specs.declared.steps.Headed.{Headed}
-use Rattle.rows.specs.Rows.{row_in}
+use Rattle.rows.specs.Rows.{row_in, empty_row}
 use Rattle.rows_steps.specs.Steps.{few_structs, text_answer, StepsTo, HeadsBy}
 
 -- A text up to a place
@@ -61,18 +61,22 @@ nil_cons : {A : Type 0} {P : Type 0} (x : A) (xs : List A) → [] ≡ x ∷ xs �
 nil_cons x xs e = absurd (let z : ⊥ = (let h = ap length e in omega arith) in z)
 
 module _ (s : List ℕ) (at : ℕ) (v : Option (Call × Cursor)) (g : GivesCall s at v) where
-  pub step_found : (x : Call) (n : Cursor) → v ≡ Some (x, n) → (row : CallRow) → row ≡ row_in (call_in x) → StepsTo s at (Some (row, n.at))
-  step_found x n e row f c cs h =
+  pub step_found : (x : Call) (n : Cursor) → v ≡ Some (x, n) → (row : CallRow) → row ≡ row_in (call_in x) → StepsTo s at (row, n.at)
+  step_found x n e row f =
       let d : CallAt s at x n.at = subst (GivesCall s at) e g in
-      let p : d.call ∷ calls_from s (stream s n.at) ≡ c ∷ cs = sym d.front ∙ h in
-      let one : d.call ≡ c = ap (λ (l : List (CallOf Span)). get_or l 0 c) p in
-      let same : row ≡ row_in c = f ∙ ap (λ (y : Call). row_in (call_in y)) d.row ∙ row_back d.call ∙ ap row_in one in
-      (n.at, (ap (λ (y : CallRow). Some (y, n.at)) same, ap (λ (l : List (CallOf Span)). drop 1 l) p))
+      record {
+        next = λ c cs h.
+            let p : d.call ∷ calls_from s (stream s n.at) ≡ c ∷ cs = sym d.front ∙ h in
+            let one : d.call ≡ c = ap (λ (l : List (CallOf Span)). get_or l 0 c) p in
+            let same : row ≡ row_in c = f ∙ ap (λ (y : Call). row_in (call_in y)) d.row ∙ row_back d.call ∙ ap row_in one in
+            (same, ap (λ (l : List (CallOf Span)). drop 1 l) p);
+        none = λ h. nil_cons d.call (calls_from s (stream s n.at)) (sym h ∙ d.front);
+      }
 
-  pub step_none : v ≡ None → (r : Option (CallRow × ℕ)) → StepsTo s at r
-  step_none e r c cs h =
+  pub step_none : v ≡ None → StepsTo s at (empty_row, at)
+  step_none e =
       let left : calls_from s (stream s at) ≡ [] = subst (GivesCall s at) e g in
-      nil_cons c cs (sym left ∙ h)
+      record { next = λ c cs h. nil_cons c cs (sym left ∙ h); none = λ h. refl }
 
 -- The heading, with its cards stored
 

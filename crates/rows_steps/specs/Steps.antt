@@ -1,6 +1,6 @@
 -- What a board's readers into rows of calls as structs are made of: their answer, one call at a time, the heading with the place of its calls. (01: Board,
 -- `parse_lin`; File)
-use Rattle.std.specs.Prelude.{ℕ, ◌<◌, ◌≤◌, ◌^◌, ◌≡◌, List, [], ◌∷◌, length, take, Option, Err, Ok, Some}
+use Rattle.std.specs.Prelude.{ℕ, ◌<◌, ◌≤◌, ◌^◌, ◌≡◌, List, [], ◌∷◌, length, take, Option, Err, Ok}
 use Rattle.lin_spec.specs.Refusals.{Answer, unless, too_long, not_utf8}
 use Rattle.lin_spec.specs.Output.{overlay}
 use Rattle.lin_spec.specs.Board.{CallOf, BoardOf}
@@ -13,7 +13,7 @@ use Rattle.rows.specs.declared.CallRow.{CallRow}
 use Rattle.board_loop.specs.Calls.{calls_from}
 use Rattle.board_loop.specs.Head.{board_at}
 use Rattle.rows_steps.specs.declared.steps.Headed.{Headed}
-use Rattle.rows.specs.Rows.{row_in}
+use Rattle.rows.specs.Rows.{row_in, empty_row}
 
 -- 3: "too few rows, calls before cards"
 abbrev pub few_structs : BoardOf Span → (rows : ℕ) (cards : List ℕ) → List (Option Refusal)
@@ -28,9 +28,10 @@ file_answer s n rows cards = unless (too_long s ∷ not_utf8 s ∷ no_board n (l
 
 -- What the parts of the code give
 
--- the next call of s from the place `at` on as a row, where there is one, and the place after it
-abbrev pub StepsTo : (s : List ℕ) (at : ℕ) → Option (CallRow × ℕ) → Type 0
-StepsTo s at r = (c : CallOf Span) (cs : List (CallOf Span)) → calls_from s (stream s at) ≡ c ∷ cs → (n : ℕ) × ((r ≡ Some (row_in c, n)) × (calls_from s (stream s n) ≡ cs))
+-- the next call of s from the place `at` on as a row, where there is one, and the place after it; else a row of no text, and the place stays
+pub record StepsTo (s : List ℕ) (at : ℕ) (r : CallRow × ℕ) : Type 0 where
+  pub next : (c : CallOf Span) (cs : List (CallOf Span)) → calls_from s (stream s at) ≡ c ∷ cs → (r.0 ≡ row_in c) × (calls_from s (stream s r.1) ≡ cs)
+  pub none : calls_from s (stream s at) ≡ [] → r ≡ (empty_row, at)
 
 -- the heading of the board b, with its cards stored; and its calls, which there are enough rows for, in the text s
 pub record Heads (s : List ℕ) (b : BoardOf Span) (rows : ℕ) (cards : List ℕ) (h : Headed) (cards' : List ℕ) : Type 0 where

@@ -9,7 +9,7 @@ use board_loop::next_call;
 use document::{Cursor, open};
 use file::find_board;
 use file_sections::open_boards;
-use lin_spec::{Heading, Refusal, RowKind};
+use lin_spec::{Heading, Refusal, RowKind, Span};
 use rows::{CallRow, row_of};
 
 // A board's heading, and the places where its tokens, and so its calls, begin and stop.
@@ -20,13 +20,23 @@ pub struct Headed {
     pub stop: usize,
 }
 
-// The next call of the text up to `stop`, from a place on, as a row, and the place after it.
-pub fn next_row(text: &[u8], stop: usize, at: usize) -> Option<(CallRow, usize)>
+// The next call of the text up to `stop`, from a place on, as a row, and the place after it. Where there is none, a row of no text, and the place stays.
+pub fn next_row(text: &[u8], stop: usize, at: usize) -> (CallRow, usize)
     requires { (stop ≤ length text.now) × (length text.now < 2 ^ 32) }
     ensures { StepsTo (take stop text.now) at result }
 {
-    let (call, next) = next_call(&text[..stop], Cursor { at })?;
-    Some((row_of(call), next.at))
+    match next_call(&text[..stop], Cursor { at }) {
+        Some((call, next)) => (row_of(call), next.at),
+        None => {
+            let bid = Span { start: 0, len: 0 };
+            let row = CallRow {
+                bid,
+                alerted: false,
+                annotation: None,
+            };
+            (row, at)
+        }
+    }
 }
 
 // The heading that the tokens of the text up to `stop` from a place on give, its cards stored, where there are enough rows and places.
@@ -73,6 +83,8 @@ pub fn file_headed(
     ensures { HeadsBy text.now (file_answer text.now number rows cards.old) rows cards.old result cards.new }
 {
     let cursor = open_boards(text)?;
-    let p = find_board(text, cursor, number)?;
-    headed_at(text, p.start, p.stop, rows, cards)
+    match find_board(text, cursor, number) {
+        Ok(p) => headed_at(text, p.start, p.stop, rows, cards),
+        Err(r) => Err(r),
+    }
 }

@@ -1,7 +1,7 @@
 -- `file_reader::read_board` meets its contract: each answer by the step that was found.
 use mathlib.Core.Path.{◌∙◌, ap}
 use Rattle.file_reader.specs.Steps.{read_of}
-use Rattle.file_reader.proofs.StepLaws.{step_long, step_inside, step_read, step_ended}
+use Rattle.file_reader.proofs.StepLaws.{step_long, step_inside, step_found, step_ended}
 use Rattle.file_reader.proofs.steps.read_board.Goals as goal
 
 pub returns-then-text-gt-LIMIT : goal.returns-then-text-gt-LIMIT
@@ -15,10 +15,5 @@ returns-in_default c = step_ended c.args.text.now c.args.cursor c.args.rows.now 
 pub read_found-requires : goal.read_found-requires
 read_found-requires c = step_inside c.args.text.now c.args.cursor c.args.rows.now c.args.cards.now c.if-text-gt-LIMIT.false _ c.next_board-step.ensures _ _ c.in-Some.is
 
-pub returns-in-Ok : goal.returns-in-Ok
-returns-in-Ok c = step_read c.args.text.now c.args.cursor c.args.rows.now c.args.cards.now c.if-text-gt-LIMIT.false _ c.next_board-step.ensures _ _ c.in-Some.is _ _ _ c.read_found.ensures _ c.in-Ok.is
-
-pub returns-in-Err : goal.returns-in-Err
-returns-in-Err c =
-    ap (λ x. read_of x c.read_found.new.rows c.read_found.new.cards) c.refused-in-Err.ensures
-    ∙ step_read c.args.text.now c.args.cursor c.args.rows.now c.args.cards.now c.if-text-gt-LIMIT.false _ c.next_board-step.ensures _ _ c.in-Some.is _ _ _ c.read_found.ensures _ c.in-Err.is
+pub returns : goal.returns
+returns c = step_found c.args.text.now c.args.cursor c.args.rows.now c.args.cards.now c.if-text-gt-LIMIT.false _ c.next_board-step.ensures _ _ c.in-Some.is c.read_found.ensures

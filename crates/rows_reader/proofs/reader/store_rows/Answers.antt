@@ -7,8 +7,7 @@ use lib.ListN.{take, drop, length-map, length-take}
 use Rattle.rows.specs.declared.CallRow.{CallRow}
 use Rattle.rows.specs.Rows.{row_in}
 use Rattle.board_loop.specs.Head.{board_at}
-use Rattle.rows_reader.proofs.ReaderLaws.{store-start, store-more, store-none, store-end, laid-part}
-use Rattle.rows_reader.proofs.reader.store_rows.Goals.{in-Some, in_default}
+use Rattle.rows_reader.proofs.ReaderLaws.{store-start, store-more, store-end, laid-part}
 use Rattle.rows_reader.proofs.reader.store_rows.Goals as goal
 
 pub loop-row-init : goal.loop-row-init
@@ -19,10 +18,7 @@ loop-row-preserved c =
     let a = c.args in
     let l = c.loop-row in
     let within : l.row-index < a.n = omega (arith, l.row-index, c.loop-row-test.true, length-take a.n a.rows.now) in
-    elim c.match-next_row.branch [
-      | in-Some w ↦ rw (w.at-is, w.row-items-is) (store-more _ _ _ _ _ _ _ l.invariant c.requires.1 within _ c.next_row.ensures _ _ w.in-Some.is)
-      | in_default w ↦ store-none _ _ _ _ _ _ _ l.invariant c.requires.1 within _ c.next_row.ensures w.in_default.is
-    ]
+    store-more _ _ _ _ _ _ _ l.invariant c.requires.1 within _ c.next_row-next.ensures
 
 pub returns : goal.returns
 returns c =
