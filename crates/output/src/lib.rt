@@ -25,6 +25,7 @@ pub fn put<T: Copy>(out: &mut [T], at: usize, x: T) -> usize
     at + 1
 }
 
+// By a loop: `copy_from_slice` calls memmove, which an archive for C then needs from outside, and which takes longer for a few bytes.
 pub fn put_all<T: Copy>(out: &mut [T], at: usize, s: &[T]) -> usize
     requires { Room out.old at s.now }
     ensures { Put out.old at s.now out.new result }
