@@ -1,13 +1,12 @@
 -- Laws of the blocks of sixteen characters: in which a character stands, and between which lines its own is. (02: N3) Assumes nothing.
-use Prim.Native.Nat.{ℕ, suc, ◌+◌, ◌-◌, ◌*◌, ◌/◌, ◌<◌, ◌≤◌, min}
+use Prim.Native.Nat.{ℕ, ◌+◌, ◌-◌, ◌*◌, ◌/◌, ◌<◌, ◌≤◌, min}
 use native.Mathlib.Omega.{arith}
 use mathlib.Core.Path.{◌≡◌, refl, sym, ◌∙◌}
-use mathlib.Core.Bool.{true, false, false≢true}
+use mathlib.Core.Bool.{true, false≢true}
 use mathlib.Core.List.{List, [], ◌∷◌}
 use lib.Dec.{eqb, leb, ltb}
 use lib.ListN.{get_or}
 use borrow.Author.Tests.{ltb-true, leb-true, lt-ltb, le-ltb, lt-leb, le-leb}
-use Rattle.lin_spec.specs.Base.{pick}
 use Rattle.lin_spec.proofs.Base.{picked, split, all_below, below, same_below}
 use Rattle.accents.specs.Table.{Mapping, mapping_table}
 use Rattle.accents.specs.Mapping.{char_of}

@@ -1,6 +1,6 @@
 -- `accents::lookup::line_of` meets its contract: the line is in its block's part of the table, whose numbers rise.
 use native.Mathlib.Omega.{arith}
-use Rattle.std.proofs.Common.{◌+◌, ◌/◌, ◌≤◌, rules}
+use Rattle.std.proofs.Common.{◌/◌, ◌≤◌, rules}
 use lib.Dec.{ltb}
 use Rattle.std.proofs.lemmas.List.Sorted.{IsPartitionPoint-from_clause}
 use Rattle.accents.proofs.LineLaws.{halves, halved}
